@@ -1,0 +1,9 @@
+pub mod RingLaws
+pub mod Solver
+pub mod FieldLaws
+pub mod Counting
+pub mod SumLaws
+pub mod PolynomialLaws
+pub mod RootBound
+pub mod Division
+pub mod Unity

@@ -1,0 +1,5 @@
+pub mod Ring
+pub mod Lists
+pub mod Counting
+pub mod Sum
+pub mod Polynomial

@@ -1,0 +1,49 @@
+-- Polynomials in one variable Y: lists of coefficients, the constant first, zeros at the end kept. Assumes nothing.
+use mathlib.Core.List.{List, [], _∷_}
+use Prim.Native.Nat.{ℕ, zero, suc}
+use lib.ListN.{length, take, drop, replicate}
+use Rattle.algebra.specs.Ring.{CommRing}
+
+module _ {A : Type 0} (R : CommRing A) where
+  open CommRing R using (𝟘, _⊕_, _⊗_)
+
+  infixl 75 _⊕_
+  infixl 80 _⊗_
+  -- the value at x
+  abbrev pub eval : List A → A → A
+  eval [] x = 𝟘
+  eval (c ∷ f) x = c ⊕ x ⊗ eval f x
+
+  -- f + g, as long as the longer of the two
+  abbrev pub add : List A → List A → List A
+  add [] g = g
+  add (a ∷ f) [] = a ∷ f
+  add (a ∷ f) (b ∷ g) = (a ⊕ b) ∷ add f g
+
+  -- k · f
+  abbrev pub scale : A → List A → List A
+  scale k [] = []
+  scale k (a ∷ f) = k ⊗ a ∷ scale k f
+
+  -- f · g
+  abbrev pub mul : List A → List A → List A
+  mul [] g = []
+  mul (a ∷ f) g = add (scale a g) (𝟘 ∷ mul f g)
+
+  -- Division by Y^n - 1. With f = low + Y^n · high, where low has n coefficients: the quotient of f is high plus the
+  -- quotient of high, and the remainder of f is low plus the remainder of high. The first argument bounds the turns.
+  abbrev pub quotientIn : ℕ → ℕ → List A → List A
+  quotientIn zero n f = []
+  quotientIn (suc k) n f = add (drop n f) (quotientIn k n (drop n f))
+
+  abbrev pub remainderIn : ℕ → ℕ → List A → List A
+  remainderIn zero n f = replicate n 𝟘
+  remainderIn (suc k) n f = add (take n f) (remainderIn k n (drop n f))
+
+  -- of length (length f - n)
+  abbrev pub quotient : ℕ → List A → List A
+  quotient n f = quotientIn (length f) n f
+
+  -- of length n
+  abbrev pub remainder : ℕ → List A → List A
+  remainder n f = remainderIn (length f) n f

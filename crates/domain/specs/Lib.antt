@@ -1,0 +1,6 @@
+pub mod Size
+pub mod Domain
+pub mod Polynomial
+pub mod Qualifies
+pub mod BabyBear
+pub mod Computes

@@ -1,0 +1,1 @@
+// Sizes, domains and their polynomials.

@@ -1,0 +1,5 @@
+pub mod Primality
+pub mod Remainders
+pub mod ElementLaws
+pub mod Fermat
+pub mod Field

@@ -1,0 +1,3 @@
+pub mod Prime
+pub mod Element
+pub mod Power

@@ -1,0 +1,1 @@
+// The prime field: its elements, its operations and their laws.

@@ -1,0 +1,47 @@
+-- The rows of the table of refusals that every call with a circuit has, and the circuits that they let through
+-- (document 01, "Refusals by place of check"). Assumes nothing.
+use mathlib.Core.Path.{_≡_}
+use mathlib.Core.Bool.{Bool}
+use mathlib.Core.List.{List, [], _∷_, _++_, map}
+use mathlib.Core.Option.{Option, none}
+use Prim.Native.Nat.{ℕ, _*_}
+use lib.Dec.{eqb, leb}
+use lib.ListN.{length}
+use Rattle.field.specs.Prime.{Prime}
+use Rattle.field.specs.Element.{of}
+use Rattle.domain.specs.Size.{maxSize}
+use Rattle.protocol.specs.Three.{listed, mapThree}
+use Rattle.protocol.specs.Circuit.{Entry, Circuit, sizesOf, largest}
+use Rattle.protocol.specs.Refusals.{Refusal, first, sizeTests, sizeRefusal, listRefusal, wordRefusal, entryRefusal, maskRefusal, assignmentRefusal, challengeRefusal}
+
+-- the field words of a circuit: "entry values included; sizes, counts, rows and columns not"
+unfoldable pub entryValues : Circuit → List ℕ
+entryValues c = map (λ (e : Entry). e .value) (c .matrices .a ++ (c .matrices .b ++ c .matrices .c))
+
+-- "over 1,024 entries": a test for each matrix
+unfoldable pub countTests : Circuit → List Bool
+countTests c = listed (mapThree (λ entries. leb (length entries) maxSize) (c .matrices))
+
+-- the lengths of z and m
+unfoldable pub assignmentTests : Circuit → List ℕ → List ℕ → List Bool
+assignmentTests c z m = eqb (length z) (c .C) ∷ eqb (length m) (2 * c .C) ∷ []
+
+module _ (q : Prime) where
+  -- 4, 5, 6 and 7, with the tests of all lists of the call, and the words that it has after the circuit's
+  unfoldable pub circuitRefusals : Circuit → List Bool → List ℕ → List (Option Refusal)
+  circuitRefusals c lists ws =
+      sizeRefusal (sizeTests (c .R) (c .C) (c .X) []) ∷ listRefusal lists ∷ wordRefusal q (entryValues c ++ ws) ∷ entryRefusal c ∷ []
+
+  -- "every circuit that the table of refusals lets through"
+  abbrev pub Admitted : Circuit → Type 0
+  Admitted c = first (circuitRefusals c (countTests c) []) ≡ none
+
+  -- 4 to 10, with z, m and as many of the challenges α, β, γ as the call has; the words after the circuit's hold them all
+  unfoldable pub proverRefusal : Circuit → List Bool → List ℕ → List ℕ → List ℕ → List ℕ → Option Refusal
+  proverRefusal c lists ws z m challenges =
+      first
+      (circuitRefusals c lists ws
+      ++ (maskRefusal {q = q} c (map of m)
+      ∷ assignmentRefusal {q = q} c (map of z)
+      ∷ challengeRefusal {q = q} 0 (c .R ∷ c .C ∷ largest (sizesOf c .K) ∷ []) (map of challenges)
+      ∷ []))

@@ -1,0 +1,124 @@
+-- The proved cases P1 to P12, one table and one fact (document 01, "The square case"). Assumes nothing.
+use mathlib.Core.Path.{_≡_, refl}
+use mathlib.Core.List.{List, [], _∷_, map}
+use mathlib.Core.Option.{Option, some}
+use Prim.Native.Nat.{ℕ, _-_}
+use Rattle.field.specs.Element.{Elem, of, words, _⊗_}
+use Rattle.field.specs.Power.{inverse}
+use Rattle.domain.specs.Domain.{domain}
+use Rattle.domain.specs.Polynomial.{Poly}
+use Rattle.domain.specs.BabyBear.{babyBear}
+use Rattle.protocol.specs.Three.{Three, listed, mapThree}
+use Rattle.protocol.specs.Circuit.{Entry}
+use Rattle.protocol.specs.Checks.{Openings, Row, Line, Matrix, Verdict, Accept, Fails}
+use Rattle.protocol.specs.Messages.{Messages}
+use Rattle.protocol.specs.Refusals.{Refusal}
+use Rattle.protocol.specs.Session.{Answer, Taken, Judged}
+use Rattle.protocol.specs.Job.{Job, jobRefusal, proof, trueOpenings, conversation, honestConversation}
+use Rattle.protocol.specs.Computes.{protocol-computes}
+
+-- p - 1, which is -1
+abbrev minusOne : ℕ
+minusOne = babyBear .p - 1
+
+abbrev triple : ℕ → ℕ → ℕ → Three ℕ
+triple a b c = record { a = a; b = b; c = c }
+
+abbrev entry : ℕ → ℕ → ℕ → List Entry
+entry i k v = record { row = i; column = k; value = v } ∷ []
+
+-- "The job 1 2 1, 1 1 1, 0 1 1, 0 1 1, 0 0 1, 9 3, 1, 1 0 2013265920 1, 2, 1 1 2, 3, 1 1 1, 5", with another z for P12
+abbrev square : List ℕ → Job
+square z =
+    record {
+      circuit = record { R = 1; C = 2; X = 1; matrices = record { a = entry 0 1 1; b = entry 0 1 1; c = entry 0 0 1 } };
+      z = z;
+      r = 1;
+      m = 1 ∷ 0 ∷ minusOne ∷ 1 ∷ [];
+      α = 2;
+      η = triple 1 1 2;
+      β = 3;
+      δ = triple 1 1 1;
+      γ = 5;
+    }
+
+abbrev job : Job
+job = square (9 ∷ 3 ∷ [])
+
+abbrev honest : Messages (Poly babyBear) (Elem babyBear)
+honest = proof babyBear job
+
+abbrev opened : Openings (Elem babyBear)
+opened = trueOpenings babyBear job honest
+
+-- the messages with other σ and ω
+abbrev claiming : Three (Elem babyBear) → Three (Elem babyBear) → Messages (Poly babyBear) (Elem babyBear)
+claiming σ ω =
+    record {
+      witness = honest .witness;
+      mask = honest .mask;
+      rowQuotient = honest .rowQuotient;
+      sums = σ;
+      lineRemainder = honest .lineRemainder;
+      lineQuotient = honest .lineQuotient;
+      values = ω;
+      matrixRemainders = honest .matrixRemainders;
+      joinedQuotient = honest .joinedQuotient;
+    }
+
+-- the openings with another rowcolval_A
+abbrev misread : Elem babyBear → Openings (Elem babyBear)
+misread v =
+    let i = opened .index in
+    record {
+      witness = opened .witness;
+      mask = opened .mask;
+      lineRemainder = opened .lineRemainder;
+      lineQuotient = opened .lineQuotient;
+      rowQuotient = opened .rowQuotient;
+      joinedQuotient = opened .joinedQuotient;
+      matrixRemainders = opened .matrixRemainders;
+      index = record { a = record { row = i .a .row; col = i .a .col; rowcol = i .a .rowcol; rowcolval = v }; b = i .b; c = i .c };
+    }
+
+abbrev endingIn : Verdict → List Answer
+endingIn v = Taken ∷ Taken ∷ Taken ∷ Taken ∷ Taken ∷ Taken ∷ Judged v ∷ []
+
+pub data Value : Type 0 where
+  lists : List (List ℕ) → Value
+  answers : List Answer → Value
+  refusal : Option Refusal → Value
+
+pub record Case : Type 0 where
+  pub computed : Value
+  pub stated : Value
+
+infix 60 _is_
+abbrev _is_ : Value → Value → Case
+a is b = record { computed = a; stated = b }
+
+-- one list of words, and its elements' words
+abbrev list : List ℕ → Value
+list l = lists (l ∷ [])
+
+-- P1 to P12, in order
+abbrev pub table : List Case
+table =
+    (list (words (of {q = babyBear} minusOne ⊗ of minusOne ∷ [])) is list (1 ∷ []))
+    ∷ (list (words (inverse {q = babyBear} (of 2) ∷ [])) is list (1006632961 ∷ []))
+    ∷ (list (words (domain {q = babyBear} 2)) is list (1 ∷ minusOne ∷ []))
+    ∷ (list (words (honest .witness)) is list (4 ∷ 1 ∷ []))
+    ∷ (list (words (listed (honest .sums))) is list (3 ∷ 3 ∷ 9 ∷ []))
+    ∷ (lists (words (honest .lineRemainder) ∷ words (honest .lineQuotient) ∷ []) is lists ((7 ∷ []) ∷ (1 ∷ 1 ∷ []) ∷ []))
+    ∷ (list (words (listed (honest .values))) is list (minusOne ∷ minusOne ∷ 2 ∷ []))
+    ∷ (answers (honestConversation babyBear job) is answers (endingIn Accept))
+    ∷ (answers (conversation babyBear job (claiming (mapThree of (triple 3 3 8)) (honest .values)) opened) is answers (endingIn (Fails Row)))
+    ∷ (answers (conversation babyBear job (claiming (honest .sums) (mapThree of (triple minusOne minusOne 3))) opened) is answers (endingIn (Fails Line)))
+    ∷ (answers (conversation babyBear job honest (misread (of 1))) is answers (endingIn (Fails Matrix)))
+    ∷ (refusal (jobRefusal babyBear (square (9 ∷ 4 ∷ []))) is refusal (some (record { number = 9; position = 0 })))
+    ∷ []
+
+-- every computed value is the stated one: the two lists are the same by computation
+pub proved-cases : map (λ (c : Case). c .computed) table ≡ map (λ (c : Case). c .stated) table
+unfolding protocol-computes
+proved-cases = refl

@@ -1,0 +1,16 @@
+pub mod Three
+pub mod Circuit
+pub mod Index
+pub mod Checks
+pub mod Messages
+pub mod Refusals
+pub mod Admission
+pub mod Session
+pub mod Record
+pub mod Job
+pub mod Calls
+pub mod Computes
+pub mod Cases
+pub mod Meaning
+pub mod Demand2
+pub mod Demand3
