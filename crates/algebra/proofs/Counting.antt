@@ -2,7 +2,7 @@
 -- along an injective function. Assumes nothing.
 use mathlib.Core.Path.{_≡_, refl, sym, _∙_}
 use mathlib.Core.Logic.{_≢_, _⊎_, inl, inr}
-use mathlib.Core.List.{List, [], _∷_, map}
+use mathlib.Core.List.{List, [], _∷_, _++_, map}
 use Prim.Native.Nat.{ℕ, zero, suc, _+_, _≤_, _<_}
 use native.Mathlib.Omega.{arith}
 use native.Mathlib.Decide.{ℕ-discrete}
@@ -22,6 +22,14 @@ module _ {A : Type 0} where
   pub all-map₂ : {P Q S : A → Type 0} → ((x : A) → P x → Q x → S x) → (l : List A) → All P l → All Q l → All S l
   all-map₂ f [] p q = tt
   all-map₂ f (x ∷ l) p q = (f x (p .0) (q .0), all-map₂ f l (p .1) (q .1))
+
+  pub all-append : (P : A → Type 0) (l k : List A) → All P l → All P k → All P (l ++ k)
+  all-append P [] k h g = g
+  all-append P (x ∷ l) k h g = (h .0, all-append P l k (h .1) g)
+
+  pub append-all : (P : A → Type 0) (l k : List A) → All P (l ++ k) → All P l × All P k
+  append-all P [] k h = (tt, h)
+  append-all P (x ∷ l) k h = let (left, right) = append-all P l k (h .1) in ((h .0, left), right)
 
   pub all-tabulate : (P : A → Type 0) (n : ℕ) (f : ℕ → A) → ((i : ℕ) → i < n → P (f i)) → All P (tabulate n f)
   all-tabulate P zero f h = tt

@@ -1,1 +1,4 @@
 pub mod Qualification
+pub mod ListLaws
+pub mod SizeLaws
+pub mod DomainLaws

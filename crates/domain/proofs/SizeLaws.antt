@@ -1,0 +1,78 @@
+-- The sizes are the eleven powers of two up to 1,024. The smaller of two divides the larger, each divides p - 1, and none is
+-- 0 in the field. Assumes nothing.
+use mathlib.Core.Path.{_≡_, refl, sym, ap, _∙_}
+use mathlib.Core.Logic.{_≢_}
+use mathlib.Core.Bool.{true}
+use Prim.Native.Nat.{ℕ, zero, suc, _+_, _-_, _*_, _/_, _^_, _≤_, _<_, max}
+use lib.Dec.{eqb, leb}
+use lib.Pow.{pow-add, pow-lt}
+use borrow.Author.Tests.{eqb-true, eq-eqb, leb-true, le-leb}
+use native.Mathlib.Omega.{arith}
+use native.Mathlib.Decide.{decLe}
+use native.Mathlib.Nat.{one-le-pow, pow-le-pow-right, mul-zero, mul-assoc, div-eq-of-eq-mul-right, max-eq-left, max-eq-right}
+use Rattle.algebra.proofs.Counting.{all-tabulate}
+use Rattle.field.specs.Prime.{Prime}
+use Rattle.field.specs.Element.{of, 𝟘}
+use Rattle.field.proofs.ElementLaws.{of-not-zero}
+use Rattle.domain.specs.Size.{maxSize, sizes, isSize, sizeFor}
+use Rattle.domain.specs.Qualifies.{Qualifies}
+use Rattle.domain.proofs.Qualification.{large-enough}
+use Rattle.domain.proofs.ListLaws.{any-tabulate, tabulate-any, firstOr-all, firstOr-passes}
+
+pub size-is-power : (n : ℕ) → isSize n ≡ true → (k : ℕ) × (k < 11) × (n ≡ 2 ^ k)
+unfolding isSize sizes
+size-is-power n s = let (k, l, e) = any-tabulate 11 (λ k. 2 ^ k) (eqb n) s in (k, l, eqb-true n (2 ^ k) e)
+
+pub power-is-size : (k : ℕ) → k < 11 → isSize (2 ^ k) ≡ true
+unfolding isSize sizes
+power-is-size k l = tabulate-any 11 k (λ k. 2 ^ k) (eqb (2 ^ k)) l (eq-eqb (2 ^ k) (2 ^ k) refl)
+
+pub size-positive : (n : ℕ) → isSize n ≡ true → 0 < n
+size-positive n s = let (k, l, e) = size-is-power n s in rw e (one-le-pow k 2 (omega arith))
+
+pub size-bound : (n : ℕ) → isSize n ≡ true → n ≤ maxSize
+size-bound n s = let (k, l, e) = size-is-power n s in rw e (pow-le-pow-right {n = 2} (omega arith) {i = k} {j = 10} (omega arith))
+
+pub max-is-size : (m n : ℕ) → isSize m ≡ true → isSize n ≡ true → isSize (max m n) ≡ true
+max-is-size m n s t = elim (decLe m n) [ yes le ↦ ap isSize (max-eq-right le) ∙ t | no gt ↦ ap isSize (max-eq-left (omega arith)) ∙ s ]
+
+-- a number that is some multiple of m is the multiple by its quotient
+multiple : (m n c : ℕ) → 0 < m → n ≡ m * c → n ≡ m * (n / m)
+multiple m n c pos e = e ∙ ap (λ x. m * x) (sym (div-eq-of-eq-mul-right pos e))
+
+pub size-divides : (m n : ℕ) → isSize m ≡ true → isSize n ≡ true → m ≤ n → n ≡ m * (n / m)
+size-divides m n s t le =
+    let (j, _, em) = size-is-power m s in
+    let (k, _, en) = size-is-power n t in
+    elim (decLe j k) [
+      | yes j≤k ↦
+          let split : k ≡ j + (k - j) = omega arith in
+          multiple m n (2 ^ (k - j)) (size-positive m s) (en ∙ ap (λ x. 2 ^ x) split ∙ pow-add 2 j (k - j) ∙ ap (λ x. x * 2 ^ (k - j)) (sym em))
+      | no j>k ↦ absurd (omega (arith, em, en, pow-lt {i = k} {j = j} (omega arith)))
+    ]
+
+pub size-quotient-positive : (m n : ℕ) → isSize m ≡ true → isSize n ≡ true → m ≤ n → 0 < n / m
+size-quotient-positive m n s t le = go (n / m) (size-divides m n s t le)
+  where
+    go : (c : ℕ) → n ≡ m * c → 0 < c
+    go zero e = absurd (omega (arith, size-positive n t, e ∙ mul-zero m))
+    go (suc c) e = omega arith
+
+pub size-divides-order : {q : Prime} → Qualifies q → (n : ℕ) → isSize n ≡ true → q .p - 1 ≡ n * ((q .p - 1) / n)
+size-divides-order {q} Q n s =
+    let all : q .p - 1 ≡ maxSize * ((q .p - 1) / maxSize) = omega (arith, Q .divided) in
+    let c : ℕ = (q .p - 1) / maxSize in
+    multiple n (q .p - 1) (maxSize / n * c) (size-positive n s)
+    (all ∙ ap (λ x. x * c) (size-divides n maxSize s (power-is-size 10 (omega arith)) (size-bound n s)) ∙ mul-assoc n (maxSize / n) c)
+
+pub sizeFor-is-size : (count : ℕ) → isSize (sizeFor count) ≡ true
+unfolding sizeFor sizes
+sizeFor-is-size count = firstOr-all (λ n. isSize n ≡ true) maxSize (leb count) sizes (power-is-size 10 (omega arith))
+    (all-tabulate (λ n. isSize n ≡ true) 11 (λ k. 2 ^ k) power-is-size)
+
+pub sizeFor-holds : (count : ℕ) → count ≤ maxSize → count ≤ sizeFor count
+unfolding sizeFor
+sizeFor-holds count le = leb-true count (sizeFor count) (firstOr-passes maxSize (leb count) sizes (le-leb count maxSize le))
+
+pub size-not-zero : {q : Prime} → Qualifies q → (n : ℕ) → isSize n ≡ true → of {q = q} n ≢ 𝟘
+size-not-zero {q} Q n s = of-not-zero n (size-positive n s) (omega (arith, size-bound n s, large-enough q Q))

@@ -1,0 +1,58 @@
+-- What it means that nothing is refused: every row, and every test of a row, passes. Assumes nothing.
+use mathlib.Core.Path.{_≡_, refl, sym, ap, _∙_}
+use mathlib.Core.Bool.{Bool, true, false, _&&_}
+use mathlib.Core.List.{List, [], _∷_, _++_, map}
+use mathlib.Core.Option.{Option, none, some}
+use Prim.Native.Nat.{ℕ, suc, _<_, _≤_}
+use lib.Dec.{ltb}
+use lib.ListN.{length}
+use native.Mathlib.Omega.{arith}
+use borrow.Author.Tests.{ltb-true, lt-ltb}
+use Rattle.algebra.specs.Counting.{All}
+use Rattle.field.specs.Prime.{Prime}
+use Rattle.protocol.specs.Refusals.{Refusal, first, refuse, wordRefusal}
+
+some-not-none : {T : Type 0} {x : T} → some x ≡ none → ⊥
+some-not-none e = let z : _≡_ {A = ℕ} 0 1 = cc in omega arith
+
+pub first-none : (l : List (Option Refusal)) → first l ≡ none → All (λ o. o ≡ none) l
+first-none [] e = tt
+first-none (none ∷ l) e = (refl, first-none l e)
+first-none (some r ∷ l) e = absurd (some-not-none e)
+
+pub none-first : (l : List (Option Refusal)) → All (λ o. o ≡ none) l → first l ≡ none
+none-first [] h = refl
+none-first (none ∷ l) h = none-first l (h .1)
+none-first (some r ∷ l) h = absurd (some-not-none (h .0))
+
+pub refuse-none : (number n : ℕ) (tests : List Bool) → refuse number n tests ≡ none → All (λ t. t ≡ true) tests
+refuse-none number n [] e = tt
+refuse-none number n (true ∷ l) e = (refl, refuse-none number (suc n) l e)
+refuse-none number n (false ∷ l) e = absurd (some-not-none e)
+
+pub none-refuse : (number n : ℕ) (tests : List Bool) → All (λ t. t ≡ true) tests → refuse number n tests ≡ none
+none-refuse number n [] h = refl
+none-refuse number n (true ∷ l) h = none-refuse number (suc n) l (h .1)
+none-refuse number n (false ∷ l) h = let z : _≡_ {A = ℕ} 0 1 = cc in absurd (omega arith)
+
+-- both of two tests pass
+pub and-true : (a b : Bool) → (a && b) ≡ true → (a ≡ true) × (b ≡ true)
+and-true true b e = (refl, e)
+and-true false b e = let z : _≡_ {A = ℕ} 0 1 = cc in absurd (omega arith)
+
+-- 6: no word is p or more
+words-below : (q : Prime) (ws : List ℕ) → All (λ t. t ≡ true) (map (λ w. ltb w (q .p)) ws) → All (λ w. w < q .p) ws
+words-below q [] h = tt
+words-below q (w ∷ ws) h = (ltb-true w (q .p) (h .0), words-below q ws (h .1))
+
+below-words : (q : Prime) (ws : List ℕ) → All (λ w. w < q .p) ws → All (λ t. t ≡ true) (map (λ w. ltb w (q .p)) ws)
+below-words q [] h = tt
+below-words q (w ∷ ws) h = (lt-ltb w (q .p) (h .0), below-words q ws (h .1))
+
+pub wordRefusal-none : (q : Prime) (ws : List ℕ) → wordRefusal q ws ≡ none → All (λ w. w < q .p) ws
+unfolding wordRefusal
+wordRefusal-none q ws e = words-below q ws (refuse-none 6 0 (map (λ w. ltb w (q .p)) ws) e)
+
+pub none-wordRefusal : (q : Prime) (ws : List ℕ) → All (λ w. w < q .p) ws → wordRefusal q ws ≡ none
+unfolding wordRefusal
+none-wordRefusal q ws h = none-refuse 6 0 (map (λ w. ltb w (q .p)) ws) (below-words q ws h)
