@@ -6,6 +6,7 @@ use Prim.Native.Nat.{ℕ, zero, suc, _<_}
 use native.Mathlib.Omega.{arith}
 use native.Mathlib.Decide.{ℕ-discrete}
 use Rattle.algebra.specs.Ring.{CommRing, cast, pow}
+use Rattle.algebra.specs.Counting.{All}
 use Rattle.algebra.specs.Sum.{sum, sumList}
 use Rattle.algebra.proofs.RingLaws.{zero-add, mul-zero, zero-mul, add-add-add-comm}
 use Rattle.algebra.proofs.Solver.{_:+_, _:-_, _:*_, :0, :1, _:=_, _⊙_, _from_, ring, ring-by}
@@ -65,9 +66,10 @@ module _ {A : Type 0} (R : CommRing A) where
       (λ x p s. (x :- :1) :* (s :+ p) := x :* p :- :1 from (:1 ⊙ ((x :- :1) :* s := p :- :1)) ∷ []) (geometric n x, tt) tt
 
   module _ {T : Type 0} where
-    pub sumList-ext : (f g : T → A) → ((x : T) → f x ≡ g x) → (l : List T) → sumList R f l ≡ sumList R g l
-    sumList-ext f g h [] = refl
-    sumList-ext f g h (x ∷ l) = ap₂ _⊕_ (h x) (sumList-ext f g h l)
+    -- functions that are equal at every member
+    pub sumList-ext : (f g : T → A) (l : List T) → All (λ x. f x ≡ g x) l → sumList R f l ≡ sumList R g l
+    sumList-ext f g [] h = refl
+    sumList-ext f g (x ∷ l) h = ap₂ _⊕_ (h .0) (sumList-ext f g l (h .1))
 
     pub sumList-add : (f g : T → A) (l : List T) → sumList R (λ x. f x ⊕ g x) l ≡ sumList R f l ⊕ sumList R g l
     sumList-add f g [] = sym (add-zero 𝟘)

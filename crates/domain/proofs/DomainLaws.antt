@@ -24,13 +24,19 @@ use Rattle.field.proofs.ElementLaws.{add-comm, one-not-zero, decide, primeRing}
 use Rattle.field.proofs.Field.{no-zero-divisors, power-is-pow, equal-true, true-equal}
 use Rattle.domain.specs.Size.{isSize}
 use Rattle.domain.specs.Domain.{root, element, domain, inside, Outside, vanishing, sumOver}
-use Rattle.domain.specs.Polynomial.{eval, vanishingPoly}
+use Rattle.domain.specs.Polynomial.{Poly, eval, vanishingPoly}
 use Rattle.domain.specs.Qualifies.{Qualifies}
 use Rattle.domain.proofs.ListLaws.{any-tabulate, tabulate-any}
 use Rattle.domain.proofs.SizeLaws.{size-is-power, size-positive, size-divides, size-divides-order}
 
--- the value of Y^k
-pub eval-monomial : {q : Prime} (k : ℕ) (y : Elem q) → eval (replicate k 𝟘 ++ (𝟙 ∷ [])) y ≡ pow (primeRing q) y k
+-- Y^k
+abbrev pub monomial : {q : Prime} → ℕ → Poly q
+monomial k = replicate k 𝟘 ++ (𝟙 ∷ [])
+
+pub length-monomial : (q : Prime) (k : ℕ) → length (monomial {q = q} k) ≡ suc k
+length-monomial q k = omega (arith, length-append (replicate k (𝟘 {q = q})) (𝟙 ∷ []), length-replicate k (𝟘 {q = q}))
+
+pub eval-monomial : {q : Prime} (k : ℕ) (y : Elem q) → eval (monomial k) y ≡ pow (primeRing q) y k
 eval-monomial {q} k y =
     eval-append (primeRing q) (replicate k 𝟘) (𝟙 ∷ []) y
     ∙ ring-by (primeRing q) (y ∷ pow (primeRing q) y k ∷ pow (primeRing q) y (length (replicate k (𝟘 {q = q}))) ∷ eval (replicate k 𝟘) y ∷ [])
@@ -40,7 +46,7 @@ eval-monomial {q} k y =
 -- v_D as a polynomial
 pub length-vanishingPoly : (q : Prime) (n : ℕ) → 0 < n → length (vanishingPoly {q = q} n) ≡ suc n
 unfolding vanishingPoly
-length-vanishingPoly q n pos = omega (arith, length-append (replicate (n - 1) (𝟘 {q = q})) (𝟙 ∷ []), length-replicate (n - 1) (𝟘 {q = q}))
+length-vanishingPoly q n pos = omega (arith, length-monomial q (n - 1))
 
 pub eval-vanishingPoly : {q : Prime} (n : ℕ) → 0 < n → (y : Elem q) → eval (vanishingPoly n) y ≡ vanishing n y
 unfolding vanishingPoly vanishing

@@ -171,10 +171,10 @@ job-fits q j free =
     let domains : List ℕ = c .R ∷ c .C ∷ largest (sizesOf c .K) ∷ [] in
     let challenges : List (Elem q) = of (j .α) ∷ of (j .β) ∷ of (j .γ) ∷ [] in
     let rows =
-        first-none
-        (circuitRefusals q c lists (jobWords q j)
-        ++ (maskRefusal {q = q} c (map of (j .m)) ∷ assignmentRefusal c z ∷ challengeRefusal 0 domains challenges ∷ []))
-        free in
+    first-none
+    (circuitRefusals q c lists (jobWords q j)
+    ++ (maskRefusal {q = q} c (map of (j .m)) ∷ assignmentRefusal c z ∷ challengeRefusal 0 domains challenges ∷ []))
+    free in
     let listed = append-all (λ t. t ≡ true) (countTests c) (assignmentTests c (j .z) (j .m)) (refuse-none 5 0 lists (rows .1 .0)) in
     let below = append-all (λ w. w < q .p) (entryValues c) (jobWords q j) (wordRefusal-none q (entryValues c ++ jobWords q j) (rows .1 .1 .0)) in
     let mask = refuse-none 8 0 (equal {q = q} (sumOver (c .C) (eval (map of (j .m)))) 𝟘 ∷ []) (rows .1 .1 .1 .1 .0) in

@@ -1,3 +1,4 @@
 pub mod RefusalLaws
 pub mod Verdict
 pub mod AdmissionLaws
+pub mod Extension
