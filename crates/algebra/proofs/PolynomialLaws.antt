@@ -2,7 +2,7 @@
 -- and parts, a value as a sum over the coefficients, and lengths. Assumes nothing.
 use mathlib.Core.Path.{_≡_, refl, sym, _∙_, ap, ap₂}
 use mathlib.Core.List.{List, [], _∷_, _++_}
-use Prim.Native.Nat.{ℕ, zero, suc, _+_, _<_, max}
+use Prim.Native.Nat.{ℕ, zero, suc, _+_, _-_, _<_, max}
 use native.Mathlib.Omega.{arith}
 use lib.ListN.{length, getD, take, drop, replicate}
 use Rattle.algebra.specs.Ring.{CommRing, pow}
@@ -101,3 +101,8 @@ module _ {A : Type 0} (R : CommRing A) where
   length-mul a b [] g = omega (arith, length-add (scale R a (b ∷ g)) (𝟘 ∷ []), length-scale a (b ∷ g))
   length-mul a b (c ∷ f) g =
       omega (arith, length-add (scale R a (b ∷ g)) (𝟘 ∷ mul R (c ∷ f) (b ∷ g)), length-scale a (b ∷ g), length-mul c b f g)
+
+  pub length-product : (f g : List A) → 0 < length f → 0 < length g → length (mul R f g) ≡ length f + length g - 1
+  length-product [] g h k = absurd (omega arith)
+  length-product (a ∷ f) [] h k = absurd (omega arith)
+  length-product (a ∷ f) (b ∷ g) h k = omega (arith, length-mul a b f g)

@@ -16,7 +16,7 @@ use Rattle.algebra.proofs.RingLaws.{sub-zero→eq, eq→sub-zero, pow-mul, one-
 use Rattle.algebra.proofs.SumLaws.{sum-ext, sum-const, geometric}
 use Rattle.algebra.proofs.PolynomialLaws.{eval-add}
 use Rattle.algebra.proofs.Counting.{all-map}
-use Rattle.algebra.proofs.Division.{division, length-quotient}
+use Rattle.algebra.proofs.Division.{division, length-quotient, length-remainder}
 use Rattle.algebra.proofs.Unity
 use Rattle.field.specs.Prime.{Prime}
 use Rattle.field.specs.Element.{Elem, of, 𝟘, 𝟙, _⊕_, _⊗_, _⊖_}
@@ -147,3 +147,14 @@ module _ {q : Prime} (Q : Qualifies q) (m n : ℕ) (s : isSize m ≡ true) (t : 
   pub vanishingRatio-between : (y : Elem q) → inside n y ≡ true → Outside m y → eval (vanishingRatio m n) y ≡ 𝟘
   vanishingRatio-between y h o = no-zero-divisors q (vanishing m y) (eval (vanishingRatio m n) y)
       (mul-comm _ _ ∙ eval-vanishingRatio m n s t m≤n y ∙ vanishing-inside Q n t y h) (vanishing-outside Q m s y o)
+
+-- where h · v_D + r agrees with f at enough points outside the domain, h and r are the quotient and the remainder of f
+pub division-recovers :
+    {q : Prime} (Q : Qualifies q) (n : ℕ) → isSize n ≡ true → (f h r : Poly q) → n ≤ length f → length h ≡ length f - n → length r ≡ n
+    → (d : ℕ) → length f ≤ suc d → MoreThan d (λ y. Outside n y × (eval f y ≡ eval h y ⊗ vanishing n y ⊕ eval r y))
+    → (quotient n f ≡ h) × (remainder n f ≡ r)
+division-recovers {q} Q n s f h r long h-length r-length d short (l, distinct, agree, more) =
+    let quotient-length : length (quotient n f) ≡ length f - n = length-quotient (primeRing q) n f (size-positive n s) in
+    let remainder-length : length (remainder n f) ≡ n = length-remainder (primeRing q) n f in
+    division-unique Q n s (quotient n f) h (remainder n f) r (quotient-length ∙ sym h-length) (remainder-length ∙ sym r-length) (omega arith) d
+    (omega arith) (l, distinct, all-map (λ y e. (e .0, sym (divide n (size-positive n s) f y) ∙ e .1)) l agree, more)

@@ -2,3 +2,13 @@ pub mod RefusalLaws
 pub mod Verdict
 pub mod AdmissionLaws
 pub mod Extension
+pub mod Words
+pub mod RecordLaws
+pub mod MessagePolynomials
+pub mod IndexPolynomials
+pub mod RowCheck
+pub mod LinearCounting
+pub mod LineCheck
+pub mod IndexDecoding
+pub mod ThreeLaws
+pub mod Sums
