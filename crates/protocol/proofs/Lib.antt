@@ -12,3 +12,5 @@ pub mod LineCheck
 pub mod IndexDecoding
 pub mod ThreeLaws
 pub mod Sums
+pub mod Witness
+pub mod Conversation

@@ -1,16 +1,15 @@
 -- What it means that nothing is refused: every row, and every test of a row, passes. Assumes nothing.
-use mathlib.Core.Path.{_≡_, refl, sym, ap, _∙_}
+use mathlib.Core.Path.{_≡_, refl}
 use mathlib.Core.Bool.{Bool, true, false, _&&_}
 use mathlib.Core.List.{List, [], _∷_, _++_, map}
 use mathlib.Core.Option.{Option, none, some}
 use Prim.Native.Nat.{ℕ, suc, _<_, _≤_}
-use lib.Dec.{ltb}
-use lib.ListN.{length}
+use lib.Dec.{leb, ltb}
 use native.Mathlib.Omega.{arith}
-use borrow.Author.Tests.{ltb-true, lt-ltb}
+use borrow.Author.Tests.{ltb-true, lt-ltb, le-leb}
 use Rattle.algebra.specs.Counting.{All}
 use Rattle.field.specs.Prime.{Prime}
-use Rattle.protocol.specs.Refusals.{Refusal, first, refuse, wordRefusal}
+use Rattle.protocol.specs.Refusals.{Refusal, first, refuse, pairs, wordRefusal, lengthRefusal}
 
 some-not-none : {T : Type 0} {x : T} → some x ≡ none → ⊥
 some-not-none e = let z : _≡_ {A = ℕ} 0 1 = cc in omega arith
@@ -56,3 +55,18 @@ wordRefusal-none q ws e = words-below q ws (refuse-none 6 0 (map (λ w. ltb w (q
 pub none-wordRefusal : (q : Prime) (ws : List ℕ) → All (λ w. w < q .p) ws → wordRefusal q ws ≡ none
 unfolding wordRefusal
 none-wordRefusal q ws h = none-refuse 6 0 (map (λ w. ltb w (q .p)) ws) (below-words q ws h)
+
+-- 11: no declared length is above the table's
+abbrev pub Within : List ℕ → List ℕ → Type 0
+Within [] k = Unit {0}
+Within (m ∷ l) [] = Unit {0}
+Within (m ∷ l) (n ∷ k) = (m ≤ n) × Within l k
+
+within-pairs : (declared table : List ℕ) → Within declared table → All (λ t. t ≡ true) (pairs leb declared table)
+within-pairs [] k h = tt
+within-pairs (m ∷ l) [] h = tt
+within-pairs (m ∷ l) (n ∷ k) h = (le-leb m n (h .0), within-pairs l k (h .1))
+
+pub none-lengthRefusal : (declared table : List ℕ) → Within declared table → lengthRefusal declared table ≡ none
+unfolding lengthRefusal
+none-lengthRefusal declared table h = none-refuse 11 0 (pairs leb declared table) (within-pairs declared table h)
