@@ -22,12 +22,12 @@ use Rattle.field.proofs.Fermat.{fermat}
 
 module _ {q : Prime} where
   -- one turn of squaring, at an even and at an odd exponent
-  pow-even : (a : Elem q) (n : ℕ) → n % 2 ≡ 0 → pow (primeRing q) a n ≡ pow (primeRing q) (a ⊗ a) (n / 2)
+  pub pow-even : (a : Elem q) (n : ℕ) → n % 2 ≡ 0 → pow (primeRing q) a n ≡ pow (primeRing q) (a ⊗ a) (n / 2)
   pow-even a n e =
       let half : n ≡ 2 * (n / 2) = omega arith in
       ap (pow (primeRing q) a) half ∙ pow-mul (primeRing q) a 2 (n / 2) ∙ ap (λ y. pow (primeRing q) (a ⊗ y) (n / 2)) (mul-one a)
 
-  pow-odd : (a : Elem q) (n : ℕ) → n % 2 ≡ 1 → pow (primeRing q) a n ≡ a ⊗ pow (primeRing q) (a ⊗ a) (n / 2)
+  pub pow-odd : (a : Elem q) (n : ℕ) → n % 2 ≡ 1 → pow (primeRing q) a n ≡ a ⊗ pow (primeRing q) (a ⊗ a) (n / 2)
   pow-odd a n e =
       let half : n ≡ suc (2 * (n / 2)) = omega arith in
       ap (pow (primeRing q) a) half

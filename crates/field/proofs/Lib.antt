@@ -3,3 +3,4 @@ pub mod Remainders
 pub mod ElementLaws
 pub mod Fermat
 pub mod Field
+pub mod Words

@@ -1,1 +1,77 @@
-// The prime field: its elements, its operations and their laws.
+// The prime field on words. The modulus p is a parameter of every function; a contract holds for each prime of that value.
+// Any words are taken: a word of p or more stands for its remainder.
+ghost use mathlib.Core.Path.{_≡_};
+ghost use Prim.Native.Nat.{_%_, _<_};
+ghost use Rattle.field.specs.Prime.{Prime};
+ghost use Rattle.field.specs.Element.{Elem, of, _⊕_, _⊗_, _⊖_};
+ghost use Rattle.field.specs.Power.{power, inverse};
+
+// The module's prime: the remainder by a constant needs no division.
+const MODULE_PRIME: u64 = 2013265921;
+
+pub fn wide(x: u32) -> u64
+    ensures { λ r. ⌜ (r ≡ x) × (r < 4294967296) ⌝ }
+{
+    x as u64
+}
+
+// x modulo p.
+fn reduce(p: u32, x: u64) -> u32
+    requires { ⌜ 0 < p ⌝ }
+    ensures { λ r. ⌜ r ≡ x % p ⌝ }
+{
+    let modulus = wide(p);
+    if modulus == MODULE_PRIME {
+        (x % MODULE_PRIME) as u32
+    } else {
+        (x % modulus) as u32
+    }
+}
+
+pub fn add(p: u32, a: u32, b: u32) -> u32
+    requires { ⌜ 0 < p ⌝ }
+    ensures { λ r. ⌜ ((q : Prime) → q .p ≡ p → r ≡ (of {q = q} a ⊕ of b) .word) ⌝ }
+{
+    reduce(p, wide(a) + wide(b))
+}
+
+pub fn subtract(p: u32, a: u32, b: u32) -> u32
+    requires { ⌜ 0 < p ⌝ }
+    ensures { λ r. ⌜ ((q : Prime) → q .p ≡ p → r ≡ (of {q = q} a ⊖ of b) .word) ⌝ }
+{
+    let low = reduce(p, wide(b));
+    reduce(p, wide(a) + wide(p - low))
+}
+
+pub fn multiply(p: u32, a: u32, b: u32) -> u32
+    requires { ⌜ 0 < p ⌝ }
+    ensures { λ r. ⌜ ((q : Prime) → q .p ≡ p → r ≡ (of {q = q} a ⊗ of b) .word) ⌝ }
+{
+    reduce(p, wide(a) * wide(b))
+}
+
+// a^n, by squaring.
+pub fn raise(p: u32, a: u32, n: u32) -> u32
+    requires { ⌜ 1 < p ⌝ }
+    ensures { λ r. ⌜ ((q : Prime) → q .p ≡ p → r ≡ (power (of {q = q} a) n) .word) ⌝ }
+{
+    let mut base = a;
+    let mut rest = n;
+    let mut result: u32 = 1;
+    while 0 < rest {
+        if rest % 2 == 1 {
+            result = multiply(p, result, base);
+        }
+        base = multiply(p, base, base);
+        rest = rest / 2;
+    }
+    result
+}
+
+// 1/a, and 0 for 0.
+pub fn invert(p: u32, a: u32) -> u32
+    requires { ⌜ 1 < p ⌝ }
+    ensures { λ r. ⌜ ((q : Prime) → q .p ≡ p → r ≡ (inverse (of {q = q} a)) .word) ⌝ }
+{
+    raise(p, a, p - 2)
+}

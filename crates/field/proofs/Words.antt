@@ -1,0 +1,41 @@
+-- The words of sums, products and differences of the elements that two numbers stand for, and a number that is an element's
+-- word. Assumes nothing.
+use mathlib.Core.Path.{_≡_, sym, ap, _∙_, subst, subst⁻¹}
+use Prim.Native.Nat.{ℕ, _+_, _-_, _*_, _%_, _^_, _<_}
+use native.Mathlib.Nat.{mod-eq-of-lt, le-of-lt, lt-of-le-of-lt, mul-le-mul-left, mul-lt-mul-of-pos-right}
+use lib.Pow.{pow-pos, pow-add}
+use Rattle.field.specs.Prime.{Prime}
+use Rattle.field.specs.Element.{Elem, of, _⊕_, _⊗_, _⊖_, neg}
+use Rattle.field.proofs.ElementLaws.{of-word, of-add, of-mul, word-below}
+
+module _ (q : Prime) where
+  -- a number below p is the word of its element
+  pub word-of : (n : ℕ) → n < q .p → of {q = q} n .word ≡ n
+  unfolding of
+  word-of n h = mod-eq-of-lt h
+
+  pub word-add : (m n : ℕ) → (of {q = q} m ⊕ of n) .word ≡ (m + n) % q .p
+  unfolding of
+  word-add m n = ap (λ (x : Elem q). x .word) (sym (of-add m n))
+
+  pub word-multiply : (m n : ℕ) → (of {q = q} m ⊗ of n) .word ≡ (m * n) % q .p
+  unfolding of
+  word-multiply m n = ap (λ (x : Elem q). x .word) (sym (of-mul m n))
+
+  pub word-subtract : (m n : ℕ) → (of {q = q} m ⊖ of n) .word ≡ (m + (q .p - n % q .p)) % q .p
+  unfolding of neg
+  word-subtract m n = word-add m (q .p - n % q .p)
+
+module _ {q : Prime} where
+  -- the element of a number that is an element's word
+  pub of-result : {r : ℕ} (x : Elem q) → r ≡ x .word → of r ≡ x
+  of-result x e = ap of e ∙ of-word x
+
+  pub result-below : {r : ℕ} (x : Elem q) → r ≡ x .word → r < q .p
+  result-below x e = subst (λ (n : ℕ). n < q .p) (sym e) (word-below x)
+
+-- the product of two numbers of k bits has at most k + k
+pub product-below : (k : ℕ) {a b : ℕ} → a < 2 ^ k → b < 2 ^ k → a * b < 2 ^ (k + k)
+product-below k {a} {b} a-below b-below =
+    subst⁻¹ (λ (n : ℕ). a * b < n) (pow-add 2 k k)
+    (lt-of-le-of-lt (mul-le-mul-left a (le-of-lt b-below)) (mul-lt-mul-of-pos-right a-below (pow-pos k)))
