@@ -3,4 +3,5 @@ pub mod Domain
 pub mod Polynomial
 pub mod Qualifies
 pub mod BabyBear
+pub mod Known
 pub mod Computes
