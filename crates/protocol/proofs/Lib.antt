@@ -1,5 +1,5 @@
 pub mod RefusalLaws
-pub mod Verdict
+pub mod VerdictLaws
 pub mod AdmissionLaws
 pub mod Extension
 pub mod Words
@@ -14,3 +14,10 @@ pub mod ThreeLaws
 pub mod Sums
 pub mod Witness
 pub mod Conversation
+pub mod MatrixPolynomials
+pub mod MatrixSum
+pub mod ExactDivision
+pub mod MatrixCheck
+pub mod JoinedPolynomials
+pub mod JoinedRule
+pub mod JoinedCheck

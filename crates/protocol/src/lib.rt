@@ -1,7 +1,57 @@
-// Varuna as document 01 fixes it: definitions, statements and theorems. The one type declared here is what every check answers.
+// Varuna as document 01 fixes it: definitions, statements and theorems. Declared here are the types that the crates of code share;
+// specs/Meanings.antt says what their values mean.
 
 // Nothing to refuse, or a refusal: its number in document 01's table and its position.
 pub enum Fault {
     Fine,
     Refused(u32, usize),
+}
+
+// One word for each of the matrices A, B, C.
+pub struct Triple {
+    pub a: u32,
+    pub b: u32,
+    pub c: u32,
+}
+
+// |R|, |C|, |X| and the three |K_M|.
+pub struct Sizes {
+    pub r: u32,
+    pub c: u32,
+    pub x: u32,
+    pub k: Triple,
+}
+
+// What the verifier hears before the openings: challenges, claimed sums and claimed matrix values.
+pub struct Heard {
+    pub alpha: u32,
+    pub sums: Triple,
+    pub eta: Triple,
+    pub beta: u32,
+    pub values: Triple,
+    pub delta: Triple,
+    pub gamma: u32,
+}
+
+// The openings of the messages; those of the index polynomials stand beside them as [[u32; 4]; 3].
+pub struct Opened {
+    pub witness: u32,
+    pub mask: u32,
+    pub lineRemainder: u32,
+    pub lineQuotient: u32,
+    pub rowQuotient: u32,
+    pub joinedQuotient: u32,
+    pub matrixRemainders: Triple,
+}
+
+// The three checks, in order.
+pub enum Check {
+    Row,
+    Line,
+    Matrix,
+}
+
+pub enum Verdict {
+    Accept,
+    Fails(Check),
 }

@@ -1,0 +1,151 @@
+-- The sum of a_M/b_M over K_M is M̂(α,β), for α outside R and β outside C: b_M is |R||C|(α - row)(β - col) there and not 0, and
+-- a_M/b_M is an entry's term of M̂(α,β) at its place, and 0 after the last entry. Assumes nothing.
+use mathlib.Core.Path.{_≡_, refl, sym, ap, ap₂, _∙_}
+use mathlib.Core.Logic.{_≢_}
+use mathlib.Core.List.{List, [], _∷_}
+use Prim.Native.Nat.{ℕ, zero, suc, _≤_, _<_}
+use lib.ListN.{length, getD}
+use native.Mathlib.Omega.{arith}
+use native.Mathlib.Decide.{decLt}
+use Rattle.algebra.specs.Counting.{All}
+use Rattle.algebra.specs.Ring.{CommRing}
+use Rattle.algebra.specs.Sum.{sum, sumList}
+use Rattle.algebra.proofs.FieldLaws.{mul-not-zero}
+use Rattle.algebra.proofs.RingLaws.{zero-mul, mul-zero}
+use Rattle.algebra.proofs.Solver.{_:+_, _:-_, _:*_, :-_, :1, _:=_, _⊙_, _from_, ring, ring-by}
+use Rattle.algebra.proofs.SumLaws.{sum-none, sum-first}
+use Rattle.field.specs.Prime.{Prime}
+use Rattle.field.specs.Element.{Elem, of, 𝟘, 𝟙, _⊕_, _⊗_, _⊖_}
+use Rattle.field.specs.Power.{inverse, _⊘_}
+use Rattle.field.proofs.ElementLaws.{mul-one, primeRing}
+use Rattle.field.proofs.Field.{primeField, mul-inverse}
+use Rattle.domain.specs.Domain.{element, Outside, vanishing, lagrange, sumOver}
+use Rattle.domain.specs.Polynomial.{eval}
+use Rattle.domain.specs.Qualifies.{Qualifies}
+use Rattle.domain.proofs.SizeLaws.{size-positive, size-not-zero}
+use Rattle.domain.proofs.DomainLaws.{outside-not-element}
+use Rattle.domain.proofs.Lagrange.{lagrange-off}
+use Rattle.protocol.specs.Three.{MatrixName, at}
+use Rattle.protocol.specs.Circuit.{Entry, Circuit, sizesOf, extension}
+use Rattle.protocol.specs.Index.{Index, indexAt, rowElement, columnElement, index}
+use Rattle.protocol.specs.Checks.{numeratorValue, denominatorValue}
+use Rattle.protocol.specs.Messages.{numerator, denominator}
+use Rattle.protocol.proofs.AdmissionLaws.{WellFormed, EntryFits}
+use Rattle.protocol.proofs.IndexPolynomials.{K-holds, entryIndex, fillingIndex, index-at-entry, index-at-filling}
+use Rattle.protocol.proofs.MatrixPolynomials.{sizeK, eval-numerator, eval-denominator}
+
+-- the inverse of a product
+pub inverse-product : {q : Prime} (a b : Elem q) → a ≢ 𝟘 → b ≢ 𝟘 → inverse (a ⊗ b) ≡ inverse a ⊗ inverse b
+inverse-product {q} a b a≢0 b≢0 =
+    ring-by (primeRing q) (a ∷ b ∷ inverse a ∷ inverse b ∷ inverse (a ⊗ b) ∷ [])
+    (λ a b i j k. k := i :* j from (i :* j ⊙ (a :* b :* k := :1)) ∷ ((:- k) ⊙ (a :* i := :1)) ∷ ((:- (k :* a :* i)) ⊙ (b :* j := :1)) ∷ [])
+    (mul-inverse (a ⊗ b) (mul-not-zero (primeRing q) (primeField q) a b a≢0 b≢0), (mul-inverse a a≢0, (mul-inverse b b≢0, tt))) tt
+
+-- a sum whose terms are those of a list, and 0 after its end
+sum-of-list : {A T : Type 0} (R : CommRing A) (g : T → A) (d : T) (l : List T) (n : ℕ) (f : ℕ → A) → length l ≤ n
+    → ((i : ℕ) → i < length l → f i ≡ g (getD l i d)) → ((i : ℕ) → length l ≤ i → i < n → f i ≡ R .𝟘) → sum R n f ≡ sumList R g l
+sum-of-list R g d [] n f short within after = sum-none R n f (λ i below. after i (omega arith) below)
+sum-of-list R g d (x ∷ l) zero f short within after = absurd (omega arith)
+sum-of-list R g d (x ∷ l) (suc n) f short within after =
+    sum-first R n f
+    ∙ ap₂ (R ._⊕_) (within 0 (omega arith))
+    (sum-of-list R g d l n (λ i. f (suc i)) (omega arith) (λ i below. within (suc i) (omega arith))
+    (λ i end below. after (suc i) (omega arith) (omega arith)))
+
+-- what all members have, the member at a place has
+all-at : {T : Type 0} (P : T → Type 0) (l : List T) → All P l → (i : ℕ) (d : T) → i < length l → P (getD l i d)
+all-at P [] h i d below = absurd (omega arith)
+all-at P (x ∷ l) h zero d below = h .0
+all-at P (x ∷ l) h (suc i) d below = all-at P l (h .1) i d (omega arith)
+
+module _ {q : Prime} (Q : Qualifies q) (c : Circuit) (W : WellFormed q c) (α β : Elem q) (α-outside : Outside (c .R) α)
+    (β-outside : Outside (c .C) β) (M : MatrixName) where
+  abbrev entries : List Entry
+  entries = at (c .matrices) M
+
+  -- |R|(α - row) and |C|(β - col)
+  abbrev rowFactor : Elem q → Elem q
+  rowFactor row = of (c .R) ⊗ (α ⊖ row)
+
+  abbrev columnFactor : Elem q → Elem q
+  columnFactor col = of (c .C) ⊗ (β ⊖ col)
+
+  row-not-zero : (i : ℕ) → i < c .R → rowFactor (element (c .R) i) ≢ 𝟘
+  row-not-zero i below = mul-not-zero (primeRing q) (primeField q) (of (c .R)) (α ⊖ element (c .R) i)
+      (size-not-zero Q (c .R) (W .R-size)) (outside-not-element Q (c .R) (W .R-size) α α-outside i below)
+
+  column-not-zero : (i : ℕ) → i < c .C → columnFactor (element (c .C) i) ≢ 𝟘
+  column-not-zero i below = mul-not-zero (primeRing q) (primeField q) (of (c .C)) (β ⊖ element (c .C) i)
+      (size-not-zero Q (c .C) (W .C-size)) (outside-not-element Q (c .C) (W .C-size) β β-outside i below)
+
+  -- b_M at a point where the index has the values v: |R||C|(α - row)(β - col)
+  denominator-factors : (y : Elem q) (v : Index (Elem q)) → indexAt (index c M) y ≡ v → v .rowcol ≡ v .row ⊗ v .col
+      → eval (denominator c α β M) y ≡ rowFactor (v .row) ⊗ columnFactor (v .col)
+  unfolding denominatorValue sizesOf
+  denominator-factors y v here product =
+      eval-denominator c α β M y ∙ ap (denominatorValue (sizesOf c) α β) here
+      ∙ ring-by (primeRing q) (of (c .R) ∷ of (c .C) ∷ α ∷ β ∷ v .row ∷ v .col ∷ v .rowcol ∷ [])
+      (λ m n α β r c p. m :* n :* (α :* β :- α :* c :- β :* r :+ p) := (m :* (α :- r)) :* (n :* (β :- c)) from (m :* n ⊙ (p := r :* c)) ∷ [])
+      (product, tt) tt
+
+  -- an entry's term of M̂(α,β)
+  abbrev term : Entry → Elem q
+  term e = of (e .value) ⊗ lagrange (c .R) (element (c .R) (e .row)) α ⊗ lagrange (c .C) (element (c .C) (e .column)) β
+
+  module _ (i : ℕ) where
+    -- place i of K_M
+    abbrev κ : Elem q
+    κ = element (sizeK c M) i
+
+    abbrev e : Entry
+    e = getD entries i (record { row = 0; column = 0; value = 0 })
+
+    module _ (below : i < length entries) where
+      fits : EntryFits q c e
+      fits = all-at (EntryFits q c) entries (W .fit M) i _ below
+
+      entry-denominator : eval (denominator c α β M) κ ≡ rowFactor (element (c .R) (e .row)) ⊗ columnFactor (element (c .C) (e .column))
+      unfolding rowElement columnElement
+      entry-denominator = denominator-factors κ (entryIndex c e) (index-at-entry Q c W M i below _) refl
+
+      ratio-at-entry : eval (numerator c α β M) κ ⊘ eval (denominator c α β M) κ ≡ term e
+      unfolding numeratorValue sizesOf rowElement columnElement
+      ratio-at-entry =
+          let row : Elem q = element (c .R) (e .row) in
+          let col : Elem q = element (c .C) (e .column) in
+          ap₂ _⊗_
+          (eval-numerator c α β M κ ∙ ap (numeratorValue (sizesOf c) α β) (index-at-entry Q c W M i below _))
+          (ap inverse entry-denominator
+          ∙ inverse-product (rowFactor row) (columnFactor col)
+          (row-not-zero (e .row) (fits .row-below)) (column-not-zero (e .column) (fits .column-below)))
+          ∙ ring (primeRing q)
+          (vanishing (c .R) α ∷ vanishing (c .C) β ∷ row ∷ col ∷ of (e .value) ∷ inverse (rowFactor row) ∷ inverse (columnFactor col) ∷ [])
+          (λ u v r c e i j. u :* v :* (r :* c :* e) :* (i :* j) := e :* (r :* u :* i) :* (c :* v :* j)) tt
+          ∙ sym (ap₂ (λ x y. of (e .value) ⊗ x ⊗ y) (lagrange-off (c .R) row α α-outside) (lagrange-off (c .C) col β β-outside))
+
+    module _ (after : length entries ≤ i) (within : i < sizeK c M) where
+      filling-denominator : eval (denominator c α β M) κ ≡ rowFactor (element (c .R) 0) ⊗ columnFactor (element (c .C) 0)
+      unfolding element
+      filling-denominator = denominator-factors κ fillingIndex (index-at-filling Q c W M i after within) (sym (mul-one 𝟙))
+
+      ratio-at-filling : eval (numerator c α β M) κ ⊘ eval (denominator c α β M) κ ≡ 𝟘
+      unfolding numeratorValue
+      ratio-at-filling =
+          ap (λ x. x ⊘ eval (denominator c α β M) κ)
+          (eval-numerator c α β M κ ∙ ap (numeratorValue (sizesOf c) α β) (index-at-filling Q c W M i after within) ∙ mul-zero (primeRing q) _)
+          ∙ zero-mul (primeRing q) _
+
+  pub denominator-not-zero : (i : ℕ) → i < sizeK c M → eval (denominator c α β M) (element (sizeK c M) i) ≢ 𝟘
+  denominator-not-zero i within vanishes = elim (decLt i (length entries)) [
+    | yes below ↦
+        mul-not-zero (primeRing q) (primeField q) _ _ (row-not-zero (e i .row) (fits i below .row-below))
+        (column-not-zero (e i .column) (fits i below .column-below)) (sym (entry-denominator i below) ∙ vanishes)
+    | no past ↦
+        mul-not-zero (primeRing q) (primeField q) _ _ (row-not-zero 0 (size-positive (c .R) (W .R-size)))
+        (column-not-zero 0 (size-positive (c .C) (W .C-size))) (sym (filling-denominator i (omega arith) within) ∙ vanishes)
+  ]
+
+  -- Σ over K_M of a_M/b_M is M̂(α,β)
+  pub sum-of-ratios : sumOver (sizeK c M) (λ y. eval (numerator c α β M) y ⊘ eval (denominator c α β M) y) ≡ extension c M α β
+  unfolding sumOver extension
+  sum-of-ratios = sum-of-list (primeRing q) term _ entries (sizeK c M) _ (K-holds c W M) ratio-at-entry ratio-at-filling
