@@ -21,3 +21,5 @@ pub mod MatrixCheck
 pub mod JoinedPolynomials
 pub mod JoinedRule
 pub mod JoinedCheck
+pub mod Honest
+pub mod Demands

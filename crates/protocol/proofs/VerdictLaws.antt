@@ -1,12 +1,14 @@
 -- What each verdict says of the three equations. Assumes nothing.
 use mathlib.Core.Path.{_≡_, refl}
 use mathlib.Core.Bool.{Bool, true, false}
+use mathlib.Core.List.{List}
 use Rattle.algebra.specs.Lists.{pick}
 use Rattle.field.specs.Prime.{Prime}
 use Rattle.field.specs.Element.{Elem, equal}
-use Rattle.field.proofs.Field.{equal-true, equal-false}
-use Rattle.protocol.specs.Checks.{Verdict, Accept, Fails, Row, Line, Matrix, weighted, rowLeft, rowRight, assignmentValue, lineLeft, lineRight, joinedLeft, joinedRight, verdict}
-use Rattle.protocol.specs.Demand2.{VerdictMeans}
+use Rattle.field.proofs.Field.{equal-true, equal-false, true-equal}
+use Rattle.protocol.specs.Circuit.{Sizes}
+use Rattle.protocol.specs.Checks.{Heard, Openings, Verdict, Accept, Fails, Row, Line, Matrix, weighted, rowLeft, rowRight, assignmentValue, lineLeft, lineRight, joinedLeft, joinedRight, verdict}
+use Rattle.protocol.specs.Demand2.{Holds, VerdictMeans}
 
 -- three equations tested in order
 module _ {q : Prime} (a b c d e f : Elem q) where
@@ -35,3 +37,10 @@ verdict-means q s x h o =
     (joinedLeft s (h .α) (h .β) (h .values) (h .δ) (o .index) (h .γ) (o .matrixRemainders))
     (joinedRight s (h .γ) (o .joinedQuotient))
     _ _ _ refl refl refl
+
+-- where the three equations hold, the verdict is Accept
+pub accepts :
+    {q : Prime} (s : Sizes) (x : List (Elem q)) (h : Heard (Elem q)) (o : Openings (Elem q))
+    → Holds q s x h o Row → Holds q s x h o Line → Holds q s x h o Matrix → verdict s x h o ≡ Accept
+unfolding verdict pick
+accepts s x h o row line matrix = rw (true-equal _ _ row, true-equal _ _ line, true-equal _ _ matrix) refl

@@ -1,0 +1,42 @@
+-- Demands 2 and 3, proved: for every prime that qualifies, and so for the module's prime. Assumes nothing.
+use Rattle.domain.specs.BabyBear.{babyBear}
+use Rattle.domain.proofs.Qualification.{babyBear-qualifies}
+use Rattle.protocol.specs.Demand2.{Demand2, Demand2Holds}
+use Rattle.protocol.specs.Demand3.{Setting, Demand3, Demand3Holds}
+use Rattle.protocol.proofs.Honest.{rules-kept, honest-accepted}
+use Rattle.protocol.proofs.IndexDecoding.{index-gives-back}
+use Rattle.protocol.proofs.JoinedCheck.{values-caught}
+use Rattle.protocol.proofs.LineCheck.{line-means}
+use Rattle.protocol.proofs.MatrixCheck.{matrix-means}
+use Rattle.protocol.proofs.RecordLaws.{read-written, written-read}
+use Rattle.protocol.proofs.RowCheck.{row-means}
+use Rattle.protocol.proofs.Sums.{sums-caught}
+use Rattle.protocol.proofs.VerdictLaws.{verdict-means}
+
+pub demand2 : Demand2Holds
+demand2 q Q =
+    record {
+      rules-kept = rules-kept q Q;
+      index-gives-back = index-gives-back q Q;
+      read-written = read-written q Q;
+      written-read = written-read q Q;
+      honest-accepted = honest-accepted q Q;
+      verdict-means = verdict-means q;
+    }
+
+pub demand3 : Demand3Holds
+demand3 q Q S =
+    record {
+      row = row-means Q S;
+      line = λ m m-length α outside σ η. line-means Q S m m-length α σ η;
+      matrix = matrix-means Q S;
+      sums-caught = λ m m-length α outside σ. sums-caught S m α σ;
+      values-caught = values-caught Q S;
+    }
+
+-- for the prime of domain/specs/BabyBear.antt
+pub module-demand2 : Demand2 babyBear
+module-demand2 = demand2 babyBear babyBear-qualifies
+
+pub module-demand3 : (S : Setting babyBear) → Demand3 babyBear S
+module-demand3 = demand3 babyBear babyBear-qualifies

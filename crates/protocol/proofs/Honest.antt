@@ -1,0 +1,145 @@
+-- The honest messages of a job that is let through keep the rules of the table of messages, and the verifier's session accepts
+-- them at all allowed challenges. Assumes nothing.
+use mathlib.Core.Path.{_≡_, refl, sym, ap, ap₂, _∙_, subst}
+use mathlib.Core.Bool.{true}
+use mathlib.Core.List.{List, [], _∷_, map}
+use mathlib.Core.Option.{none}
+use Prim.Native.Nat.{ℕ, suc, _*_, _≤_}
+use lib.ListN.{length, length-map}
+use native.Mathlib.Nat.{le-of-eq}
+use Rattle.algebra.specs.Lists.{pick}
+use Rattle.algebra.proofs.RingLaws.{zero-add}
+use Rattle.field.specs.Prime.{Prime}
+use Rattle.field.specs.Element.{Elem, of, 𝟘, _⊕_, equal}
+use Rattle.field.proofs.ElementLaws.{primeRing}
+use Rattle.field.proofs.Field.{true-equal}
+use Rattle.domain.specs.Domain.{Outside, sumOver}
+use Rattle.domain.specs.Polynomial.{Poly, eval, valuesOn}
+use Rattle.domain.specs.Qualifies.{Qualifies}
+use Rattle.domain.proofs.SizeLaws.{size-positive}
+use Rattle.protocol.specs.Three.{MatrixName, A, B, C, Three, at, each, mapThree}
+use Rattle.protocol.specs.Circuit.{Circuit, sizesOf, Satisfied, publicPart, extension}
+use Rattle.protocol.specs.Index.{indexAt, index}
+use Rattle.protocol.specs.Checks.{Accept, weighted, lineLeft, matrixLeft, verdict}
+use Rattle.protocol.specs.Messages.{Messages, lengths, witness, assignment, rowQuotient, sums, values, line, lineRemainder, lineQuotient, matrixRemainder, joinedQuotient, messages, openings}
+use Rattle.protocol.specs.Session.{Taken, Judged}
+use Rattle.protocol.specs.Job.{Job, jobRefusal, proof, trueOpenings, honestConversation}
+use Rattle.protocol.specs.Demand2.{KeepsRules, RulesKept, HonestAccepted}
+use Rattle.protocol.proofs.AdmissionLaws.{WellFormed, JobFits, job-fits}
+use Rattle.protocol.proofs.Conversation.{Short, heard, conversation-judged}
+use Rattle.protocol.proofs.JoinedRule.{length-joinedQuotient, joined-rule}
+use Rattle.protocol.proofs.LineCheck.{line-rule, length-lineRemainder, length-lineQuotient}
+use Rattle.protocol.proofs.MatrixCheck.{matrix-rule, length-matrixRemainder}
+use Rattle.protocol.proofs.MessagePolynomials.{eval-assignment, length-assignment}
+use Rattle.protocol.proofs.RowCheck.{row-rule, length-rowQuotient}
+use Rattle.protocol.proofs.Sums.{line-sum-parts}
+use Rattle.protocol.proofs.ThreeLaws.{at-each}
+use Rattle.protocol.proofs.VerdictLaws.{accepts}
+use Rattle.protocol.proofs.Witness.{length-witness, assignment-values}
+
+module _ {q : Prime} (Q : Qualifies q) (j : Job) (F : JobFits q j) where
+  abbrev c : Circuit
+  c = j .circuit
+
+  W : WellFormed q c
+  W = F .circuit-fits
+
+  abbrev z : List (Elem q)
+  z = map of (j .z)
+
+  abbrev m : Poly q
+  m = map of (j .m)
+
+  abbrev x : List (Elem q)
+  x = publicPart c z
+
+  abbrev w : Poly q
+  w = witness c z (of (j .r))
+
+  abbrev ẑ : Poly q
+  ẑ = assignment c x w
+
+  abbrev α : Elem q
+  α = of (j .α)
+
+  abbrev β : Elem q
+  β = of (j .β)
+
+  abbrev η : Three (Elem q)
+  η = mapThree of (j .η)
+
+  abbrev f : Poly q
+  f = line c m ẑ α η
+
+  m-length : length m ≡ lengths (sizesOf c) .mask
+  unfolding lengths sizesOf
+  m-length = length-map (j .m) of ∙ F .m-length
+
+  ẑ-length : length ẑ ≡ suc (c .C)
+  ẑ-length = length-assignment Q c W x w (length-witness Q c W z (of (j .r)))
+
+  assigns : valuesOn (c .C) ẑ ≡ z
+  assigns = assignment-values Q c W z (of (j .r)) (length-map (j .z) of ∙ F .z-length)
+
+  -- ẑ satisfies every row, since its values are z
+  satisfied : Satisfied c (valuesOn (c .C) ẑ)
+  satisfied = subst (λ v. Satisfied c v) (sym assigns) (F .satisfied)
+
+  -- the mask adds to 0, so the line's sum is σ
+  claim : sumOver (c .C) (λ y. lineLeft η (values c α y) (eval m y) (eval ẑ y)) ≡ weighted η (sums c ẑ α)
+  claim = line-sum-parts c m ẑ α η ∙ ap (λ v. v ⊕ weighted η (sums c ẑ α)) (F .mask-sum) ∙ zero-add (primeRing q) _
+
+  keeps-rules : KeepsRules q c z α η β (proof q j)
+  unfolding proof messages values
+  keeps-rules =
+      record {
+        witness-length = length-witness Q c W z (of (j .r));
+        rowQuotient-length = length-rowQuotient Q c W ẑ;
+        lineRemainder-length = length-lineRemainder Q c W m ẑ m-length ẑ-length α η;
+        lineQuotient-length = length-lineQuotient Q c W m ẑ m-length ẑ-length α η;
+        matrixRemainder-length = λ M. ap length (at-each (matrixRemainder c α β) M) ∙ length-matrixRemainder Q c W α β (F .α-outside) (F .β-outside) M;
+        joinedQuotient-length = length-joinedQuotient Q c W α β (F .α-outside) (F .β-outside) (mapThree of (j .δ));
+        assigns = assigns;
+        row = row-rule Q c W ẑ satisfied;
+        line = line-rule Q c W m ẑ m-length ẑ-length α η (weighted η (sums c ẑ α)) claim;
+        matrix = λ M y.
+            ap₂ (λ ω g. matrixLeft (sizesOf c) M α β ω (indexAt (index c M) y) y (eval g y))
+            (at-each (λ M. extension c M α β) M) (at-each (matrixRemainder c α β) M)
+            ∙ matrix-rule Q c W α β (F .α-outside) (F .β-outside) M y;
+      }
+
+  abbrev p : Messages (Poly q) (Elem q)
+  p = proof q j
+
+  short : Short (sizesOf c) p
+  short =
+      let K = keeps-rules in
+      record {
+        witness-short = le-of-eq (K .witness-length);
+        mask-short = le-of-eq (unfold proof messages in m-length);
+        rowQuotient-short = le-of-eq (K .rowQuotient-length);
+        lineRemainder-short = le-of-eq (K .lineRemainder-length);
+        lineQuotient-short = le-of-eq (K .lineQuotient-length);
+        matrixRemainder-short = λ M. le-of-eq (K .matrixRemainder-length M);
+        joinedQuotient-short = le-of-eq (K .joinedQuotient-length);
+      }
+
+  -- the verdict on the honest messages and their true openings
+  honest-verdict : verdict (sizesOf c) x (heard q j F p short (trueOpenings q j p)) (trueOpenings q j p) ≡ Accept
+  unfolding proof messages trueOpenings openings
+  honest-verdict =
+      accepts (sizesOf c) x (heard q j F p short (trueOpenings q j p)) (trueOpenings q j p)
+      (row-rule Q c W ẑ satisfied α)
+      (ap (lineLeft η (values c α β) (eval m β)) (sym (eval-assignment c (size-positive (c .X) (W .X-size)) x w β))
+      ∙ line-rule Q c W m ẑ m-length ẑ-length α η (weighted η (sums c ẑ α)) claim β)
+      (joined-rule Q c W α β (F .α-outside) (F .β-outside) (mapThree of (j .δ)) (of (j .γ)) (F .γ-outside))
+
+pub rules-kept : (q : Prime) → Qualifies q → RulesKept q
+rules-kept q Q j free = keeps-rules Q j (job-fits q j free)
+
+pub honest-accepted : (q : Prime) → Qualifies q → HonestAccepted q
+unfolding honestConversation
+honest-accepted q Q j free =
+    let F : JobFits q j = job-fits q j free in
+    conversation-judged q j F (proof q j) (short Q j F) (trueOpenings q j (proof q j))
+    ∙ ap (λ v. Taken ∷ Taken ∷ Taken ∷ Taken ∷ Taken ∷ Taken ∷ Judged v ∷ []) (honest-verdict Q j F)
