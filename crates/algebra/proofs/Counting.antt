@@ -6,7 +6,7 @@ use mathlib.Core.List.{List, [], _∷_, _++_, map}
 use Prim.Native.Nat.{ℕ, zero, suc, _+_, _≤_, _<_}
 use native.Mathlib.Omega.{arith}
 use native.Mathlib.Decide.{ℕ-discrete}
-use lib.ListN.{length, length-map}
+use lib.ListN.{length, getD, length-map}
 use Rattle.algebra.specs.Counting.{All, Distinct, AtMost, MoreThan}
 use Rattle.algebra.specs.Lists.{tabulate}
 
@@ -30,6 +30,12 @@ module _ {A : Type 0} where
   pub append-all : (P : A → Type 0) (l k : List A) → All P (l ++ k) → All P l × All P k
   append-all P [] k h = (tt, h)
   append-all P (x ∷ l) k h = let (left, right) = append-all P l k (h .1) in ((h .0, left), right)
+
+  -- what all members have, the member at a place has
+  pub all-at : (P : A → Type 0) (l : List A) → All P l → (i : ℕ) (d : A) → i < length l → P (getD l i d)
+  all-at P [] h i d below = absurd (omega arith)
+  all-at P (x ∷ l) h zero d below = h .0
+  all-at P (x ∷ l) h (suc i) d below = all-at P l (h .1) i d (omega arith)
 
   pub all-tabulate : (P : A → Type 0) (n : ℕ) (f : ℕ → A) → ((i : ℕ) → i < n → P (f i)) → All P (tabulate n f)
   all-tabulate P zero f h = tt

@@ -29,3 +29,8 @@ module _ {A : Type 0} (R : CommRing A) (F : IsField R) where
     where
       a≢0 : a ≢ 𝟘
       a≢0 e = one-not-zero (sym h ∙ ap (λ x. x ⊗ b) e ∙ zero-mul R b)
+
+  pub inverse-product : (a b : A) → a ≢ 𝟘 → b ≢ 𝟘 → inverse (a ⊗ b) ≡ inverse a ⊗ inverse b
+  inverse-product a b a≢0 b≢0 = sym (inverse-unique (a ⊗ b) (inverse a ⊗ inverse b)
+      (ring-by R (a ∷ b ∷ inverse a ∷ inverse b ∷ []) (λ a b i j. a :* b :* (i :* j) := :1 from (b :* j ⊙ (a :* i := :1)) ∷ (:1 ⊙ (b :* j := :1)) ∷ [])
+      (mul-inverse a a≢0, (mul-inverse b b≢0, tt)) tt))

@@ -7,3 +7,4 @@ pub mod PolynomialLaws
 pub mod RootBound
 pub mod Division
 pub mod Unity
+pub mod Choice

@@ -2,9 +2,10 @@
 use mathlib.Core.Path.{_≡_, refl, sym, _∙_, ap, ap₂}
 use mathlib.Core.Logic.{_≢_}
 use mathlib.Core.List.{List, [], _∷_}
-use Prim.Native.Nat.{ℕ, zero, suc, _<_}
+use Prim.Native.Nat.{ℕ, zero, suc, _≤_, _<_}
 use native.Mathlib.Omega.{arith}
 use native.Mathlib.Decide.{ℕ-discrete}
+use lib.ListN.{length, getD}
 use Rattle.algebra.specs.Ring.{CommRing, cast, pow}
 use Rattle.algebra.specs.Counting.{All}
 use Rattle.algebra.specs.Sum.{sum, sumList}
@@ -82,3 +83,14 @@ module _ {A : Type 0} (R : CommRing A) where
     pub sum-sumList : (n : ℕ) (f : T → ℕ → A) (l : List T) → sum R n (λ i. sumList R (λ x. f x i) l) ≡ sumList R (λ x. sum R n (f x)) l
     sum-sumList n f [] = sum-zero n
     sum-sumList n f (x ∷ l) = sum-add n (f x) (λ i. sumList R (λ y. f y i) l) ∙ ap (λ s. sum R n (f x) ⊕ s) (sum-sumList n f l)
+
+    -- a sum whose terms are those of a list, and 0 after its end
+    pub sum-of-list : (g : T → A) (d : T) (l : List T) (n : ℕ) (f : ℕ → A) → length l ≤ n
+        → ((i : ℕ) → i < length l → f i ≡ g (getD l i d)) → ((i : ℕ) → length l ≤ i → i < n → f i ≡ 𝟘) → sum R n f ≡ sumList R g l
+    sum-of-list g d [] n f short within after = sum-none n f (λ i below. after i (omega arith) below)
+    sum-of-list g d (x ∷ l) zero f short within after = absurd (omega arith)
+    sum-of-list g d (x ∷ l) (suc n) f short within after =
+        sum-first n f
+        ∙ ap₂ _⊕_ (within 0 (omega arith))
+        (sum-of-list g d l n (λ i. f (suc i)) (omega arith) (λ i below. within (suc i) (omega arith))
+        (λ i end below. after (suc i) (omega arith) (omega arith)))

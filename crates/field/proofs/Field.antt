@@ -84,3 +84,7 @@ primeField q = record { inverse = inverse; mul-inverse = mul-inverse; one-not-ze
 
 pub no-zero-divisors : (q : Prime) (a b : Elem q) → a ⊗ b ≡ 𝟘 → a ≢ 𝟘 → b ≡ 𝟘
 no-zero-divisors q = FieldLaws.no-zero-divisors (primeRing q) (primeField q)
+
+pub inverse-product : {q : Prime} (a b : Elem q) → a ≢ 𝟘 → b ≢ 𝟘 → inverse (a ⊗ b) ≡ inverse a ⊗ inverse b
+unfolding primeField
+inverse-product {q} = FieldLaws.inverse-product (primeRing q) (primeField q)

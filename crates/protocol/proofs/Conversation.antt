@@ -1,14 +1,13 @@
 -- A session with a job that is let through: messages within the lengths of the table are taken at every step, and the last answer is
 -- the verdict on them and on the openings. Assumes nothing.
-use mathlib.Core.Path.{_≡_, refl, sym, ap, ap₂, _∙_}
-use mathlib.Core.Bool.{Bool, true, false, not, _&&_}
+use mathlib.Core.Path.{_≡_, refl, ap, ap₂, _∙_}
+use mathlib.Core.Bool.{Bool, true, not, _&&_}
 use mathlib.Core.List.{List, [], _∷_, _++_, map}
-use mathlib.Core.Option.{Option, none, some}
-use Prim.Native.Nat.{ℕ, suc, _+_, _-_, _*_, _<_, _≤_}
-use lib.Dec.{eqb, leb}
+use mathlib.Core.Option.{Option, none}
+use Prim.Native.Nat.{ℕ, _-_, _<_, _≤_}
+use lib.Dec.{eqb}
 use lib.ListN.{length, take, replicate, length-map}
 use lib.Seq.{take-at}
-use native.Mathlib.Omega.{arith}
 use borrow.Author.Tests.{le-leb, eq-eqb}
 use Rattle.algebra.specs.Counting.{All}
 use Rattle.algebra.proofs.Counting.{all-append, append-all}
@@ -16,17 +15,16 @@ use Rattle.algebra.proofs.PolynomialLaws.{length-tabulate}
 use Rattle.field.specs.Prime.{Prime}
 use Rattle.field.specs.Element.{Elem, of, words}
 use Rattle.field.proofs.ElementLaws.{of-word, word-below}
-use Rattle.domain.specs.Size.{maxSize, isSize}
+use Rattle.domain.specs.Size.{maxSize}
 use Rattle.domain.specs.Domain.{inside, Outside}
 use Rattle.domain.specs.Polynomial.{Poly}
-use Rattle.domain.proofs.SizeLaws.{size-bound}
-use Rattle.protocol.specs.Three.{MatrixName, A, B, C, Three, at, each, listed, mapThree}
+use Rattle.protocol.specs.Three.{MatrixName, A, B, C, Three, at, listed, mapThree}
 use Rattle.protocol.specs.Circuit.{Circuit, Sizes, sizesOf, largest, publicPart}
 use Rattle.protocol.specs.Index.{Index, mapIndex}
 use Rattle.protocol.specs.Checks.{Heard, Openings, mapHeard, mapOpenings, listOpenings, verdict}
 use Rattle.protocol.specs.Messages.{Messages, lengths}
-use Rattle.protocol.specs.Refusals.{Refusal, first, sizeTests, sixSizeTests, turnRefusal, sizeRefusal, listRefusal, wordRefusal, challengeRefusal, lengthRefusal}
-use Rattle.protocol.specs.Session.{Session, Answer, Stepped, Taken, Judged, unopened, silence, unless, onward, all, inTurn, openStep, verdictOf, alphaStep, etaStep, betaStep, deltaStep, gammaStep, openingsStep}
+use Rattle.protocol.specs.Refusals.{Refusal, sizeTests, sixSizeTests, turnRefusal, sizeRefusal, listRefusal, wordRefusal, challengeRefusal, lengthRefusal}
+use Rattle.protocol.specs.Session.{Session, Stepped, Taken, Judged, unopened, silence, unless, onward, all, inTurn, openStep, verdictOf, alphaStep, etaStep, betaStep, deltaStep, gammaStep, openingsStep}
 use Rattle.protocol.specs.Job.{Job, jobWords, publicWords, conversation}
 use Rattle.protocol.proofs.AdmissionLaws.{WellFormed, JobFits}
 use Rattle.protocol.proofs.IndexPolynomials.{K-size}

@@ -1,22 +1,20 @@
 -- M̂ and ẑ_M as polynomials: M̂(α,Y) of length |C|, ẑ_M of length |R|, whose values on R are the rows' sums. Assumes nothing.
 use mathlib.Core.Path.{_≡_, refl, sym, ap, ap₂, _∙_}
-use mathlib.Core.Logic.{_≢_}
 use mathlib.Core.Bool.{Bool, true, false}
 use mathlib.Core.List.{List, [], _∷_}
 use Prim.Native.Nat.{ℕ, _<_}
 use lib.Dec.{eqb}
 use lib.ListN.{getD}
 use borrow.Author.Tests.{eq-eqb, ne-eqb}
-use Rattle.algebra.specs.Counting.{All}
 use Rattle.algebra.specs.Lists.{pick}
 use Rattle.algebra.specs.Ring.{CommRing}
-use Rattle.algebra.specs.Sum.{sum, sumList}
+use Rattle.algebra.specs.Sum.{sumList}
 use Rattle.algebra.proofs.Counting.{all-map}
 use Rattle.algebra.proofs.RingLaws.{mul-zero, zero-mul}
 use Rattle.algebra.proofs.Solver.{_:*_, _:=_, ring}
 use Rattle.algebra.proofs.SumLaws.{sum-ext, sum-one, sum-scale, sumList-ext, sumList-scale, sum-sumList}
 use Rattle.field.specs.Prime.{Prime}
-use Rattle.field.specs.Element.{Elem, of, 𝟘, 𝟙, _⊕_, _⊗_}
+use Rattle.field.specs.Element.{Elem, of, 𝟘, 𝟙, _⊗_}
 use Rattle.field.proofs.ElementLaws.{mul-one, mul-comm, primeRing}
 use Rattle.domain.specs.Domain.{element, lagrange, sumOver}
 use Rattle.domain.specs.Polynomial.{Poly, eval, valuesOn}
@@ -26,7 +24,7 @@ use Rattle.domain.proofs.Lagrange.{lagrange-on, lagrange-polynomial}
 use Rattle.protocol.specs.Three.{MatrixName, at}
 use Rattle.protocol.specs.Circuit.{Entry, Circuit, extension, rowSum}
 use Rattle.protocol.specs.Messages.{image}
-use Rattle.protocol.proofs.AdmissionLaws.{WellFormed, EntryFits}
+use Rattle.protocol.proofs.AdmissionLaws.{WellFormed}
 
 module _ {q : Prime} (Q : Qualifies q) (c : Circuit) (W : WellFormed q c) (M : MatrixName) where
   abbrev R : CommRing (Elem q)

@@ -1,29 +1,25 @@
 -- The honest messages of a job that is let through keep the rules of the table of messages, and the verifier's session accepts
 -- them at all allowed challenges. Assumes nothing.
-use mathlib.Core.Path.{_≡_, refl, sym, ap, ap₂, _∙_, subst}
-use mathlib.Core.Bool.{true}
+use mathlib.Core.Path.{_≡_, sym, ap, ap₂, _∙_, subst}
 use mathlib.Core.List.{List, [], _∷_, map}
-use mathlib.Core.Option.{none}
-use Prim.Native.Nat.{ℕ, suc, _*_, _≤_}
+use Prim.Native.Nat.{suc}
 use lib.ListN.{length, length-map}
 use native.Mathlib.Nat.{le-of-eq}
-use Rattle.algebra.specs.Lists.{pick}
 use Rattle.algebra.proofs.RingLaws.{zero-add}
 use Rattle.field.specs.Prime.{Prime}
-use Rattle.field.specs.Element.{Elem, of, 𝟘, _⊕_, equal}
+use Rattle.field.specs.Element.{Elem, of, _⊕_}
 use Rattle.field.proofs.ElementLaws.{primeRing}
-use Rattle.field.proofs.Field.{true-equal}
-use Rattle.domain.specs.Domain.{Outside, sumOver}
+use Rattle.domain.specs.Domain.{sumOver}
 use Rattle.domain.specs.Polynomial.{Poly, eval, valuesOn}
 use Rattle.domain.specs.Qualifies.{Qualifies}
 use Rattle.domain.proofs.SizeLaws.{size-positive}
-use Rattle.protocol.specs.Three.{MatrixName, A, B, C, Three, at, each, mapThree}
+use Rattle.protocol.specs.Three.{C, Three, mapThree}
 use Rattle.protocol.specs.Circuit.{Circuit, sizesOf, Satisfied, publicPart, extension}
 use Rattle.protocol.specs.Index.{indexAt, index}
 use Rattle.protocol.specs.Checks.{Accept, weighted, lineLeft, matrixLeft, verdict}
-use Rattle.protocol.specs.Messages.{Messages, lengths, witness, assignment, rowQuotient, sums, values, line, lineRemainder, lineQuotient, matrixRemainder, joinedQuotient, messages, openings}
+use Rattle.protocol.specs.Messages.{Messages, lengths, witness, assignment, sums, values, line, matrixRemainder, messages, openings}
 use Rattle.protocol.specs.Session.{Taken, Judged}
-use Rattle.protocol.specs.Job.{Job, jobRefusal, proof, trueOpenings, honestConversation}
+use Rattle.protocol.specs.Job.{Job, proof, trueOpenings, honestConversation}
 use Rattle.protocol.specs.Demand2.{KeepsRules, RulesKept, HonestAccepted}
 use Rattle.protocol.proofs.AdmissionLaws.{WellFormed, JobFits, job-fits}
 use Rattle.protocol.proofs.Conversation.{Short, heard, conversation-judged}

@@ -2,21 +2,22 @@
 -- Assumes nothing.
 use mathlib.Core.Path.{_≡_, refl, ap, ap₂, _∙_}
 use mathlib.Core.Logic.{_≢_}
-use mathlib.Core.Bool.{Bool, true, false}
+use mathlib.Core.Bool.{true}
 use mathlib.Core.List.{List, [], _∷_, _++_, foldr}
 use Prim.Native.Nat.{ℕ, zero, suc, _≤_, _<_}
 use lib.ListN.{length, getD}
 use native.Mathlib.Omega.{arith}
-use native.Mathlib.Nat.{mod-eq-of-lt}
-use Rattle.algebra.specs.Counting.{All}
-use Rattle.algebra.specs.Lists.{pick, tabulate}
+use Rattle.algebra.specs.Lists.{tabulate}
 use Rattle.algebra.specs.Ring.{CommRing, IsField}
+use Rattle.algebra.proofs.Choice.{pick-true, pick-false}
+use Rattle.algebra.proofs.Counting.{all-at}
 use Rattle.algebra.proofs.FieldLaws.{mul-not-zero}
 use Rattle.algebra.proofs.Solver.{_:*_, :1, _:=_, _⊙_, _from_, ring-by}
 use Rattle.field.specs.Prime.{Prime}
 use Rattle.field.specs.Element.{Elem, of, 𝟘, _⊗_}
 use Rattle.field.specs.Power.{inverse, _⊘_}
 use Rattle.field.proofs.ElementLaws.{of-not-zero, primeRing}
+use Rattle.field.proofs.Words.{word-of}
 use Rattle.field.proofs.Field.{mul-inverse, true-equal, false-equal, primeField}
 use Rattle.domain.specs.Size.{isSize}
 use Rattle.domain.specs.Domain.{element, domain}
@@ -28,21 +29,6 @@ use Rattle.protocol.specs.Index.{indexAt, rowElement, columnElement, ind
 use Rattle.protocol.specs.Demand2.{IndexGivesBack}
 use Rattle.protocol.proofs.AdmissionLaws.{WellFormed, EntryFits, admitted-well-formed}
 use Rattle.protocol.proofs.IndexPolynomials.{K-holds, entryIndex, fillingIndex, index-at-entry, index-at-filling}
-
--- what all members have, a member has
-all-at : {T : Type 0} (P : T → Type 0) (l : List T) → All P l → (i : ℕ) (d : T) → i < length l → P (getD l i d)
-all-at P [] h i d below = absurd (omega arith)
-all-at P (x ∷ l) h zero d below = h .0
-all-at P (x ∷ l) h (suc i) d below = all-at P l (h .1) i d (omega arith)
-
--- a choice whose test is known
-pick-true : {T : Type 0} {test : Bool} (a b : T) → test ≡ true → pick test a b ≡ a
-unfolding pick
-pick-true a b e = ap (λ test. pick test a b) e
-
-pick-false : {T : Type 0} {test : Bool} (a b : T) → test ≡ false → pick test a b ≡ b
-unfolding pick
-pick-false a b e = ap (λ test. pick test a b) e
 
 -- a list is read back from n points, where each of its places gives its member and the points after them give nothing
 foldr-tabulate : {S T : Type 0} (read : S → List T) (n : ℕ) (f : ℕ → S) (l : List T) (d : T) → length l ≤ n
@@ -79,11 +65,6 @@ module _ {q : Prime} where
   divide-back : (a b : Elem q) → a ≢ 𝟘 → a ⊗ b ⊘ a ≡ b
   divide-back a b ne =
       ring-by (primeRing q) (a ∷ b ∷ inverse a ∷ []) (λ a b i. a :* b :* i := b from (b ⊙ (a :* i := :1)) ∷ []) (mul-inverse a ne, tt) tt
-
--- a number below p is the word of its element
-word-of : (q : Prime) (n : ℕ) → n < q .p → of {q = q} n .word ≡ n
-unfolding of
-word-of q n below = mod-eq-of-lt below
 
 module _ {q : Prime} (Q : Qualifies q) (c : Circuit) (W : WellFormed q c) where
   -- an entry is read from the four values at its place

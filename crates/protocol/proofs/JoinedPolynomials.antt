@@ -13,7 +13,7 @@ use Rattle.field.specs.Prime.{Prime}
 use Rattle.field.specs.Element.{Elem, of, 𝟘, 𝟙, _⊕_, _⊗_}
 use Rattle.field.specs.Power.{inverse, _⊘_}
 use Rattle.field.proofs.ElementLaws.{of-mul, primeRing}
-use Rattle.field.proofs.Field.{mul-inverse}
+use Rattle.field.proofs.Field.{mul-inverse, inverse-product}
 use Rattle.domain.specs.Domain.{element, Outside, vanishing}
 use Rattle.domain.specs.Polynomial.{Poly, eval, plus}
 use Rattle.domain.specs.Qualifies.{Qualifies}
@@ -25,7 +25,6 @@ use Rattle.protocol.specs.Circuit.{Circuit, sizesOf, largest}
 use Rattle.protocol.specs.Checks.{selector}
 use Rattle.protocol.proofs.IndexPolynomials.{K-size}
 use Rattle.protocol.proofs.MatrixPolynomials.{sizeK, largest-size, within-largest}
-use Rattle.protocol.proofs.MatrixSum.{inverse-product}
 
 module _ {q : Prime} where
   pub sumMatrices-ext : (f g : MatrixName → Elem q) → ((M : MatrixName) → f M ≡ g M) → sumMatrices f ≡ sumMatrices g

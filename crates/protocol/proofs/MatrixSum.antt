@@ -3,22 +3,20 @@
 use mathlib.Core.Path.{_≡_, refl, sym, ap, ap₂, _∙_}
 use mathlib.Core.Logic.{_≢_}
 use mathlib.Core.List.{List, [], _∷_}
-use Prim.Native.Nat.{ℕ, zero, suc, _≤_, _<_}
+use Prim.Native.Nat.{ℕ, _≤_, _<_}
 use lib.ListN.{length, getD}
 use native.Mathlib.Omega.{arith}
 use native.Mathlib.Decide.{decLt}
-use Rattle.algebra.specs.Counting.{All}
-use Rattle.algebra.specs.Ring.{CommRing}
-use Rattle.algebra.specs.Sum.{sum, sumList}
+use Rattle.algebra.proofs.Counting.{all-at}
 use Rattle.algebra.proofs.FieldLaws.{mul-not-zero}
 use Rattle.algebra.proofs.RingLaws.{zero-mul, mul-zero}
-use Rattle.algebra.proofs.Solver.{_:+_, _:-_, _:*_, :-_, :1, _:=_, _⊙_, _from_, ring, ring-by}
-use Rattle.algebra.proofs.SumLaws.{sum-none, sum-first}
+use Rattle.algebra.proofs.Solver.{_:+_, _:-_, _:*_, :-_, _:=_, _⊙_, _from_, ring, ring-by}
+use Rattle.algebra.proofs.SumLaws.{sum-of-list}
 use Rattle.field.specs.Prime.{Prime}
-use Rattle.field.specs.Element.{Elem, of, 𝟘, 𝟙, _⊕_, _⊗_, _⊖_}
+use Rattle.field.specs.Element.{Elem, of, 𝟘, 𝟙, _⊗_, _⊖_}
 use Rattle.field.specs.Power.{inverse, _⊘_}
 use Rattle.field.proofs.ElementLaws.{mul-one, primeRing}
-use Rattle.field.proofs.Field.{primeField, mul-inverse}
+use Rattle.field.proofs.Field.{primeField, inverse-product}
 use Rattle.domain.specs.Domain.{element, Outside, vanishing, lagrange, sumOver}
 use Rattle.domain.specs.Polynomial.{eval}
 use Rattle.domain.specs.Qualifies.{Qualifies}
@@ -33,30 +31,6 @@ use Rattle.protocol.specs.Messages.{numerator, denominator}
 use Rattle.protocol.proofs.AdmissionLaws.{WellFormed, EntryFits}
 use Rattle.protocol.proofs.IndexPolynomials.{K-holds, entryIndex, fillingIndex, index-at-entry, index-at-filling}
 use Rattle.protocol.proofs.MatrixPolynomials.{sizeK, eval-numerator, eval-denominator}
-
--- the inverse of a product
-pub inverse-product : {q : Prime} (a b : Elem q) → a ≢ 𝟘 → b ≢ 𝟘 → inverse (a ⊗ b) ≡ inverse a ⊗ inverse b
-inverse-product {q} a b a≢0 b≢0 =
-    ring-by (primeRing q) (a ∷ b ∷ inverse a ∷ inverse b ∷ inverse (a ⊗ b) ∷ [])
-    (λ a b i j k. k := i :* j from (i :* j ⊙ (a :* b :* k := :1)) ∷ ((:- k) ⊙ (a :* i := :1)) ∷ ((:- (k :* a :* i)) ⊙ (b :* j := :1)) ∷ [])
-    (mul-inverse (a ⊗ b) (mul-not-zero (primeRing q) (primeField q) a b a≢0 b≢0), (mul-inverse a a≢0, (mul-inverse b b≢0, tt))) tt
-
--- a sum whose terms are those of a list, and 0 after its end
-sum-of-list : {A T : Type 0} (R : CommRing A) (g : T → A) (d : T) (l : List T) (n : ℕ) (f : ℕ → A) → length l ≤ n
-    → ((i : ℕ) → i < length l → f i ≡ g (getD l i d)) → ((i : ℕ) → length l ≤ i → i < n → f i ≡ R .𝟘) → sum R n f ≡ sumList R g l
-sum-of-list R g d [] n f short within after = sum-none R n f (λ i below. after i (omega arith) below)
-sum-of-list R g d (x ∷ l) zero f short within after = absurd (omega arith)
-sum-of-list R g d (x ∷ l) (suc n) f short within after =
-    sum-first R n f
-    ∙ ap₂ (R ._⊕_) (within 0 (omega arith))
-    (sum-of-list R g d l n (λ i. f (suc i)) (omega arith) (λ i below. within (suc i) (omega arith))
-    (λ i end below. after (suc i) (omega arith) (omega arith)))
-
--- what all members have, the member at a place has
-all-at : {T : Type 0} (P : T → Type 0) (l : List T) → All P l → (i : ℕ) (d : T) → i < length l → P (getD l i d)
-all-at P [] h i d below = absurd (omega arith)
-all-at P (x ∷ l) h zero d below = h .0
-all-at P (x ∷ l) h (suc i) d below = all-at P l (h .1) i d (omega arith)
 
 module _ {q : Prime} (Q : Qualifies q) (c : Circuit) (W : WellFormed q c) (α β : Elem q) (α-outside : Outside (c .R) α)
     (β-outside : Outside (c .C) β) (M : MatrixName) where

@@ -1,20 +1,17 @@
 -- The polynomials that Row and Line are about: ẑ with its values and length, the left side of Row as a polynomial of length
 -- 2|R| - 1, and the left side of Line as one of length 2|C|. Assumes nothing.
-use mathlib.Core.Path.{_≡_, refl, sym, ap, ap₂, _∙_}
-use mathlib.Core.Bool.{true}
+use mathlib.Core.Path.{_≡_, ap, ap₂, _∙_}
 use mathlib.Core.List.{List, [], _∷_}
-use Prim.Native.Nat.{ℕ, suc, _+_, _-_, _*_, _≤_, _<_}
+use Prim.Native.Nat.{suc, _-_, _*_, _≤_, _<_}
 use lib.ListN.{length}
 use native.Mathlib.Omega.{arith}
 use Rattle.algebra.specs.Ring.{CommRing}
 use Rattle.algebra.proofs.PolynomialLaws.{eval-add, eval-scale, eval-mul, length-add, length-scale, length-product}
-use Rattle.algebra.proofs.Solver.{_:+_, _:*_, :-_, :1, _:=_, ring}
+use Rattle.algebra.proofs.Solver.{_:*_, :-_, :1, _:=_, ring}
 use Rattle.field.specs.Prime.{Prime}
 use Rattle.field.specs.Element.{Elem, 𝟙, _⊕_, _⊗_, _⊖_, neg}
 use Rattle.field.proofs.ElementLaws.{primeRing}
-use Rattle.domain.specs.Size.{isSize}
-use Rattle.domain.specs.Domain.{vanishing}
-use Rattle.domain.specs.Polynomial.{Poly, eval, plus, minus, times, scale, vanishingPoly, interpolate, agreeing}
+use Rattle.domain.specs.Polynomial.{Poly, eval, minus, times, scale, vanishingPoly, interpolate, agreeing}
 use Rattle.domain.specs.Qualifies.{Qualifies}
 use Rattle.domain.proofs.SizeLaws.{size-positive}
 use Rattle.domain.proofs.DomainLaws.{eval-vanishingPoly, length-vanishingPoly}

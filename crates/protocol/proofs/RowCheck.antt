@@ -1,9 +1,7 @@
 -- What Row means: h0 of length |R| - 1 makes its sides equal at more than 2|R| - 2 points outside R exactly when ẑ satisfies every
 -- row. Assumes nothing.
-use mathlib.Core.Path.{_≡_, refl, sym, ap, ap₂, _∙_}
-use mathlib.Core.Bool.{true}
-use mathlib.Core.List.{List, []}
-use Prim.Native.Nat.{ℕ, suc, _+_, _-_, _*_, _≤_, _<_}
+use mathlib.Core.Path.{_≡_, sym, ap, ap₂, _∙_}
+use Prim.Native.Nat.{ℕ, _+_, _-_, _*_, _<_}
 use lib.ListN.{length, replicate, length-replicate}
 use native.Mathlib.Omega.{arith}
 use Rattle.algebra.specs.Counting.{MoreThan}
@@ -14,7 +12,6 @@ use Rattle.algebra.proofs.RingLaws.{sub-zero→eq, eq→sub-zero, mul-zero}
 use Rattle.field.specs.Prime.{Prime}
 use Rattle.field.specs.Element.{Elem, 𝟘, _⊕_, _⊗_, _⊖_}
 use Rattle.field.proofs.ElementLaws.{add-zero, primeRing}
-use Rattle.domain.specs.Size.{isSize, maxSize}
 use Rattle.domain.specs.Domain.{Outside, element, vanishing}
 use Rattle.domain.specs.Polynomial.{Poly, eval, quotient, remainder, valuesOn}
 use Rattle.domain.specs.Qualifies.{Qualifies}
@@ -23,7 +20,7 @@ use Rattle.domain.proofs.SizeLaws.{size-positive, size-bound}
 use Rattle.domain.proofs.DomainLaws.{inside-element, vanishing-inside, outside-many}
 use Rattle.domain.proofs.Division.{divide, vanishing-divides, division-recovers}
 use Rattle.protocol.specs.Three.{A, B, C}
-use Rattle.protocol.specs.Circuit.{Circuit, Sizes, sizesOf, rowSum, Satisfied}
+use Rattle.protocol.specs.Circuit.{Circuit, sizesOf, rowSum, Satisfied}
 use Rattle.protocol.specs.Checks.{rowLeft, rowRight}
 use Rattle.protocol.specs.Messages.{lengths, assignment, rowQuotient, sums}
 use Rattle.protocol.specs.Demand3.{Setting, RowMeans}

@@ -1,7 +1,6 @@
 -- The sum over C that the line claim is about, by its parts: the mask's sum and Σ η_M ẑ_M(α). So a false claimed sum leaves at most
 -- p² of the p³ triples η for which the line claim holds. Assumes nothing.
 use mathlib.Core.Path.{_≡_, sym, ap, ap₂, _∙_}
-use mathlib.Core.Logic.{_≢_}
 use mathlib.Core.List.{[], _∷_}
 use Rattle.algebra.specs.Ring.{CommRing}
 use Rattle.algebra.proofs.Counting.{at-most-mono}
@@ -13,7 +12,7 @@ use Rattle.field.proofs.ElementLaws.{primeRing}
 use Rattle.domain.specs.Domain.{element, sumOver}
 use Rattle.domain.specs.Polynomial.{Poly, eval}
 use Rattle.domain.proofs.DomainLaws.{sumOver-ext, sumOver-add, sumOver-scale}
-use Prim.Native.Nat.{ℕ, _*_}
+use Prim.Native.Nat.{_*_}
 use native.Mathlib.Nat.{le-refl}
 use Rattle.protocol.specs.Three.{MatrixName, A, B, C, Three, at, each}
 use Rattle.protocol.specs.Circuit.{Circuit, extension}

@@ -1,21 +1,20 @@
 -- The honest witness: ŵ has its length, and ẑ made of it is z(Y) + r v_C(Y), so that its values on C are z. Assumes nothing.
-use mathlib.Core.Path.{_≡_, refl, sym, ap, ap₂, _∙_}
+use mathlib.Core.Path.{_≡_, sym, ap, _∙_}
 use mathlib.Core.List.{List, [], _∷_}
-use Prim.Native.Nat.{ℕ, suc, _+_, _-_, _*_, _/_, _≤_, _<_}
+use Prim.Native.Nat.{ℕ, _*_, _/_, _<_}
 use lib.ListN.{length, getD}
 use native.Mathlib.Omega.{arith}
 use native.Mathlib.Nat.{mul-le-mul-right, suc-mul}
-use Rattle.algebra.specs.Lists.{tabulate}
 use Rattle.algebra.specs.Ring.{CommRing}
 use Rattle.algebra.proofs.Division.{length-quotient}
-use Rattle.algebra.proofs.PolynomialLaws.{eval-add, eval-scale, length-add, length-scale, getD-tabulate, length-tabulate}
+use Rattle.algebra.proofs.PolynomialLaws.{eval-add, eval-scale, length-add, length-scale, getD-tabulate}
 use Rattle.algebra.proofs.RingLaws.{eq→sub-zero}
-use Rattle.algebra.proofs.Solver.{_:+_, _:-_, _:*_, :-_, :0, :1, _:=_, _⊙_, _from_, ring, ring-by}
+use Rattle.algebra.proofs.Solver.{_:+_, _:-_, _:*_, :-_, :0, :1, _:=_, _⊙_, _from_, ring-by}
 use Rattle.field.specs.Prime.{Prime}
-use Rattle.field.specs.Element.{Elem, 𝟘, _⊕_, _⊗_, _⊖_}
+use Rattle.field.specs.Element.{Elem, 𝟘, _⊕_, _⊗_}
 use Rattle.field.proofs.ElementLaws.{primeRing}
 use Rattle.domain.specs.Domain.{element, vanishing}
-use Rattle.domain.specs.Polynomial.{Poly, eval, plus, minus, scale, quotient, vanishingPoly, interpolate, valuesOn}
+use Rattle.domain.specs.Polynomial.{Poly, eval, minus, scale, quotient, interpolate, valuesOn}
 use Rattle.domain.specs.Qualifies.{Qualifies}
 use Rattle.domain.proofs.ListLaws.{equal-entries}
 use Rattle.domain.proofs.SizeLaws.{size-positive, size-divides, size-quotient-positive}

@@ -7,7 +7,7 @@ use Rattle.field.specs.Element.{Elem, of, _⊕_, _⊗_, _⊖_, equal}
 use Rattle.field.specs.Power.{_⊘_}
 use Rattle.domain.specs.Domain.{vanishing}
 use Rattle.domain.specs.Polynomial.{eval, interpolate}
-use Rattle.protocol.specs.Three.{MatrixName, Three, at, each, listed, mapThree, sumMatrices}
+use Rattle.protocol.specs.Three.{MatrixName, Three, at, listed, mapThree, sumMatrices}
 use Rattle.protocol.specs.Circuit.{Sizes, largest}
 use Rattle.protocol.specs.Index.{Index, mapIndex, listIndex}
 

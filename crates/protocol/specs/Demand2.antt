@@ -2,7 +2,6 @@
 -- was written, honest proofs are accepted, and the verdict is what the equations say. Statements only; the proofs are in
 -- proofs/. Assumes nothing.
 use mathlib.Core.Path.{_≡_}
-use mathlib.Core.Logic.{_≢_, _↔_}
 use mathlib.Core.List.{List, [], _∷_, _++_, map, foldr}
 use mathlib.Core.Option.{none}
 use Prim.Native.Nat.{ℕ, _<_}

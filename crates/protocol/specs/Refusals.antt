@@ -3,7 +3,7 @@
 use mathlib.Core.Bool.{Bool, true, false, not, _&&_, _||_}
 use mathlib.Core.List.{List, [], _∷_, _++_, map}
 use mathlib.Core.Option.{Option, none, some}
-use Prim.Native.Nat.{ℕ, suc, _+_, _-_, _%_}
+use Prim.Native.Nat.{ℕ, suc, _-_, _%_}
 use lib.Dec.{eqb, leb, ltb}
 use Rattle.algebra.specs.Lists.{tabulate}
 use Rattle.field.specs.Prime.{Prime}

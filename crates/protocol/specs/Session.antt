@@ -7,9 +7,9 @@ use Prim.Native.Nat.{ℕ, suc, _-_}
 use lib.Dec.{eqb}
 use lib.ListN.{length, take, replicate}
 use Rattle.field.specs.Prime.{Prime}
-use Rattle.field.specs.Element.{Elem, of}
+use Rattle.field.specs.Element.{of}
 use Rattle.domain.specs.Size.{maxSize}
-use Rattle.protocol.specs.Three.{MatrixName, Three, each, listed}
+use Rattle.protocol.specs.Three.{Three, each, listed}
 use Rattle.protocol.specs.Circuit.{Sizes, largest}
 use Rattle.protocol.specs.Checks.{Heard, Openings, mapHeard, mapOpenings, listOpenings, Verdict, verdict}
 use Rattle.protocol.specs.Messages.{Messages, lengths}

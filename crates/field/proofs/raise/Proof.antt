@@ -2,7 +2,7 @@
 use borrow.Author.Needs.{needs}
 use mathlib.Core.Path.{_≡_, sym, ap, ap₂, _∙_}
 use mathlib.Core.Logic.{⊎-elim}
-use Prim.Native.Nat.{ℕ, _<_, _%_, _/_}
+use Prim.Native.Nat.{ℕ, _<_, _/_}
 use native.Mathlib.Omega.{arith}
 use Rattle.algebra.specs.Ring.{pow}
 use Rattle.algebra.proofs.RingLaws.{one-mul}
