@@ -24,7 +24,7 @@ use Rattle.protocol.specs.Index.{Index, mapIndex}
 use Rattle.protocol.specs.Checks.{Heard, Openings, mapHeard, mapOpenings, listOpenings, verdict}
 use Rattle.protocol.specs.Messages.{Messages, lengths}
 use Rattle.protocol.specs.Refusals.{Refusal, sizeTests, sixSizeTests, turnRefusal, sizeRefusal, listRefusal, wordRefusal, challengeRefusal, lengthRefusal}
-use Rattle.protocol.specs.Session.{Session, Stepped, Taken, Judged, unopened, silence, unless, onward, all, inTurn, openStep, verdictOf, alphaStep, etaStep, betaStep, deltaStep, gammaStep, openingsStep}
+use Rattle.protocol.specs.Session.{Session, Stepped, Taken, Judged, unopened, silence, unless, onward, all, inTurn, openStep, verdictOf, alphaStep, etaStep, betaStep, deltaStep, gammaStep, openingsStep, openRefusal, alphaRefusal, etaRefusal, betaRefusal, deltaRefusal, gammaRefusal, openingsRefusal}
 use Rattle.protocol.specs.Job.{Job, jobWords, publicWords, conversation}
 use Rattle.protocol.proofs.AdmissionLaws.{WellFormed, JobFits}
 use Rattle.protocol.proofs.IndexPolynomials.{K-size}
@@ -126,16 +126,16 @@ module _ (q : Prime) (j : Job) (F : JobFits q j) (p : Messages (Poly q) (Elem q)
   unfolding publicPart sizesOf
   length-x = length-map x _ ∙ length-tabulate (c .X) _
 
-  in-turn : (n : ℕ) (h : Heard ℕ) → turnRefusal (inTurn n (state n h)) ≡ none
+  in-turn : (n : ℕ) → turnRefusal (inTurn n n s) ≡ none
   unfolding turnRefusal inTurn
-  in-turn n h = none-refuse 1 0 (inTurn n (state n h) ∷ []) (ap₂ _&&_ (eq-eqb n n refl) (all-true (sixSizeTests s) (six-sizes q c (F .circuit-fits))), tt)
+  in-turn n = none-refuse 1 0 (inTurn n n s ∷ []) (ap₂ _&&_ (eq-eqb n n refl) (all-true (sixSizeTests s) (six-sizes q c (F .circuit-fits))), tt)
 
   allowed : (position n : ℕ) (y : Elem q) → Outside n y → challengeRefusal position (n ∷ []) (y ∷ []) ≡ none
   unfolding challengeRefusal
   allowed position n y outside = none-refuse 10 position (not (inside n y) ∷ []) (ap not outside, tt)
 
   open-taken : openStep q unopened s (publicWords q j) ≡ taken 1 silence
-  unfolding openStep publicWords sizeRefusal listRefusal
+  unfolding openStep openRefusal publicWords sizeRefusal listRefusal
   open-taken =
       unless-none _ unopened (taken 1 silence)
       (none-first (sizeRefusal (sixSizeTests s) ∷ listRefusal (eqb (length (words x)) (s .X) ∷ []) ∷ wordRefusal q (words x) ∷ []) (
@@ -163,14 +163,14 @@ module _ (q : Prime) (j : Job) (F : JobFits q j) (p : Messages (Poly q) (Elem q)
   table = lengths s
 
   alpha-taken : alphaStep q (state 1 silence) (length (p .witness)) (length (p .mask)) (length (p .rowQuotient)) (j .α) ≡ taken 2 afterAlpha
-  unfolding alphaStep
+  unfolding alphaStep alphaRefusal
   alpha-taken =
       let declared : List ℕ = length (p .witness) ∷ length (p .mask) ∷ length (p .rowQuotient) ∷ [] in
       let most : List ℕ = table .witness ∷ table .mask ∷ table .rowQuotient ∷ [] in
       unless-none _ (state 1 silence) (taken 2 afterAlpha)
       (none-first
-      (turnRefusal (inTurn 1 (state 1 silence)) ∷ wordRefusal q (j .α ∷ []) ∷ challengeRefusal 0 (s .R ∷ []) (of (j .α) ∷ []) ∷ lengthRefusal declared most ∷ []) (
-        in-turn 1 silence,
+      (turnRefusal (inTurn 1 1 s) ∷ wordRefusal q (j .α ∷ []) ∷ challengeRefusal 0 (s .R ∷ []) (of (j .α) ∷ []) ∷ lengthRefusal declared most ∷ []) (
+        in-turn 1,
         (
           none-wordRefusal q (j .α ∷ []) (below .α-below, tt),
           (
@@ -184,24 +184,24 @@ module _ (q : Prime) (j : Job) (F : JobFits q j) (p : Messages (Poly q) (Elem q)
       α-outside = unfold sizesOf in F .α-outside
 
   eta-taken : etaStep q (state 2 afterAlpha) (mapThree word (p .sums)) (j .η) ≡ taken 3 afterEta
-  unfolding etaStep
+  unfolding etaStep etaRefusal
   eta-taken =
       let ws : List ℕ = listed (mapThree word (p .sums)) ++ listed (j .η) in
       unless-none _ (state 2 afterAlpha) (taken 3 afterEta)
-      (none-first (turnRefusal (inTurn 2 (state 2 afterAlpha)) ∷ wordRefusal q ws ∷ []) (
-        in-turn 2 afterAlpha,
+      (none-first (turnRefusal (inTurn 2 2 s) ∷ wordRefusal q ws ∷ []) (
+        in-turn 2,
         (none-wordRefusal q ws (all-append (λ w. w < q .p) (words (listed (p .sums))) (listed (j .η)) (words-below (listed (p .sums))) (below .η-below)), tt),
       ))
 
   beta-taken : betaStep q (state 3 afterEta) (length (p .lineRemainder)) (length (p .lineQuotient)) (j .β) ≡ taken 4 afterBeta
-  unfolding betaStep
+  unfolding betaStep betaRefusal
   beta-taken =
       let declared : List ℕ = length (p .lineRemainder) ∷ length (p .lineQuotient) ∷ [] in
       let most : List ℕ = table .lineRemainder ∷ table .lineQuotient ∷ [] in
       unless-none _ (state 3 afterEta) (taken 4 afterBeta)
       (none-first
-      (turnRefusal (inTurn 3 (state 3 afterEta)) ∷ wordRefusal q (j .β ∷ []) ∷ challengeRefusal 1 (s .C ∷ []) (of (j .β) ∷ []) ∷ lengthRefusal declared most ∷ []) (
-        in-turn 3 afterEta,
+      (turnRefusal (inTurn 3 3 s) ∷ wordRefusal q (j .β ∷ []) ∷ challengeRefusal 1 (s .C ∷ []) (of (j .β) ∷ []) ∷ lengthRefusal declared most ∷ []) (
+        in-turn 3,
         (
           none-wordRefusal q (j .β ∷ []) (below .β-below, tt),
           (
@@ -215,14 +215,14 @@ module _ (q : Prime) (j : Job) (F : JobFits q j) (p : Messages (Poly q) (Elem q)
       β-outside = unfold sizesOf in F .β-outside
 
   delta-taken : deltaStep q (state 4 afterBeta) (mapThree word (p .values)) (mapThree length (p .matrixRemainders)) (j .δ) ≡ taken 5 afterDelta
-  unfolding deltaStep
+  unfolding deltaStep deltaRefusal
   delta-taken =
       let ws : List ℕ = listed (mapThree word (p .values)) ++ listed (j .δ) in
       let declared : List ℕ = listed (mapThree length (p .matrixRemainders)) in
       let most : List ℕ = listed (table .matrixRemainders) in
       unless-none _ (state 4 afterBeta) (taken 5 afterDelta)
-      (none-first (turnRefusal (inTurn 4 (state 4 afterBeta)) ∷ wordRefusal q ws ∷ lengthRefusal declared most ∷ []) (
-        in-turn 4 afterBeta,
+      (none-first (turnRefusal (inTurn 4 4 s) ∷ wordRefusal q ws ∷ lengthRefusal declared most ∷ []) (
+        in-turn 4,
         (
           none-wordRefusal q ws (all-append (λ w. w < q .p) (words (listed (p .values))) (listed (j .δ)) (words-below (listed (p .values))) (below .δ-below)),
           (none-lengthRefusal declared most (short .matrixRemainder-short A, (short .matrixRemainder-short B, (short .matrixRemainder-short C, tt))), tt),
@@ -230,14 +230,14 @@ module _ (q : Prime) (j : Job) (F : JobFits q j) (p : Messages (Poly q) (Elem q)
       ))
 
   gamma-taken : gammaStep q (state 5 afterDelta) (length (p .joinedQuotient)) (j .γ) ≡ taken 6 afterGamma
-  unfolding gammaStep
+  unfolding gammaStep gammaRefusal
   gamma-taken =
       let declared : List ℕ = length (p .joinedQuotient) ∷ [] in
       let most : List ℕ = table .joinedQuotient ∷ [] in
       unless-none _ (state 5 afterDelta) (taken 6 afterGamma)
       (none-first
-      (turnRefusal (inTurn 5 (state 5 afterDelta)) ∷ wordRefusal q (j .γ ∷ []) ∷ challengeRefusal 2 (largest (s .K) ∷ []) (of (j .γ) ∷ []) ∷ lengthRefusal declared most ∷ []) (
-        in-turn 5 afterDelta,
+      (turnRefusal (inTurn 5 5 s) ∷ wordRefusal q (j .γ ∷ []) ∷ challengeRefusal 2 (largest (s .K) ∷ []) (of (j .γ) ∷ []) ∷ lengthRefusal declared most ∷ []) (
+        in-turn 5,
         (
           none-wordRefusal q (j .γ ∷ []) (below .γ-below, tt),
           (allowed 2 (largest (s .K)) (of (j .γ)) (F .γ-outside), (none-lengthRefusal declared most (short .joinedQuotient-short, tt), tt)),
@@ -265,12 +265,12 @@ module _ (q : Prime) (j : Job) (F : JobFits q j) (p : Messages (Poly q) (Elem q)
       }
 
   openings-judged : openingsStep q (state 6 afterGamma) (mapOpenings word o) .answer ≡ Judged (verdict s x heard o)
-  unfolding openingsStep verdictOf
+  unfolding openingsStep openingsRefusal verdictOf
   openings-judged =
       let ws : List ℕ = listOpenings (mapOpenings word o) in
       ap (λ (t : Stepped). t .answer)
       (unless-none _ (state 6 afterGamma) (onward (state 6 afterGamma) afterGamma (Judged (verdictOf q (state 6 afterGamma) (mapOpenings word o))))
-      (none-first (turnRefusal (inTurn 6 (state 6 afterGamma)) ∷ wordRefusal q ws ∷ []) (in-turn 6 afterGamma, (none-wordRefusal q ws (words-below (listOpenings o)), tt))))
+      (none-first (turnRefusal (inTurn 6 6 s) ∷ wordRefusal q ws ∷ []) (in-turn 6, (none-wordRefusal q ws (words-below (listOpenings o)), tt))))
       ∙ ap (λ x. Judged (verdict s x (mapHeard of afterGamma) (mapOpenings of (mapOpenings word o)))) public-back
       ∙ ap₂ (λ h o. Judged (verdict s x h o)) heard-back (openings-back o)
 

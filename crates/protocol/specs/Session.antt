@@ -62,94 +62,103 @@ all [] = true
 all (b ∷ l) = b && all l
 
 -- the step after the first n is in turn: n steps were taken, and the sizes are allowed, as opening leaves them
-unfoldable pub inTurn : ℕ → Session → Bool
-inTurn n s = eqb (s .stage) n && all (sixSizeTests (s .sizes))
+unfoldable pub inTurn : ℕ → ℕ → Sizes → Bool
+inTurn n stage s = eqb stage n && all (sixSizeTests s)
 
+-- what refuses each step, from the stage and the sizes of the session, in the order of the table
 module _ (q : Prime) where
-  -- "open (the six sizes in trailer order, x)"; "opening makes a new session", and is never out of turn
-  unfoldable pub openStep : Session → Sizes → List ℕ → Stepped
-  openStep s n x =
-      unless
-      (first (sizeRefusal (sixSizeTests n) ∷ listRefusal (eqb (length x) (n .X) ∷ []) ∷ wordRefusal q x ∷ []))
-      s
-      (record { session = record { stage = 1; sizes = n; x = x ++ replicate (maxSize - length x) 0; heard = silence }; answer = Taken })
+  unfoldable pub openRefusal : Sizes → List ℕ → Option Refusal
+  openRefusal s x = first (sizeRefusal (sixSizeTests s) ∷ listRefusal (eqb (length x) (s .X) ∷ []) ∷ wordRefusal q x ∷ [])
 
-  -- the verdict on openings, of a session that has heard all before them
-  unfoldable pub verdictOf : Session → Openings ℕ → Verdict
-  verdictOf s o = verdict (s .sizes) (map (of {q = q}) (take (s .sizes .X) (s .x))) (mapHeard of (s .heard)) (mapOpenings of o)
-
-  module _ (s : Session) where
+  module _ (stage : ℕ) (s : Sizes) where
     abbrev table : Messages ℕ ℕ
-    table = lengths (s .sizes)
+    table = lengths s
 
-    -- "lengths of ŵ, m, h0, then α"
-    unfoldable pub alphaStep : ℕ → ℕ → ℕ → ℕ → Stepped
-    alphaStep witness mask rowQuotient α =
-        let h : Heard ℕ = s .heard in
-        unless
-        (first
-        (turnRefusal (inTurn 1 s)
+    unfoldable pub alphaRefusal : ℕ → ℕ → ℕ → ℕ → Option Refusal
+    alphaRefusal witness mask rowQuotient α =
+        first
+        (turnRefusal (inTurn 1 stage s)
         ∷ wordRefusal q (α ∷ [])
-        ∷ challengeRefusal {q = q} 0 (s .sizes .R ∷ []) (of α ∷ [])
+        ∷ challengeRefusal {q = q} 0 (s .R ∷ []) (of α ∷ [])
         ∷ lengthRefusal (witness ∷ mask ∷ rowQuotient ∷ []) (table .witness ∷ table .mask ∷ table .rowQuotient ∷ [])
-        ∷ []))
-        s
-        (onward s (record { α = α; sums = h .sums; η = h .η; β = h .β; values = h .values; δ = h .δ; γ = h .γ }) Taken)
+        ∷ [])
 
-    -- "the three σ, then the three η"
-    unfoldable pub etaStep : Three ℕ → Three ℕ → Stepped
-    etaStep sums η =
-        let h : Heard ℕ = s .heard in
-        unless
-        (first (turnRefusal (inTurn 2 s) ∷ wordRefusal q (listed sums ++ listed η) ∷ []))
-        s
-        (onward s (record { α = h .α; sums = sums; η = η; β = h .β; values = h .values; δ = h .δ; γ = h .γ }) Taken)
+    unfoldable pub etaRefusal : Three ℕ → Three ℕ → Option Refusal
+    etaRefusal sums η = first (turnRefusal (inTurn 2 stage s) ∷ wordRefusal q (listed sums ++ listed η) ∷ [])
 
-    -- "lengths of g1, h1, then β"
-    unfoldable pub betaStep : ℕ → ℕ → ℕ → Stepped
-    betaStep lineRemainder lineQuotient β =
-        let h : Heard ℕ = s .heard in
-        unless
-        (first
-        (turnRefusal (inTurn 3 s)
+    unfoldable pub betaRefusal : ℕ → ℕ → ℕ → Option Refusal
+    betaRefusal lineRemainder lineQuotient β =
+        first
+        (turnRefusal (inTurn 3 stage s)
         ∷ wordRefusal q (β ∷ [])
-        ∷ challengeRefusal {q = q} 1 (s .sizes .C ∷ []) (of β ∷ [])
+        ∷ challengeRefusal {q = q} 1 (s .C ∷ []) (of β ∷ [])
         ∷ lengthRefusal (lineRemainder ∷ lineQuotient ∷ []) (table .lineRemainder ∷ table .lineQuotient ∷ [])
-        ∷ []))
-        s
-        (onward s (record { α = h .α; sums = h .sums; η = h .η; β = β; values = h .values; δ = h .δ; γ = h .γ }) Taken)
+        ∷ [])
 
-    -- "the three ω and lengths of g_M, then the three δ"
-    unfoldable pub deltaStep : Three ℕ → Three ℕ → Three ℕ → Stepped
-    deltaStep values matrixRemainders δ =
-        let h : Heard ℕ = s .heard in
-        unless
-        (first
-        (turnRefusal (inTurn 4 s)
+    unfoldable pub deltaRefusal : Three ℕ → Three ℕ → Three ℕ → Option Refusal
+    deltaRefusal values matrixRemainders δ =
+        first
+        (turnRefusal (inTurn 4 stage s)
         ∷ wordRefusal q (listed values ++ listed δ)
         ∷ lengthRefusal (listed matrixRemainders) (listed (table .matrixRemainders))
-        ∷ []))
-        s
-        (onward s (record { α = h .α; sums = h .sums; η = h .η; β = h .β; values = values; δ = δ; γ = h .γ }) Taken)
+        ∷ [])
 
-    -- "length of h2, then γ"
-    unfoldable pub gammaStep : ℕ → ℕ → Stepped
-    gammaStep joinedQuotient γ =
-        let h : Heard ℕ = s .heard in
-        unless
-        (first
-        (turnRefusal (inTurn 5 s)
+    unfoldable pub gammaRefusal : ℕ → ℕ → Option Refusal
+    gammaRefusal joinedQuotient γ =
+        first
+        (turnRefusal (inTurn 5 stage s)
         ∷ wordRefusal q (γ ∷ [])
-        ∷ challengeRefusal {q = q} 2 (largest (s .sizes .K) ∷ []) (of γ ∷ [])
+        ∷ challengeRefusal {q = q} 2 (largest (s .K) ∷ []) (of γ ∷ [])
         ∷ lengthRefusal (joinedQuotient ∷ []) (table .joinedQuotient ∷ [])
-        ∷ []))
-        s
-        (onward s (record { α = h .α; sums = h .sums; η = h .η; β = h .β; values = h .values; δ = h .δ; γ = γ }) Taken)
+        ∷ [])
 
-    -- "openings", and the verdict; "After the verdict every step is out of turn"
-    unfoldable pub openingsStep : Openings ℕ → Stepped
-    openingsStep o =
-        unless
-        (first (turnRefusal (inTurn 6 s) ∷ wordRefusal q (listOpenings o) ∷ []))
-        s
-        (onward s (s .heard) (Judged (verdictOf s o)))
+    unfoldable pub openingsRefusal : Openings ℕ → Option Refusal
+    openingsRefusal o = first (turnRefusal (inTurn 6 stage s) ∷ wordRefusal q (listOpenings o) ∷ [])
+
+module _ (q : Prime) (s : Session) where
+  abbrev h : Heard ℕ
+  h = s .heard
+
+  -- "open (the six sizes in trailer order, x)"; "opening makes a new session", and is never out of turn
+  unfoldable pub openStep : Sizes → List ℕ → Stepped
+  openStep n x =
+      unless (openRefusal q n x) s
+      (record { session = record { stage = 1; sizes = n; x = x ++ replicate (maxSize - length x) 0; heard = silence }; answer = Taken })
+
+  -- "lengths of ŵ, m, h0, then α"
+  unfoldable pub alphaStep : ℕ → ℕ → ℕ → ℕ → Stepped
+  alphaStep witness mask rowQuotient α =
+      unless (alphaRefusal q (s .stage) (s .sizes) witness mask rowQuotient α) s
+      (onward s (record { α = α; sums = h .sums; η = h .η; β = h .β; values = h .values; δ = h .δ; γ = h .γ }) Taken)
+
+  -- "the three σ, then the three η"
+  unfoldable pub etaStep : Three ℕ → Three ℕ → Stepped
+  etaStep sums η =
+      unless (etaRefusal q (s .stage) (s .sizes) sums η) s
+      (onward s (record { α = h .α; sums = sums; η = η; β = h .β; values = h .values; δ = h .δ; γ = h .γ }) Taken)
+
+  -- "lengths of g1, h1, then β"
+  unfoldable pub betaStep : ℕ → ℕ → ℕ → Stepped
+  betaStep lineRemainder lineQuotient β =
+      unless (betaRefusal q (s .stage) (s .sizes) lineRemainder lineQuotient β) s
+      (onward s (record { α = h .α; sums = h .sums; η = h .η; β = β; values = h .values; δ = h .δ; γ = h .γ }) Taken)
+
+  -- "the three ω and lengths of g_M, then the three δ"
+  unfoldable pub deltaStep : Three ℕ → Three ℕ → Three ℕ → Stepped
+  deltaStep values matrixRemainders δ =
+      unless (deltaRefusal q (s .stage) (s .sizes) values matrixRemainders δ) s
+      (onward s (record { α = h .α; sums = h .sums; η = h .η; β = h .β; values = values; δ = δ; γ = h .γ }) Taken)
+
+  -- "length of h2, then γ"
+  unfoldable pub gammaStep : ℕ → ℕ → Stepped
+  gammaStep joinedQuotient γ =
+      unless (gammaRefusal q (s .stage) (s .sizes) joinedQuotient γ) s
+      (onward s (record { α = h .α; sums = h .sums; η = h .η; β = h .β; values = h .values; δ = h .δ; γ = γ }) Taken)
+
+  -- the verdict on openings, where all before them has been heard
+  unfoldable pub verdictOf : Openings ℕ → Verdict
+  verdictOf o = verdict (s .sizes) (map (of {q = q}) (take (s .sizes .X) (s .x))) (mapHeard of h) (mapOpenings of o)
+
+  -- "openings", and the verdict; "After the verdict every step is out of turn"
+  unfoldable pub openingsStep : Openings ℕ → Stepped
+  openingsStep o = unless (openingsRefusal q (s .stage) (s .sizes) o) s (onward s h (Judged (verdictOf o)))
