@@ -1,7 +1,12 @@
 pub mod Qualification
 pub mod ListLaws
 pub mod SizeLaws
+pub mod SizeDigits
+pub mod RootTable
 pub mod DomainLaws
+pub mod Membership
 pub mod Interpolation
 pub mod Lagrange
 pub mod Division
+pub mod Fill
+pub mod ExactDivision

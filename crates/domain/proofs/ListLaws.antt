@@ -1,6 +1,6 @@
 -- Laws of lists made, searched or compared by a rule: the tests `any` and `firstOr`, the members of `tabulate`, and
--- equality by entries. Assumes nothing.
-use mathlib.Core.Path.{_≡_, refl, ap, ap₂}
+-- equality by entries; and when two tests are the same. Assumes nothing.
+use mathlib.Core.Path.{_≡_, refl, sym, ap, ap₂, _∙_}
 use mathlib.Core.Bool.{Bool, true, false, _||_, false≢true}
 use mathlib.Core.List.{List, [], _∷_, map}
 use Prim.Native.Nat.{ℕ, zero, suc, _<_}
@@ -8,6 +8,13 @@ use native.Mathlib.Omega.{arith}
 use lib.ListN.{length, getD}
 use Rattle.algebra.specs.Lists.{pick, tabulate, any, firstOr}
 use Rattle.algebra.specs.Counting.{All}
+use Rattle.algebra.proofs.Choice.{pick-true, pick-false}
+
+-- two tests that pass together are the same
+pub same-test : (a b : Bool) → (a ≡ true → b ≡ true) → (b ≡ true → a ≡ true) → a ≡ b
+same-test true b to from = sym (to refl)
+same-test false true to from = from refl
+same-test false false to from = refl
 
 module _ {A : Type 0} where
   -- a test that some entry passes is passed by an entry that is known
@@ -46,6 +53,20 @@ module _ {A : Type 0} where
       go : (b : Bool) → t x ≡ b → t (firstOr d t l) ≡ true → t (pick b x (firstOr d t l)) ≡ true
       go true e r = unfold pick in e
       go false e r = unfold pick in r
+
+  -- the first of a rule's values that passes
+  pub firstOr-tabulate : (d : A) (t : A → Bool) (n k : ℕ) (f : ℕ → A) → k < n → ((j : ℕ) → j < k → t (f j) ≡ false) → t (f k) ≡ true
+      → firstOr d t (tabulate n f) ≡ f k
+  firstOr-tabulate d t zero k f l before h = absurd (omega arith)
+  firstOr-tabulate d t (suc n) zero f l before h = pick-true (f 0) _ h
+  firstOr-tabulate d t (suc n) (suc k) f l before h = pick-false (f 0) _ (before 0 (omega arith))
+      ∙ firstOr-tabulate d t n k (λ i. f (suc i)) (omega arith) (λ j m. before (suc j) (omega arith)) h
+
+  pub firstOr-none : (d : A) (t : A → Bool) (n : ℕ) (f : ℕ → A) → ((j : ℕ) → j < n → t (f j) ≡ false)
+      → firstOr d t (tabulate n f) ≡ d
+  firstOr-none d t zero f fails = refl
+  firstOr-none d t (suc n) f fails = pick-false (f 0) _ (fails 0 (omega arith))
+      ∙ firstOr-none d t n (λ i. f (suc i)) (λ j m. fails (suc j) (omega arith))
 
   pub equal-entries : (d : A) (l m : List A) → length l ≡ length m → ((i : ℕ) → i < length l → getD l i d ≡ getD m i d) → l ≡ m
   equal-entries d [] [] e h = refl

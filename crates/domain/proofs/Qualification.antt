@@ -23,7 +23,7 @@ use Rattle.domain.specs.Domain.{root}
 use Rattle.domain.specs.Qualifies.{Qualifies}
 use Rattle.domain.specs.BabyBear.{babyBear}
 
-one-word : (q : Prime) → 𝟙 {q = q} .word ≡ 1
+pub one-word : (q : Prime) → 𝟙 {q = q} .word ≡ 1
 unfolding of
 one-word q = mod-eq-of-lt (omega (arith, q .above-two))
 

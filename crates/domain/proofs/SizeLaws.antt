@@ -1,15 +1,16 @@
 -- The sizes are the eleven powers of two up to 1,024. The smaller of two divides the larger, each divides p - 1, and none is
--- 0 in the field. Assumes nothing.
+-- 0 in the field. Doubling from 1 finds the size of a count. Assumes nothing.
 use mathlib.Core.Path.{_≡_, refl, sym, ap, _∙_}
 use mathlib.Core.Logic.{_≢_}
 use mathlib.Core.Bool.{true}
 use Prim.Native.Nat.{ℕ, zero, suc, _+_, _-_, _*_, _/_, _^_, _≤_, _<_, max}
 use lib.Dec.{eqb, leb}
-use lib.Pow.{pow-add, pow-lt}
-use borrow.Author.Tests.{eqb-true, eq-eqb, leb-true, le-leb}
+use lib.Pow.{pow-add, pow-lt, pow-mono, pow-pos}
+use borrow.Author.Tests.{eqb-true, eq-eqb, leb-true, le-leb, lt-leb}
 use native.Mathlib.Omega.{arith}
-use native.Mathlib.Decide.{decLe}
-use native.Mathlib.Nat.{one-le-pow, pow-le-pow-right, mul-zero, mul-assoc, div-eq-of-eq-mul-right, max-eq-left, max-eq-right}
+use native.Mathlib.Decide.{decLe, decLt}
+use native.Mathlib.Nat.{not-suc-le-zero, one-le-pow, pow-suc, pow-le-pow-right, mul-zero, mul-assoc}
+use native.Mathlib.Nat.{div-eq-of-eq-mul-right, max-eq-left, max-eq-right}
 use Rattle.algebra.proofs.Counting.{all-tabulate}
 use Rattle.field.specs.Prime.{Prime}
 use Rattle.field.specs.Element.{of, 𝟘}
@@ -17,7 +18,7 @@ use Rattle.field.proofs.ElementLaws.{of-not-zero}
 use Rattle.domain.specs.Size.{maxSize, sizes, isSize, sizeFor}
 use Rattle.domain.specs.Qualifies.{Qualifies}
 use Rattle.domain.proofs.Qualification.{large-enough}
-use Rattle.domain.proofs.ListLaws.{any-tabulate, tabulate-any, firstOr-all, firstOr-passes}
+use Rattle.domain.proofs.ListLaws.{any-tabulate, tabulate-any, firstOr-all, firstOr-passes, firstOr-tabulate, firstOr-none}
 
 pub size-is-power : (n : ℕ) → isSize n ≡ true → (k : ℕ) × (k < 11) × (n ≡ 2 ^ k)
 unfolding isSize sizes
@@ -73,6 +74,48 @@ sizeFor-is-size count = firstOr-all (λ n. isSize n ≡ true) maxSize (leb count
 pub sizeFor-holds : (count : ℕ) → count ≤ maxSize → count ≤ sizeFor count
 unfolding sizeFor
 sizeFor-holds count le = leb-true count (sizeFor count) (firstOr-passes maxSize (leb count) sizes (le-leb count maxSize le))
+
+-- the size of a count is found by doubling: size is a power of two up to 1,024, and each lower one is below the count
+pub record Doubled (count size : ℕ) : Type 0 where
+  pub exponent : ℕ
+  pub limit : exponent < 11
+  pub power : size ≡ 2 ^ exponent
+  pub lower : (j : ℕ) → j < exponent → 2 ^ j < count
+
+pub doubled-none : (count : ℕ) → Doubled count 1
+doubled-none count = record { exponent = 0; limit = omega arith; power = refl; lower = λ j l. absurd (not-suc-le-zero l) }
+
+module _ {count size : ℕ} (d : Doubled count size) where
+  pub doubled-positive : 0 < size
+  doubled-positive = omega (arith, d .power, pow-pos (d .exponent))
+
+  pub doubled-turn : size < count → count ≤ maxSize → Doubled count (size * 2)
+  doubled-turn more most =
+      record {
+        exponent = suc (d .exponent);
+        limit = elim (decLt (d .exponent) 10) [
+          | yes l ↦ omega arith
+          | no m ↦ absurd (omega (arith, d .power, pow-mono {i = 10} {j = d .exponent} (omega arith)))
+        ];
+        power = ap (λ x. x * 2) (d .power) ∙ sym (pow-suc 2 (d .exponent));
+        lower = below;
+      }
+    where
+      below : (j : ℕ) → j < suc (d .exponent) → 2 ^ j < count
+      below j l = omega (arith, d .power, pow-mono {i = j} {j = d .exponent} (omega arith))
+
+  pub doubled-end : count ≤ size → size ≡ sizeFor count
+  unfolding sizeFor sizes
+  doubled-end enough =
+      d .power
+      ∙ sym
+      (firstOr-tabulate maxSize (leb count) 11 (d .exponent) (λ k. 2 ^ k) (d .limit) (λ j l. lt-leb count (2 ^ j) (d .lower j l))
+      (le-leb count (2 ^ d .exponent) (omega (arith, d .power))))
+
+pub sizeFor-past : (count : ℕ) → maxSize < count → sizeFor count ≡ maxSize
+unfolding sizeFor sizes
+sizeFor-past count h = firstOr-none maxSize (leb count) 11 (λ k. 2 ^ k)
+    (λ j m. lt-leb count (2 ^ j) (omega (arith, size-bound (2 ^ j) (power-is-size j m))))
 
 pub size-not-zero : {q : Prime} → Qualifies q → (n : ℕ) → isSize n ≡ true → of {q = q} n ≢ 𝟘
 size-not-zero {q} Q n s = of-not-zero n (size-positive n s) (omega (arith, size-bound n s, large-enough q Q))

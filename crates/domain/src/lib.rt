@@ -1,1 +1,116 @@
-// Sizes, domains and their polynomials.
+// Sizes, the generator table, and values on domains, on words. The modulus p is a parameter; words of p or more stand for their
+// remainders.
+ghost use mathlib.Core.Path.{_≡_};
+ghost use mathlib.Core.Bool.{true};
+ghost use Prim.Native.Nat.{_<_};
+ghost use lib.ListN.{length};
+ghost use Rattle.algebra.specs.Lists.{tabulate};
+ghost use Rattle.algebra.specs.Ring.{pow};
+ghost use Rattle.field.specs.Prime.{Prime};
+ghost use Rattle.field.specs.Element.{of, words};
+ghost use Rattle.field.proofs.ElementLaws.{primeRing};
+ghost use Rattle.domain.specs.Size.{isSize, sizeFor};
+ghost use Rattle.domain.specs.Domain.{root, inside, vanishing, lagrange};
+ghost use Rattle.domain.specs.Qualifies.{Qualifies};
+ghost use Rattle.domain.specs.Known.{Known};
+
+pub const MAX_SIZE: u32 = 1024;
+
+// The roots g_n of the module's prime for n = 1, 2, 4, .., 1,024.
+const ROOTS: [u32; 11] = [
+    1,
+    2013265920,
+    1728404513,
+    1592366214,
+    196396260,
+    760005850,
+    1721589904,
+    397765732,
+    1732600167,
+    1753498361,
+    341742893,
+];
+
+// A power of two from 1 to 1,024.
+pub fn is_size(n: u32) -> bool
+    ensures { λ r. ⌜ r ≡ isSize n ⌝ }
+{
+    if n > MAX_SIZE {
+        return false;
+    }
+    u32::count_ones(n) == 1
+}
+
+// The smallest size not below the count, 1,024 past it.
+pub fn size_for(count: u32) -> u32
+    ensures { λ r. ⌜ r ≡ sizeFor count ⌝ }
+{
+    if count > MAX_SIZE {
+        return MAX_SIZE;
+    }
+    let mut size: u32 = 1;
+    while size < count {
+        size = size * 2;
+    }
+    size
+}
+
+// g_n, from the table.
+pub fn root_of(p: u32, n: u32) -> u32
+    requires { ⌜ isSize n ≡ true ⌝ }
+    ensures { λ r. ⌜ ((q : Prime) → Known q p → r ≡ (root {q = q} n) .word) ⌝ }
+{
+    ROOTS[u32::trailing_zeros(n) as usize]
+}
+
+// 1, g, g², .. into the slice: each is the last one times g.
+pub fn fill_powers(p: u32, g: u32, out: &mut [u32])
+    requires { ⌜ 1 < p ⌝ }
+    ensures { λ _. ⌜ ((q : Prime) → q .p ≡ p → now (out .exit) ≡ words (tabulate (length (now (out .entry))) (pow (primeRing q) (of g)))) ⌝ }
+{
+    let mut power: u32 = 1;
+    let mut i = 0;
+    while i < out.len() {
+        out[i] = power;
+        power = field::multiply(p, power, g);
+        i += 1;
+    }
+}
+
+// v_D(y) = y^n - 1
+pub fn vanishing_value(p: u32, n: u32, y: u32) -> u32
+    requires { ⌜ 1 < p ⌝ }
+    ensures { λ r. ⌜ ((q : Prime) → q .p ≡ p → r ≡ (vanishing n (of {q = q} y)) .word) ⌝ }
+{
+    field::subtract(p, field::raise(p, y, n), 1)
+}
+
+// y is in the domain of size n: decided by y^n = 1.
+pub fn is_inside(p: u32, n: u32, y: u32) -> bool
+    requires { ⌜ 1 < p ⌝ }
+    requires { ⌜ isSize n ≡ true ⌝ }
+    ensures { λ r. ⌜ ((q : Prime) → Qualifies q → q .p ≡ p → r ≡ inside n (of {q = q} y)) ⌝ }
+{
+    field::raise(p, y, n) == 1
+}
+
+// L_a(y) of the domain of size n.
+pub fn lagrange_value(p: u32, n: u32, a: u32, y: u32) -> u32
+    requires { ⌜ 1 < p ⌝ }
+    requires { ⌜ isSize n ≡ true ⌝ }
+    ensures { λ r. ⌜ ((q : Prime) → Qualifies q → q .p ≡ p → r ≡ (lagrange n (of {q = q} a) (of y)) .word) ⌝ }
+{
+    let v = vanishing_value(p, n, y);
+    let difference = field::subtract(p, y, a);
+    if v == 0 {
+        // On the domain: 1 where y and a are the same element.
+        if difference == 0 {
+            return 1;
+        }
+        return 0;
+    }
+    // Off it: a·v / (n·(y - a)).
+    let divisor = field::multiply(p, n, difference);
+    let dividend = field::multiply(p, a, v);
+    field::multiply(p, dividend, field::invert(p, divisor))
+}

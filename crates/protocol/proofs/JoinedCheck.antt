@@ -32,7 +32,7 @@ use Rattle.protocol.proofs.LinearCounting.{linear, linear-solutions}
 use Rattle.protocol.proofs.MatrixPolynomials.{sizeK, sizeK-positive, largest-size, within-largest}
 use Rattle.protocol.proofs.MatrixPolynomials.{matrixPoly, eval-matrixPoly, length-matrixPoly}
 use Rattle.protocol.proofs.ThreeLaws.{at-each}
-use Rattle.protocol.proofs.ExactDivision.{vanishing-on, quotient-recovers}
+use Rattle.domain.proofs.ExactDivision.{vanishing-on, quotient-recovers}
 use Rattle.protocol.proofs.JoinedPolynomials.{sumMatrices-ext, sumPolys, eval-sumPolys, length-sumPolys}
 use Rattle.protocol.proofs.JoinedPolynomials.{share, cofactor, eval-cofactor, selector-is, share-cofactor}
 use Rattle.protocol.proofs.MatrixCheck.{matrix-length, vanishing-parts}

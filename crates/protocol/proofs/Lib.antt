@@ -16,7 +16,6 @@ pub mod Witness
 pub mod Conversation
 pub mod MatrixPolynomials
 pub mod MatrixSum
-pub mod ExactDivision
 pub mod MatrixCheck
 pub mod JoinedPolynomials
 pub mod JoinedRule

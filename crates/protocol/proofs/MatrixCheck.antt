@@ -35,7 +35,7 @@ use Rattle.protocol.proofs.AdmissionLaws.{WellFormed, admitted-well-for
 use Rattle.protocol.proofs.IndexPolynomials.{K-size}
 use Rattle.protocol.proofs.ThreeLaws.{at-each}
 use Rattle.protocol.proofs.MessagePolynomials.{eval-minus}
-use Rattle.protocol.proofs.ExactDivision.{vanishing-on, quotient-recovers, constant-of-sum}
+use Rattle.domain.proofs.ExactDivision.{vanishing-on, quotient-recovers, constant-of-sum}
 use Rattle.protocol.proofs.MatrixPolynomials.{sizeK, sizeK-positive, largest-size, within-largest}
 use Rattle.protocol.proofs.MatrixPolynomials.{matrixPoly, eval-matrixPoly, length-matrixPoly}
 use Rattle.protocol.proofs.MatrixSum.{denominator-not-zero, sum-of-ratios}
