@@ -2,23 +2,23 @@
 -- row. Assumes nothing.
 use mathlib.Core.Path.{_≡_, sym, ap, ap₂, _∙_}
 use Prim.Native.Nat.{ℕ, _+_, _-_, _*_, _<_}
-use lib.ListN.{length, replicate, length-replicate}
+use lib.ListN.{length}
 use native.Mathlib.Omega.{arith}
 use Rattle.algebra.specs.Counting.{MoreThan}
 use Rattle.algebra.proofs.Counting.{all-map}
 use Rattle.algebra.proofs.Division.{length-quotient}
-use Rattle.algebra.proofs.PolynomialLaws.{eval-replicate-zero}
 use Rattle.algebra.proofs.RingLaws.{sub-zero→eq, eq→sub-zero, mul-zero}
 use Rattle.field.specs.Prime.{Prime}
-use Rattle.field.specs.Element.{Elem, 𝟘, _⊕_, _⊗_, _⊖_}
-use Rattle.field.proofs.ElementLaws.{add-zero, primeRing}
+use Rattle.field.specs.Element.{Elem, _⊗_, _⊖_}
+use Rattle.field.proofs.ElementLaws.{primeRing}
 use Rattle.domain.specs.Domain.{Outside, element, vanishing}
-use Rattle.domain.specs.Polynomial.{Poly, eval, quotient, remainder, valuesOn}
+use Rattle.domain.specs.Polynomial.{Poly, eval, valuesOn}
 use Rattle.domain.specs.Qualifies.{Qualifies}
 use Rattle.domain.proofs.Qualification.{large-enough}
 use Rattle.domain.proofs.SizeLaws.{size-positive, size-bound}
-use Rattle.domain.proofs.DomainLaws.{inside-element, vanishing-inside, outside-many}
-use Rattle.domain.proofs.Division.{divide, vanishing-divides, division-recovers}
+use Rattle.domain.proofs.DomainLaws.{outside-many}
+use Rattle.domain.proofs.Division.{vanishing-divides}
+use Rattle.domain.proofs.ExactDivision.{vanishing-on, quotient-recovers}
 use Rattle.protocol.specs.Three.{A, B, C}
 use Rattle.protocol.specs.Circuit.{Circuit, sizesOf, rowSum, Satisfied}
 use Rattle.protocol.specs.Checks.{rowLeft, rowRight}
@@ -58,30 +58,22 @@ module _ {q : Prime} (Q : Qualifies q) (c : Circuit) (W : WellFormed q c) (ẑ :
   abbrev Equal : Poly q → Elem q → Type 0
   Equal h0 y = rowLeft (sums c ẑ y) ≡ rowRight (sizesOf c) y (eval h0 y)
 
-  -- enough equal points: h0 is the quotient, and there is no remainder
+  -- enough equal points: h0 is the quotient, and the sides are equal everywhere
   recovered :
       (h0 : Poly q) → length h0 ≡ lengths (sizesOf c) .rowQuotient → MoreThan (2 * c .R - 2) (λ y. Outside (c .R) y × Equal h0 y)
-      → (rowQuotient c ẑ ≡ h0) × (remainder (c .R) f ≡ replicate (c .R) 𝟘)
+      → (rowQuotient c ẑ ≡ h0) × ((y : Elem q) → eval f y ≡ eval h0 y ⊗ vanishing (c .R) y)
   unfolding rowRight rowQuotient lengths sizesOf
   recovered h0 fits (l, distinct, equal, more) =
-      division-recovers Q (c .R) (W .R-size) f h0 (replicate (c .R) 𝟘)
-      (omega (arith, length-rowPoly Q c W ẑ, R-positive)) (omega (arith, length-rowPoly Q c W ẑ, R-positive)) (length-replicate (c .R) 𝟘)
-      (2 * c .R - 2) (omega (arith, length-rowPoly Q c W ẑ, R-positive)) (
-        l,
-        distinct,
-        all-map (λ y e.
-            (e .0, eval-rowPoly Q c W ẑ y ∙ e .1 ∙ sym (ap (λ v. eval h0 y ⊗ vanishing (c .R) y ⊕ v) (eval-replicate-zero (primeRing q) (c .R) y) ∙ add-zero _))) l equal,
-        more,
-      )
+      quotient-recovers Q (c .R) (W .R-size) f h0
+      (omega (arith, length-rowPoly Q c W ẑ, R-positive)) (omega (arith, length-rowPoly Q c W ẑ, R-positive))
+      (2 * c .R - 2) (omega (arith, length-rowPoly Q c W ẑ, R-positive))
+      (l, distinct, all-map (λ y e. (e .0, eval-rowPoly Q c W ẑ y ∙ e .1)) l equal, more)
 
-  no-remainder-satisfied : remainder (c .R) f ≡ replicate (c .R) 𝟘 → Satisfied c (valuesOn (c .C) ẑ)
-  no-remainder-satisfied none i l =
-      let κ : Elem q = element (c .R) i in
-      let zero : vanishing (c .R) κ ≡ 𝟘 = vanishing-inside Q (c .R) (W .R-size) κ (inside-element Q (c .R) (W .R-size) i l) in
+  divided-satisfied : (h0 : Poly q) → ((y : Elem q) → eval f y ≡ eval h0 y ⊗ vanishing (c .R) y) → Satisfied c (valuesOn (c .C) ẑ)
+  divided-satisfied h0 divided i l =
       sub-zero→eq (primeRing q) _ _
-      (sym (left-on-rows i l) ∙ divide (c .R) R-positive f κ
-      ∙ ap₂ (λ v r. eval (quotient (c .R) f) κ ⊗ v ⊕ eval r κ) zero none
-      ∙ ap₂ _⊕_ (mul-zero (primeRing q) _) (eval-replicate-zero (primeRing q) (c .R) κ) ∙ add-zero 𝟘)
+      (sym (left-on-rows i l) ∙ divided (element (c .R) i)
+      ∙ ap (λ v. eval h0 (element (c .R) i) ⊗ v) (vanishing-on Q (c .R) (W .R-size) i l) ∙ mul-zero (primeRing q) _)
 
 pub row-means : {q : Prime} → Qualifies q → (S : Setting q) → RowMeans q S
 row-means {q} Q S =
@@ -92,11 +84,11 @@ row-means {q} Q S =
         (let (l, distinct, outside, more) = outside-many Q (c .R) (W .R-size) (2 * c .R - 2) room in
             (l, distinct, all-map (λ y o. (o, row-rule Q c W ẑ satisfied y)) l outside, more)),
       );
-      sound = λ h0 fits many. no-remainder-satisfied Q c W ẑ (recovered Q c W ẑ h0 fits many .1);
+      sound = λ h0 fits many. divided-satisfied Q c W ẑ h0 (recovered Q c W ẑ h0 fits many .1);
       unique = λ h0 k0 fits fits′ many many′. sym (recovered Q c W ẑ h0 fits many .0) ∙ recovered Q c W ẑ k0 fits′ many′ .0;
       everywhere = λ h0 fits many y outside.
           (let r = recovered Q c W ẑ h0 fits many in
-          row-rule Q c W ẑ (no-remainder-satisfied Q c W ẑ (r .1)) y
+          row-rule Q c W ẑ (divided-satisfied Q c W ẑ h0 (r .1)) y
           ∙ ap (λ h. rowRight (sizesOf c) y (eval h y)) (r .0));
     }
   where
