@@ -21,13 +21,13 @@ use Rattle.protocol.specs.Index.{Index, indexAt, rowElement, columnEleme
 use Rattle.protocol.proofs.AdmissionLaws.{WellFormed}
 
 -- a list of values with a filling after it: its members before the filling, and in it
-getD-map-append : {S T : Type 0} (f : S → T) (l : List S) (rest : List T) (i : ℕ) (d : S) (z : T) → i < length l
+pub getD-map-append : {S T : Type 0} (f : S → T) (l : List S) (rest : List T) (i : ℕ) (d : S) (z : T) → i < length l
     → getD (map f l ++ rest) i z ≡ f (getD l i d)
 getD-map-append f [] rest i d z h = absurd (omega arith)
 getD-map-append f (x ∷ l) rest zero d z h = refl
 getD-map-append f (x ∷ l) rest (suc i) d z h = getD-map-append f l rest i d z (omega arith)
 
-getD-append-replicate : {T : Type 0} (l : List T) (k i : ℕ) (a z : T) → length l ≤ i → i < k → getD (l ++ replicate (k - length l) a) i z ≡ a
+pub getD-append-replicate : {T : Type 0} (l : List T) (k i : ℕ) (a z : T) → length l ≤ i → i < k → getD (l ++ replicate (k - length l) a) i z ≡ a
 getD-append-replicate l k i a z le lt =
     let place : i ≡ length l + (i - length l) = omega arith in
     ap (λ j. getD (l ++ replicate (k - length l) a) j z) place

@@ -22,3 +22,4 @@ pub mod JoinedRule
 pub mod JoinedCheck
 pub mod Honest
 pub mod Demands
+pub mod ProverForms

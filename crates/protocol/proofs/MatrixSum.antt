@@ -63,7 +63,7 @@ module _ {q : Prime} (Q : Qualifies q) (c : Circuit) (W : WellFormed q c) (α β
       (product, tt) tt
 
   -- an entry's term of M̂(α,β)
-  abbrev term : Entry → Elem q
+  abbrev pub term : Entry → Elem q
   term e = of (e .value) ⊗ lagrange (c .R) (element (c .R) (e .row)) α ⊗ lagrange (c .C) (element (c .C) (e .column)) β
 
   module _ (i : ℕ) where
@@ -82,7 +82,7 @@ module _ {q : Prime} (Q : Qualifies q) (c : Circuit) (W : WellFormed q c) (α β
       unfolding rowElement columnElement
       entry-denominator = denominator-factors κ (entryIndex c e) (index-at-entry Q c W M i below _) refl
 
-      ratio-at-entry : eval (numerator c α β M) κ ⊘ eval (denominator c α β M) κ ≡ term e
+      pub ratio-at-entry : eval (numerator c α β M) κ ⊘ eval (denominator c α β M) κ ≡ term e
       unfolding numeratorValue sizesOf rowElement columnElement
       ratio-at-entry =
           let row : Elem q = element (c .R) (e .row) in
@@ -102,7 +102,7 @@ module _ {q : Prime} (Q : Qualifies q) (c : Circuit) (W : WellFormed q c) (α β
       unfolding element
       filling-denominator = denominator-factors κ fillingIndex (index-at-filling Q c W M i after within) (sym (mul-one 𝟙))
 
-      ratio-at-filling : eval (numerator c α β M) κ ⊘ eval (denominator c α β M) κ ≡ 𝟘
+      pub ratio-at-filling : eval (numerator c α β M) κ ⊘ eval (denominator c α β M) κ ≡ 𝟘
       unfolding numeratorValue
       ratio-at-filling =
           ap (λ x. x ⊘ eval (denominator c α β M) κ)
