@@ -26,11 +26,11 @@ use Rattle.protocol.specs.Job.{Job, jobWords, jobRefusal}
 use Rattle.protocol.proofs.RefusalLaws.{first-none, refuse-none, and-true, wordRefusal-none}
 
 -- an entry stands within its matrix, and its value is a field word other than 0
-pub record EntryFits (q : Prime) (c : Circuit) (e : Entry) : Type 0 where
+pub record EntryFits (p : ℕ) (c : Circuit) (e : Entry) : Type 0 where
   pub row-below : e .row < c .R
   pub column-below : e .column < c .C
   pub value-positive : 0 < e .value
-  pub value-below : e .value < q .p
+  pub value-below : e .value < p
 
 -- d stands before e: in an earlier row, or in the same row and an earlier column
 abbrev pub Before : Entry → Entry → Type 0
@@ -42,13 +42,13 @@ Rising [] = Unit {0}
 Rising (d ∷ []) = Unit {0}
 Rising (d ∷ (e ∷ l)) = Before d e × Rising (e ∷ l)
 
-pub record WellFormed (q : Prime) (c : Circuit) : Type 0 where
+pub record WellFormed (p : ℕ) (c : Circuit) : Type 0 where
   pub R-size : isSize (c .R) ≡ true
   pub C-size : isSize (c .C) ≡ true
   pub X-size : isSize (c .X) ≡ true
   pub X-within : c .X ≤ c .C
   pub few : (M : MatrixName) → length (at (c .matrices) M) ≤ maxSize
-  pub fit : (M : MatrixName) → All (EntryFits q c) (at (c .matrices) M)
+  pub fit : (M : MatrixName) → All (EntryFits p c) (at (c .matrices) M)
   pub rising : (M : MatrixName) → Rising (at (c .matrices) M)
 
 -- the entries' tests
@@ -67,7 +67,7 @@ rises-true d e t = go (or-true (ltb (d .row) (e .row)) _ t)
         inr (eqb-true (d .row) (e .row) (v .0), ltb-true (d .column) (e .column) (v .1))
 
 module _ (q : Prime) (c : Circuit) where
-  fits-true : (e : Entry) → fits c e ≡ true → e .value < q .p → EntryFits q c e
+  fits-true : (e : Entry) → fits c e ≡ true → e .value < q .p → EntryFits (q .p) c e
   unfolding fits
   fits-true e t below =
       let u = and-true (ltb (e .row) (c .R) && ltb (e .column) (c .C)) (not (eqb (e .value) 0)) t in
@@ -81,7 +81,7 @@ module _ (q : Prime) (c : Circuit) where
 
   entries-after :
       (d : Entry) (es : List Entry) → All (λ t. t ≡ true) (entryTestsAfter c d es) → All (λ (e : Entry). e .value < q .p) es
-      → All (EntryFits q c) es × Rising (d ∷ es)
+      → All (EntryFits (q .p) c) es × Rising (d ∷ es)
   unfolding entryTestsAfter
   entries-after d [] t below = (tt, tt)
   entries-after d (e ∷ es) t below =
@@ -90,7 +90,7 @@ module _ (q : Prime) (c : Circuit) where
       ((fits-true e (u .0) (below .0), rest .0), (rises-true d e (u .1), rest .1))
 
   entries-pass :
-      (es : List Entry) → All (λ t. t ≡ true) (entryTests c es) → All (λ (e : Entry). e .value < q .p) es → All (EntryFits q c) es × Rising es
+      (es : List Entry) → All (λ t. t ≡ true) (entryTests c es) → All (λ (e : Entry). e .value < q .p) es → All (EntryFits (q .p) c) es × Rising es
   unfolding entryTests
   entries-pass [] t below = (tt, tt)
   entries-pass (e ∷ es) t below =
@@ -105,7 +105,7 @@ module _ (q : Prime) (c : Circuit) where
   -- from the rows 4, 5, 6 and 7 of the circuit alone
   well-formed :
       sizeRefusal (sizeTests (c .R) (c .C) (c .X) []) ≡ none → All (λ t. t ≡ true) (countTests c)
-      → All (λ w. w < q .p) (entryValues c) → entryRefusal c ≡ none → WellFormed q c
+      → All (λ w. w < q .p) (entryValues c) → entryRefusal c ≡ none → WellFormed (q .p) c
   unfolding sizeRefusal sizeTests countTests entryRefusal entryValues
   well-formed size count below entry =
       let tests : MatrixName → List Bool = λ M. entryTests c (at (c .matrices) M) in
@@ -118,7 +118,7 @@ module _ (q : Prime) (c : Circuit) where
       let u = append-all (λ t. t ≡ true) (tests B) (tests C) (t .1) in
       let v = append-all Low (entries A) (entries B ++ entries C) (values-below q (entries A ++ (entries B ++ entries C)) below) in
       let w = append-all Low (entries B) (entries C) (v .1) in
-      let pass : (M : MatrixName) → All (EntryFits q c) (entries M) × Rising (entries M) = elim [
+      let pass : (M : MatrixName) → All (EntryFits (q .p) c) (entries M) × Rising (entries M) = elim [
         | A ↦ entries-pass q c (entries A) (t .0) (v .0)
         | B ↦ entries-pass q c (entries B) (u .0) (w .0)
         | C ↦ entries-pass q c (entries C) (u .1) (w .1)
@@ -137,7 +137,7 @@ module _ (q : Prime) (c : Circuit) where
         rising = λ M. pass M .1;
       }
 
-  pub admitted-well-formed : Admitted q c → WellFormed q c
+  pub admitted-well-formed : Admitted q c → WellFormed (q .p) c
   unfolding circuitRefusals listRefusal
   admitted-well-formed admitted =
       let rows = first-none (circuitRefusals q c (countTests c) []) admitted in
@@ -146,7 +146,7 @@ module _ (q : Prime) (c : Circuit) where
 
 -- a job that is let through: its circuit, the lengths of its lists, its words, its mask, its rows and its challenges
 pub record JobFits (q : Prime) (j : Job) : Type 0 where
-  pub circuit-fits : WellFormed q (j .circuit)
+  pub circuit-fits : WellFormed (q .p) (j .circuit)
   pub z-length : length (j .z) ≡ j .circuit .C
   pub m-length : length (j .m) ≡ 2 * j .circuit .C
   pub words-fit : All (λ w. w < q .p) (jobWords q j)

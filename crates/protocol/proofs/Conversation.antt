@@ -70,7 +70,7 @@ module _ {q : Prime} where
       }
 
 -- the sizes of a circuit that is let through
-six-sizes : (q : Prime) (c : Circuit) → WellFormed q c → All (λ t. t ≡ true) (sixSizeTests (sizesOf c))
+six-sizes : (q : Prime) (c : Circuit) → WellFormed (q .p) c → All (λ t. t ≡ true) (sixSizeTests (sizesOf c))
 unfolding sixSizeTests sizeTests sizesOf
 six-sizes q c W = (W .R-size, (W .C-size, (ap₂ _&&_ (W .X-size) (le-leb (c .X) (c .C) (W .X-within)), (K-size c A, (K-size c B, (K-size c C, tt))))))
 

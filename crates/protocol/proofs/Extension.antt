@@ -26,7 +26,7 @@ use Rattle.protocol.specs.Circuit.{Entry, Circuit, extension, rowSum}
 use Rattle.protocol.specs.Messages.{image}
 use Rattle.protocol.proofs.AdmissionLaws.{WellFormed}
 
-module _ {q : Prime} (Q : Qualifies q) (c : Circuit) (W : WellFormed q c) (M : MatrixName) where
+module _ {q : Prime} (Q : Qualifies q) (c : Circuit) (W : WellFormed (q .p) c) (M : MatrixName) where
   abbrev R : CommRing (Elem q)
   R = primeRing q
 

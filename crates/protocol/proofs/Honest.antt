@@ -37,7 +37,7 @@ module _ {q : Prime} (Q : Qualifies q) (j : Job) (F : JobFits q j) where
   abbrev c : Circuit
   c = j .circuit
 
-  W : WellFormed q c
+  W : WellFormed (q .p) c
   W = F .circuit-fits
 
   abbrev z : List (Elem q)

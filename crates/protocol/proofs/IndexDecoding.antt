@@ -66,9 +66,9 @@ module _ {q : Prime} where
   divide-back a b ne =
       ring-by (primeRing q) (a ∷ b ∷ inverse a ∷ []) (λ a b i. a :* b :* i := b from (b ⊙ (a :* i := :1)) ∷ []) (mul-inverse a ne, tt) tt
 
-module _ {q : Prime} (Q : Qualifies q) (c : Circuit) (W : WellFormed q c) where
+module _ {q : Prime} (Q : Qualifies q) (c : Circuit) (W : WellFormed (q .p) c) where
   -- an entry is read from the four values at its place
-  entry-read : (e : Entry) → EntryFits q c e → entryAt {q = q} (sizesOf c) (entryIndex c e) ≡ e ∷ []
+  entry-read : (e : Entry) → EntryFits (q .p) c e → entryAt {q = q} (sizesOf c) (entryIndex c e) ≡ e ∷ []
   unfolding entryAt sizesOf rowElement columnElement
   entry-read e fits =
       pick-false _ _ (false-equal (rowcol ⊗ of (e .value)) 𝟘 (mul-not-zero R F rowcol (of (e .value)) rowcol≢0 value≢0))
@@ -109,7 +109,7 @@ module _ {q : Prime} (Q : Qualifies q) (c : Circuit) (W : WellFormed q c) where
   decode-index M =
       foldr-tabulate (λ y. entryAt (sizesOf c) (indexAt (index c M) y)) k (element k) entries d (K-holds c W M)
       (λ i below. ap (entryAt (sizesOf c)) (index-at-entry Q c W M i below d)
-      ∙ entry-read (getD entries i d) (all-at (EntryFits q c) entries (W .fit M) i d below))
+      ∙ entry-read (getD entries i d) (all-at (EntryFits (q .p) c) entries (W .fit M) i d below))
       (λ i after within. ap (entryAt (sizesOf c)) (index-at-filling Q c W M i after within) ∙ filling-read)
     where
       entries : List Entry

@@ -44,7 +44,7 @@ K-sizeFor c C = refl
 pub K-size : (c : Circuit) (M : MatrixName) → isSize (at (sizesOf c .K) M) ≡ true
 K-size c M = ap isSize (K-sizeFor c M) ∙ sizeFor-is-size (length (at (c .matrices) M))
 
-pub K-holds : {q : Prime} (c : Circuit) → WellFormed q c → (M : MatrixName) → length (at (c .matrices) M) ≤ at (sizesOf c .K) M
+pub K-holds : {p : ℕ} (c : Circuit) → WellFormed p c → (M : MatrixName) → length (at (c .matrices) M) ≤ at (sizesOf c .K) M
 K-holds c W M = omega (arith, K-sizeFor c M, sizeFor-holds (length (at (c .matrices) M)) (W .few M))
 
 module _ {q : Prime} where
@@ -58,7 +58,7 @@ module _ {q : Prime} where
   abbrev pub fillingIndex : Index (Elem q)
   fillingIndex = record { row = 𝟙; col = 𝟙; rowcol = 𝟙; rowcolval = 𝟘 }
 
-module _ {q : Prime} (Q : Qualifies q) (c : Circuit) (W : WellFormed q c) (M : MatrixName) (i : ℕ) where
+module _ {q : Prime} (Q : Qualifies q) (c : Circuit) (W : WellFormed (q .p) c) (M : MatrixName) (i : ℕ) where
   abbrev entries : List Entry
   entries = at (c .matrices) M
 

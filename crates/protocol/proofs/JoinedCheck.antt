@@ -162,5 +162,5 @@ values-caught {q} Q S α β α-outside β-outside ω g g-lengths M false =
     c : Circuit
     c = S .circuit
 
-    W : WellFormed q c
+    W : WellFormed (q .p) c
     W = admitted-well-formed q c (S .admitted)

@@ -25,7 +25,7 @@ use Rattle.protocol.proofs.JoinedPolynomials.{sumMatrices-ext, eval-sum
 use Rattle.protocol.proofs.JoinedPolynomials.{share, cofactor, eval-cofactor, selector-is}
 use Rattle.protocol.proofs.MatrixCheck.{matrix-length, matrix-rule, length-matrixQuotient}
 
-module _ {q : Prime} (Q : Qualifies q) (c : Circuit) (W : WellFormed q c) (α β : Elem q) (α-outside : Outside (c .R) α)
+module _ {q : Prime} (Q : Qualifies q) (c : Circuit) (W : WellFormed (q .p) c) (α β : Elem q) (α-outside : Outside (c .R) α)
     (β-outside : Outside (c .C) β) (δ : Three (Elem q)) where
   abbrev R : CommRing (Elem q)
   R = primeRing q

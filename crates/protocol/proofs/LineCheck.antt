@@ -50,7 +50,7 @@ module _ {q : Prime} (n : Elem q) (nonzero : n ≢ 𝟘) where
       ring-by (primeRing q) (n ∷ inverse n ∷ a ∷ b ∷ []) (λ n i a b. b := a :* i from ((:- b) ⊙ (n :* i := :1)) ∷ (i ⊙ (n :* b := a)) ∷ [])
       (mul-inverse n nonzero, (e, tt)) tt
 
-module _ {q : Prime} (Q : Qualifies q) (c : Circuit) (W : WellFormed q c) (m ẑ : Poly q) (m-length : length m ≡ lengths (sizesOf c) .mask) (ẑ-length : length ẑ ≡ suc (c .C)) (α : Elem q) (η : Three (Elem q)) where
+module _ {q : Prime} (Q : Qualifies q) (c : Circuit) (W : WellFormed (q .p) c) (m ẑ : Poly q) (m-length : length m ≡ lengths (sizesOf c) .mask) (ẑ-length : length ẑ ≡ suc (c .C)) (α : Elem q) (η : Three (Elem q)) where
   abbrev R : CommRing (Elem q)
   R = primeRing q
 
@@ -152,7 +152,7 @@ line-means {q} Q S m m-length α σ η =
     c : Circuit
     c = S .circuit
 
-    W : WellFormed q c
+    W : WellFormed (q .p) c
     W = admitted-well-formed q c (S .admitted)
 
     ẑ : Poly q

@@ -45,7 +45,7 @@ pub matrix-length : (s : Sizes) (M : MatrixName) → at (lengths s .matrixRemain
 unfolding lengths
 matrix-length s M = at-each (λ N. at (s .K) N - 1) M
 
-module _ {q : Prime} (Q : Qualifies q) (c : Circuit) (W : WellFormed q c) (α β : Elem q) (α-outside : Outside (c .R) α)
+module _ {q : Prime} (Q : Qualifies q) (c : Circuit) (W : WellFormed (q .p) c) (α β : Elem q) (α-outside : Outside (c .R) α)
     (β-outside : Outside (c .C) β) (M : MatrixName) where
   abbrev R : CommRing (Elem q)
   R = primeRing q
@@ -210,5 +210,5 @@ matrix-means {q} Q S M α β ω α-outside β-outside =
     c : Circuit
     c = S .circuit
 
-    W : WellFormed q c
+    W : WellFormed (q .p) c
     W = admitted-well-formed q c (S .admitted)

@@ -32,7 +32,7 @@ use Rattle.protocol.proofs.AdmissionLaws.{WellFormed, EntryFits}
 use Rattle.protocol.proofs.IndexPolynomials.{K-holds, entryIndex, fillingIndex, index-at-entry, index-at-filling}
 use Rattle.protocol.proofs.MatrixPolynomials.{sizeK, eval-numerator, eval-denominator}
 
-module _ {q : Prime} (Q : Qualifies q) (c : Circuit) (W : WellFormed q c) (α β : Elem q) (α-outside : Outside (c .R) α)
+module _ {q : Prime} (Q : Qualifies q) (c : Circuit) (W : WellFormed (q .p) c) (α β : Elem q) (α-outside : Outside (c .R) α)
     (β-outside : Outside (c .C) β) (M : MatrixName) where
   abbrev entries : List Entry
   entries = at (c .matrices) M
@@ -75,8 +75,8 @@ module _ {q : Prime} (Q : Qualifies q) (c : Circuit) (W : WellFormed q c) (α β
     e = getD entries i (record { row = 0; column = 0; value = 0 })
 
     module _ (below : i < length entries) where
-      fits : EntryFits q c e
-      fits = all-at (EntryFits q c) entries (W .fit M) i _ below
+      fits : EntryFits (q .p) c e
+      fits = all-at (EntryFits (q .p) c) entries (W .fit M) i _ below
 
       entry-denominator : eval (denominator c α β M) κ ≡ rowFactor (element (c .R) (e .row)) ⊗ columnFactor (element (c .C) (e .column))
       unfolding rowElement columnElement

@@ -41,7 +41,7 @@ module _ {q : Prime} where
       ∙ ap (λ v. v ⊕ eval (interpolate (c .X) x) y)
       (eval-mul (primeRing q) w (vanishingPoly (c .X)) y ∙ ap (λ v. eval w y ⊗ v) (eval-vanishingPoly (c .X) positive y))
 
-module _ {q : Prime} (Q : Qualifies q) (c : Circuit) (W : WellFormed q c) where
+module _ {q : Prime} (Q : Qualifies q) (c : Circuit) (W : WellFormed (q .p) c) where
   abbrev R : CommRing (Elem q)
   R = primeRing q
 

@@ -46,7 +46,7 @@ columnSum {q} c M α k =
     sumList (primeRing q)
     (λ e. pick (eqb (e .column) k) (of (e .value) ⊗ lagrange (c .R) (element (c .R) (e .row)) α) 𝟘) (at (c .matrices) M)
 
-module _ {q : Prime} (Q : Qualifies q) (c : Circuit) (W : WellFormed q c) where
+module _ {q : Prime} (Q : Qualifies q) (c : Circuit) (W : WellFormed (q .p) c) where
   -- a function's polynomial from its values
   agreeing-values :
       (n : ℕ) (s : isSize n ≡ true) (F : Elem q → Elem q) (f : ℕ → Elem q) → ((i : ℕ) → i < n → F (element n i) ≡ f i)

@@ -28,7 +28,7 @@ use Rattle.protocol.proofs.AdmissionLaws.{WellFormed, admitted-well-for
 use Rattle.protocol.proofs.Extension.{image-on-rows}
 use Rattle.protocol.proofs.MessagePolynomials.{rowPoly, length-rowPoly, eval-rowPoly}
 
-module _ {q : Prime} (Q : Qualifies q) (c : Circuit) (W : WellFormed q c) (ẑ : Poly q) where
+module _ {q : Prime} (Q : Qualifies q) (c : Circuit) (W : WellFormed (q .p) c) (ẑ : Poly q) where
   abbrev f : Poly q
   f = rowPoly Q c W ẑ
 
@@ -95,7 +95,7 @@ row-means {q} Q S =
     c : Circuit
     c = S .circuit
 
-    W : WellFormed q c
+    W : WellFormed (q .p) c
     W = admitted-well-formed q c (S .admitted)
 
     ẑ : Poly q

@@ -27,7 +27,7 @@ use Rattle.protocol.specs.Messages.{lengths, publicPoly, witness, assign
 use Rattle.protocol.proofs.AdmissionLaws.{WellFormed}
 use Rattle.protocol.proofs.MessagePolynomials.{eval-minus, length-minus, eval-assignment}
 
-module _ {q : Prime} (Q : Qualifies q) (c : Circuit) (W : WellFormed q c) (z : List (Elem q)) (r : Elem q) where
+module _ {q : Prime} (Q : Qualifies q) (c : Circuit) (W : WellFormed (q .p) c) (z : List (Elem q)) (r : Elem q) where
   abbrev R : CommRing (Elem q)
   R = primeRing q
 
