@@ -7,7 +7,7 @@ ghost use Rattle.field.specs.Element.{Elem, of, _⊕_, _⊗_, _⊖_};
 ghost use Rattle.field.specs.Power.{power, inverse};
 
 // The module's prime: the remainder by a constant needs no division.
-const MODULE_PRIME: u64 = 2013265921;
+pub const MODULE_PRIME: u32 = 2013265921;
 
 pub fn wide(x: u32) -> u64
     ensures { λ r. ⌜ (r ≡ x) × (r < 4294967296) ⌝ }
@@ -20,11 +20,10 @@ fn reduce(p: u32, x: u64) -> u32
     requires { ⌜ 0 < p ⌝ }
     ensures { λ r. ⌜ r ≡ x % p ⌝ }
 {
-    let modulus = wide(p);
-    if modulus == MODULE_PRIME {
-        (x % MODULE_PRIME) as u32
+    if p == MODULE_PRIME {
+        (x % (MODULE_PRIME as u64)) as u32
     } else {
-        (x % modulus) as u32
+        (x % wide(p)) as u32
     }
 }
 

@@ -7,9 +7,6 @@ use native.Mathlib.Nat.{mod-lt}
 use Rattle.field.proofs.reduce.Statement.{statement}
 use Rattle.field.proofs.reduce.Tie as tie
 
-wide-requires : tie.Need-wide-requires
-wide-requires c κs = search needs
-
 cast-result : tie.Need-cast-result
 cast-result c = search needs
 
@@ -17,15 +14,25 @@ rem-result : tie.Need-rem-result
 rem-result c = search needs
 
 cast-result-2 : tie.Need-cast-result-2
-cast-result-2 c =
-    let positive : 0 < c .before .wide .result = omega arith in
+cast-result-2 c = search needs
+
+wide-requires : tie.Need-wide-requires
+wide-requires c κs = search needs
+
+rem-result-2 : tie.Need-rem-result-2
+rem-result-2 c = search needs
+
+cast-result-3 : tie.Need-cast-result-3
+cast-result-3 c =
+    let positive : 0 < c .wide .result = omega arith in
     omega (arith, mod-lt (c .before .before .args .x) positive)
 
 returns : tie.Need-returns
-returns c = ap (λ (n : ℕ). c .before .before .args .x % n) (omega arith)
+returns c = ap (λ (n : ℕ). c .before .args .x % n) (omega arith)
 
 returns-2 : tie.Need-returns-2
-returns-2 c = ap (λ (n : ℕ). c .before .before .args .x % n) (c .before .wide .ensures .0)
+returns-2 c = ap (λ (n : ℕ). c .before .before .args .x % n) (c .wide .ensures .0)
 
 pub reduce-spec : {M : Type 1} → statement M
-reduce-spec = tie.close (tie.spec wide-requires cast-result rem-result cast-result-2 returns returns-2)
+reduce-spec =
+    tie.close (tie.spec cast-result rem-result cast-result-2 wide-requires rem-result-2 cast-result-3 returns returns-2)

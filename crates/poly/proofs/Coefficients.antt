@@ -1,0 +1,145 @@
+-- The coefficients of sums, multiples, products, quotients and remainders of polynomials; an entry past the end is 0.
+-- Assumes nothing.
+use mathlib.Core.Path.{_≡_, refl, sym, ap, ap₂, _∙_}
+use mathlib.Core.List.{List, [], _∷_}
+use Prim.Native.Nat.{ℕ, zero, suc, _+_, _≤_, _<_}
+use native.Mathlib.Omega.{arith}
+use lib.ListN.{length, getD, take, drop, length-drop, getD-replicate}
+use lib.Seq.{take-nil, drop-nil, getD-take, getD-drop, drop-drop}
+use Rattle.algebra.specs.Ring.{CommRing}
+use Rattle.algebra.specs.Polynomial.{add, scale, mul, quotientIn, remainderIn, quotient, remainder}
+use Rattle.algebra.proofs.RingLaws.{zero-add, mul-zero}
+
+module _ {A : Type 0} (R : CommRing A) where
+  open CommRing R using (𝟘, _⊕_, _⊗_, add-comm, add-zero)
+
+  infixl 75 _⊕_
+  infixl 80 _⊗_
+  pub coefficient-add : (f g : List A) (i : ℕ) → getD (add R f g) i 𝟘 ≡ getD f i 𝟘 ⊕ getD g i 𝟘
+  coefficient-add [] g i = sym (zero-add R (getD g i 𝟘))
+  coefficient-add (a ∷ f) [] i = sym (add-zero (getD (a ∷ f) i 𝟘))
+  coefficient-add (a ∷ f) (b ∷ g) zero = refl
+  coefficient-add (a ∷ f) (b ∷ g) (suc i) = coefficient-add f g i
+
+  pub coefficient-scale : (k : A) (f : List A) (i : ℕ) → getD (scale R k f) i 𝟘 ≡ k ⊗ getD f i 𝟘
+  coefficient-scale k [] i = sym (mul-zero R k)
+  coefficient-scale k (a ∷ f) zero = refl
+  coefficient-scale k (a ∷ f) (suc i) = coefficient-scale k f i
+
+  -- Y^i · f
+  abbrev pub shifted : ℕ → List A → List A
+  shifted zero f = f
+  shifted (suc i) f = 𝟘 ∷ shifted i f
+
+  pub shifted-suc : (i : ℕ) (f : List A) → shifted (suc i) f ≡ shifted i (𝟘 ∷ f)
+  shifted-suc zero f = refl
+  shifted-suc (suc i) f = ap (λ (g : List A). 𝟘 ∷ g) (shifted-suc i f)
+
+  pub shifted-empty : (i k : ℕ) → getD (shifted i []) k 𝟘 ≡ 𝟘
+  shifted-empty zero k = refl
+  shifted-empty (suc i) zero = refl
+  shifted-empty (suc i) (suc k) = shifted-empty i k
+
+  pub shifted-add : (i : ℕ) (f g : List A) (k : ℕ)
+      → getD (shifted i (add R f g)) k 𝟘 ≡ getD (shifted i f) k 𝟘 ⊕ getD (shifted i g) k 𝟘
+  shifted-add zero f g k = coefficient-add f g k
+  shifted-add (suc i) f g zero = sym (add-zero 𝟘)
+  shifted-add (suc i) f g (suc k) = shifted-add i f g k
+
+  -- one row of a product: the coefficients of Y^i · ((a + Y·f) · g)
+  pub product-row : (i : ℕ) (a : A) (f g : List A) (k : ℕ)
+      → getD (shifted i (mul R (a ∷ f) g)) k 𝟘 ≡ getD (shifted (suc i) (mul R f g)) k 𝟘 ⊕ getD (shifted i (scale R a g)) k 𝟘
+  product-row i a f g k =
+      shifted-add i (scale R a g) (𝟘 ∷ mul R f g) k
+      ∙ ap (λ (h : List A). getD (shifted i (scale R a g)) k 𝟘 ⊕ getD h k 𝟘) (sym (shifted-suc i (mul R f g)))
+      ∙ add-comm (getD (shifted i (scale R a g)) k 𝟘) (getD (shifted (suc i) (mul R f g)) k 𝟘)
+
+  -- the sum of each n-th coefficient from the j-th on
+  unfoldable pub folds : ℕ → List A → ℕ → A
+  folds n f j = getD (remainderIn R (length f) n (drop j f)) 0 𝟘
+
+  module _ (n : ℕ) (positive : 0 < n) where
+    drop-swap : (m : ℕ) (f : List A) → drop n (drop m f) ≡ drop m (drop n f)
+    drop-swap m f =
+        let e : m + n ≡ n + m = omega arith in
+        drop-drop n m f ∙ ap (λ (k : ℕ). drop k f) e ∙ sym (drop-drop m n f)
+
+    shorter : (k : ℕ) (f : List A) → length f ≤ suc k → length (drop n f) ≤ k
+    shorter k f le = omega (arith, length-drop n f)
+
+    -- any bound on the turns that is not below the length gives the same
+    quotient-turns : (k l : ℕ) (f : List A) → length f ≤ k → length f ≤ l → quotientIn R k n f ≡ quotientIn R l n f
+    quotient-turns zero zero f le-k le-l = refl
+    quotient-turns zero (suc l) [] le-k le-l =
+        sym (ap (λ (g : List A). add R g (quotientIn R l n g)) (drop-nil n) ∙ sym (quotient-turns zero l [] le-k (omega arith)))
+    quotient-turns zero (suc l) (a ∷ f) le-k le-l = absurd (omega arith)
+    quotient-turns (suc k) zero [] le-k le-l =
+        ap (λ (g : List A). add R g (quotientIn R k n g)) (drop-nil n) ∙ quotient-turns k zero [] (omega arith) le-l
+    quotient-turns (suc k) zero (a ∷ f) le-k le-l = absurd (omega arith)
+    quotient-turns (suc k) (suc l) f le-k le-l =
+        ap (add R (drop n f)) (quotient-turns k l (drop n f) (shorter k f le-k) (shorter l f le-l))
+
+    remainder-turns : (k l : ℕ) (f : List A) → length f ≤ k → length f ≤ l → remainderIn R k n f ≡ remainderIn R l n f
+    remainder-turns zero zero f le-k le-l = refl
+    remainder-turns zero (suc l) [] le-k le-l =
+        sym (ap₂ (λ (g h : List A). add R g (remainderIn R l n h)) (take-nil n) (drop-nil n)
+        ∙ sym (remainder-turns zero l [] le-k (omega arith)))
+    remainder-turns zero (suc l) (a ∷ f) le-k le-l = absurd (omega arith)
+    remainder-turns (suc k) zero [] le-k le-l =
+        ap₂ (λ (g h : List A). add R g (remainderIn R k n h)) (take-nil n) (drop-nil n) ∙ remainder-turns k zero [] (omega arith) le-l
+    remainder-turns (suc k) zero (a ∷ f) le-k le-l = absurd (omega arith)
+    remainder-turns (suc k) (suc l) f le-k le-l =
+        ap (add R (take n f)) (remainder-turns k l (drop n f) (shorter k f le-k) (shorter l f le-l))
+
+    -- the first m coefficients left out
+    quotient-drop : (k m : ℕ) (f : List A) (i : ℕ) → getD (quotientIn R k n (drop m f)) i 𝟘 ≡ getD (quotientIn R k n f) (m + i) 𝟘
+    quotient-drop zero m f i = refl
+    quotient-drop (suc k) m f i =
+        let e : m + (n + i) ≡ n + (m + i) = omega arith in
+        coefficient-add (drop n (drop m f)) (quotientIn R k n (drop n (drop m f))) i
+        ∙ ap₂ _⊕_
+        (getD-drop n (drop m f) i 𝟘 ∙ getD-drop m f (n + i) 𝟘 ∙ ap (λ (j : ℕ). getD f j 𝟘) e ∙ sym (getD-drop n f (m + i) 𝟘))
+        (ap (λ (g : List A). getD (quotientIn R k n g) i 𝟘) (drop-swap m f) ∙ quotient-drop k m (drop n f) i)
+        ∙ sym (coefficient-add (drop n f) (quotientIn R k n (drop n f)) (m + i))
+
+    remainder-drop : (k : ℕ) (f : List A) (i : ℕ) → i < n → getD (remainderIn R k n f) i 𝟘 ≡ getD (remainderIn R k n (drop i f)) 0 𝟘
+    remainder-drop zero f i below = getD-replicate n i 𝟘 𝟘 below ∙ sym (getD-replicate n 0 𝟘 𝟘 positive)
+    remainder-drop (suc k) f i below =
+        let e : i ≡ i + 0 = omega arith in
+        coefficient-add (take n f) (remainderIn R k n (drop n f)) i
+        ∙ ap₂ _⊕_
+        (getD-take n f i 𝟘 below ∙ ap (λ (j : ℕ). getD f j 𝟘) e ∙ sym (getD-drop i f 0 𝟘)
+        ∙ sym (getD-take n (drop i f) 0 𝟘 positive))
+        (remainder-drop k (drop n f) i below ∙ ap (λ (g : List A). getD (remainderIn R k n g) 0 𝟘) (sym (drop-swap i f)))
+        ∙ sym (coefficient-add (take n (drop i f)) (remainderIn R k n (drop n (drop i f))) 0)
+
+    -- q_i = f_(i+n) + q_(i+n)
+    pub coefficient-quotient : (f : List A) (i : ℕ) → getD (quotient R n f) i 𝟘 ≡ getD f (i + n) 𝟘 ⊕ getD (quotient R n f) (i + n) 𝟘
+    coefficient-quotient f i =
+        let e : n + i ≡ i + n = omega arith in
+        ap (λ (g : List A). getD g i 𝟘) (quotient-turns (length f) (suc (length f)) f (omega arith) (omega arith))
+        ∙ coefficient-add (drop n f) (quotientIn R (length f) n (drop n f)) i
+        ∙ ap₂ _⊕_ (getD-drop n f i 𝟘 ∙ ap (λ (j : ℕ). getD f j 𝟘) e)
+        (quotient-drop (length f) n f i ∙ ap (λ (j : ℕ). getD (quotient R n f) j 𝟘) e)
+
+    pub coefficient-remainder : (f : List A) (i : ℕ) → i < n → getD (remainder R n f) i 𝟘 ≡ folds n f i
+    unfolding folds
+    coefficient-remainder f i below = remainder-drop (length f) f i below
+
+    pub folds-turn : (f : List A) (j : ℕ) → folds n f j ≡ getD f j 𝟘 ⊕ folds n f (j + n)
+    unfolding folds
+    folds-turn f j =
+        let e : j ≡ j + 0 = omega arith in
+        ap (λ (g : List A). getD g 0 𝟘)
+        (remainder-turns (length f) (suc (length f)) (drop j f) (omega (arith, length-drop j f)) (omega (arith, length-drop j f)))
+        ∙ coefficient-add (take n (drop j f)) (remainderIn R (length f) n (drop n (drop j f))) 0
+        ∙ ap₂ _⊕_
+        (getD-take n (drop j f) 0 𝟘 positive ∙ getD-drop j f 0 𝟘 ∙ ap (λ (k : ℕ). getD f k 𝟘) (sym e))
+        (ap (λ (g : List A). getD (remainderIn R (length f) n g) 0 𝟘) (drop-drop n j f))
+
+    pub folds-past : (f : List A) (j : ℕ) → length f ≤ j → folds n f j ≡ 𝟘
+    unfolding folds
+    folds-past f j past =
+        ap (λ (g : List A). getD g 0 𝟘)
+        (remainder-turns (length f) 0 (drop j f) (omega (arith, length-drop j f)) (omega (arith, length-drop j f)))
+        ∙ getD-replicate n 0 𝟘 𝟘 positive

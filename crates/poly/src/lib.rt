@@ -1,0 +1,140 @@
+// Polynomials over the field as slices of words, the constant first. The modulus p is a parameter; words of p or more stand for
+// their remainders. Results are field words.
+ghost use mathlib.Core.Path.{_≡_};
+ghost use mathlib.Core.Bool.{true};
+ghost use mathlib.Core.List.{map};
+ghost use Prim.Native.Nat.{_+_, _-_, _^_, _<_, _≤_};
+ghost use lib.ListN.{length, getD, replicate};
+ghost use Rattle.field.specs.Prime.{Prime};
+ghost use Rattle.field.specs.Element.{of, 𝟘, words};
+ghost use Rattle.domain.specs.Size.{isSize};
+ghost use Rattle.domain.specs.Domain.{root};
+ghost use Rattle.domain.specs.Polynomial.{eval, plus, scale, times, quotient, remainder, interpolate as interpolation};
+
+// f(x)
+pub fn evaluate(p: u32, f: &[u32], x: u32) -> u32
+    requires { ⌜ 0 < p ⌝ }
+    ensures { λ r. ⌜ ((q : Prime) → q .p ≡ p → r ≡ (eval (map of (now (f .entry))) (of {q = q} x)) .word) ⌝ }
+{
+    let mut value: u32 = 0;
+    let mut i = f.len();
+    while 0 < i {
+        i -= 1;
+        value = field::add(p, f[i], field::multiply(p, x, value));
+    }
+    value
+}
+
+// The coefficient of s at i, 0 past its end.
+fn entry(s: &[u32], i: usize) -> u32
+    ensures { λ r. ⌜ r ≡ getD (now (s .entry)) i 0 ⌝ }
+{
+    if i < s.len() { s[i] } else { 0 }
+}
+
+// Zeros into the slice.
+fn clear(out: &mut [u32])
+    ensures { λ _. ⌜ now (out .exit) ≡ replicate (length (now (out .entry))) 0 ⌝ }
+{
+    let mut i = 0;
+    while i < out.len() {
+        out[i] = 0;
+        i += 1;
+    }
+}
+
+// f + k·g into f, where g is not longer.
+pub fn add_scaled(p: u32, f: &mut [u32], k: u32, g: &[u32])
+    requires { ⌜ 0 < p ⌝ }
+    requires { ⌜ length (now g) ≤ length (now f) ⌝ }
+    ensures { λ _. ⌜ ((q : Prime) → q .p ≡ p
+        → now (f .exit) ≡ words (plus (map of (now (f .entry))) (scale (of {q = q} k) (map of (now (g .entry)))))) ⌝ }
+{
+    let mut i = 0;
+    while i < f.len() {
+        f[i] = field::add(p, f[i], field::multiply(p, k, entry(g, i)));
+        i += 1;
+    }
+}
+
+// f·g into the slice, neither of them empty.
+pub fn multiply_into(p: u32, f: &[u32], g: &[u32], out: &mut [u32])
+    requires { ⌜ 0 < p ⌝ }
+    requires { ⌜ (0 < length (now f)) × (0 < length (now g)) ⌝ }
+    requires { ⌜ length (now out) + 1 ≡ length (now f) + length (now g) ⌝ }
+    ensures { λ _. ⌜ ((q : Prime) → q .p ≡ p
+        → now (out .exit) ≡ words (times (map (of {q = q}) (now (f .entry))) (map of (now (g .entry))))) ⌝ }
+{
+    clear(out);
+    let mut i = f.len();
+    while 0 < i {
+        i -= 1;
+        // The row f_i·g, from place i on.
+        let end = i + g.len();
+        add_scaled(p, &mut out[i..end], f[i], g);
+    }
+}
+
+// The quotient by Y^n - 1 into the slice, of length |f| - n.
+pub fn quotient_into(p: u32, n: usize, f: &[u32], out: &mut [u32])
+    requires { ⌜ 0 < p ⌝ }
+    requires { ⌜ 0 < n ⌝ }
+    requires { ⌜ length (now out) ≡ length (now f) - n ⌝ }
+    ensures { λ _. ⌜ ((q : Prime) → q .p ≡ p → now (out .exit) ≡ words (quotient n (map (of {q = q}) (now (f .entry))))) ⌝ }
+{
+    let mut i = out.len();
+    while 0 < i {
+        i -= 1;
+        let carried = entry(out, i + n);
+        out[i] = field::add(p, f[i + n], carried);
+    }
+}
+
+// Coefficient `at` of the remainder by Y^n - 1: the sum of each n-th coefficient of f from there on.
+fn folded(p: u32, n: usize, f: &[u32], at: usize) -> u32
+    requires { ⌜ 0 < p ⌝ }
+    requires { ⌜ (at < n) × (n < 2 ^ 63) ⌝ }
+    ensures { λ r. ⌜ ((q : Prime) → q .p ≡ p → r ≡ (getD (remainder n (map of (now (f .entry)))) at (𝟘 {q = q})) .word) ⌝ }
+{
+    let mut sum: u32 = 0;
+    let mut i = at;
+    while i < f.len() {
+        sum = field::add(p, sum, f[i]);
+        i += n;
+    }
+    sum
+}
+
+// The remainder by Y^n - 1 into the slice, of length n.
+pub fn remainder_into(p: u32, f: &[u32], out: &mut [u32])
+    requires { ⌜ 0 < p ⌝ }
+    requires { ⌜ 0 < length (now out) ⌝ }
+    ensures { λ _. ⌜ ((q : Prime) → q .p ≡ p
+        → now (out .exit) ≡ words (remainder (length (now (out .entry))) (map (of {q = q}) (now (f .entry))))) ⌝ }
+{
+    let n = out.len();
+    let mut i = 0;
+    while i < n {
+        out[i] = folded(p, n, f, i);
+        i += 1;
+    }
+}
+
+// The polynomial with the given values on the domain of size n into the slice; g is the root g_n.
+pub fn interpolate_into(p: u32, g: u32, values: &[u32], out: &mut [u32])
+    requires { ⌜ 1 < p ⌝ }
+    requires { ⌜ (length (now out) ≡ length (now values)) × (isSize (length (now values)) ≡ true) ⌝ }
+    ensures { λ _. ⌜ ((q : Prime) → q .p ≡ p → g ≡ (root {q = q} (length (now (values .entry)))) .word
+        → now (out .exit) ≡ words (interpolation (length (now (values .entry))) (map (of {q = q}) (now (values .entry))))) ⌝ }
+{
+    let n = values.len();
+    // Coefficient i is 1/n times the value at g^(n-i) of the polynomial whose coefficients are the given values.
+    let inverse = field::invert(p, n as u32);
+    let mut power: u32 = 1;
+    let mut i = n;
+    while 0 < i {
+        i -= 1;
+        power = field::multiply(p, power, g);
+        out[i] = field::multiply(p, evaluate(p, values, power), inverse);
+    }
+}
