@@ -1,0 +1,4 @@
+pub mod Scan
+pub mod FirstLaws
+pub mod AllowedSizes
+pub mod PublicValue

@@ -1,0 +1,56 @@
+-- `verifier::checks::line_right` meets its contract. Assumes nothing.
+use Rattle.domain.specs.Domain.{vanishing}
+use Rattle.field.proofs.Words.{of-result}
+use Rattle.field.specs.Element.{of, _⊕_, _⊗_}
+use Rattle.field.specs.Power.{inverse}
+use Rattle.protocol.specs.Checks.{lineRight}
+use borrow.Author.Needs.{needs}
+use Rattle.verifier.proofs.checks.line_right.Statement.{statement}
+use Rattle.verifier.proofs.checks.line_right.Tie as tie
+
+vanishing-value-requires : tie.Need-vanishing-value-requires
+vanishing-value-requires c κs = search needs
+
+multiply-requires : tie.Need-multiply-requires
+multiply-requires c κs = search needs
+
+multiply-requires-2 : tie.Need-multiply-requires-2
+multiply-requires-2 c κs = search needs
+
+invert-requires : tie.Need-invert-requires
+invert-requires c κs = search needs
+
+multiply-requires-3 : tie.Need-multiply-requires-3
+multiply-requires-3 c κs = search needs
+
+add-requires : tie.Need-add-requires
+add-requires c κs = search needs
+
+add-requires-2 : tie.Need-add-requires-2
+add-requires-2 c κs = search needs
+
+returns : tie.Need-returns
+unfolding lineRight
+returns c q e =
+    let a = c .before .before .before .before .before .before .before .args in
+    let v = of-result (vanishing (a .s .c) (of {q = q} (a .beta))) (c .before .before .before .before .before .before .vanishing-value .ensures q e) in
+    let multiple = of-result (of {q = q} (a .quotient) ⊗ of (c .before .before .before .before .before .before .vanishing-value .result)) (c .before .before .before .before .before .multiply .ensures q e) in
+    let rest = of-result (of {q = q} (a .beta) ⊗ of (a .remainder)) (c .before .before .before .before .multiply2 .ensures q e) in
+    let inverted = of-result (inverse (of {q = q} (a .s .c))) (c .before .before .before .invert .ensures q e) in
+    let mean = of-result (of {q = q} (a .sum) ⊗ of (c .before .before .before .invert .result)) (c .before .before .multiply3 .ensures q e) in
+    let both = of-result (of (c .before .before .before .before .before .multiply .result) ⊕ of (c .before .before .before .before .multiply2 .result)) (c .before .add .ensures q e) in
+    let all = c .add2 .ensures q e in
+    cc
+
+pub line-right-spec : {M : Type 1} → statement M
+line-right-spec =
+    tie.close
+    (tie.spec
+    vanishing-value-requires
+    multiply-requires
+    multiply-requires-2
+    invert-requires
+    multiply-requires-3
+    add-requires
+    add-requires-2
+    returns)

@@ -1,0 +1,82 @@
+-- `verifier::checks::matrix_holds` meets its contract. Assumes nothing.
+use Rattle.domain.specs.Domain.{vanishing}
+use Rattle.field.proofs.Words.{of-result}
+use Rattle.field.specs.Element.{Elem, of, _⊕_, _⊗_}
+use Rattle.protocol.specs.Checks.{selector, matrixLeft, joinedLeft, joinedRight}
+use Rattle.protocol.specs.Index.{mapIndex}
+use Rattle.protocol.specs.Meanings.{three, sizes, openings}
+use Rattle.protocol.specs.Three.{MatrixName, A, B, C, at}
+use borrow.Author.Needs.{needs}
+use mathlib.Core.Path.{refl}
+use Rattle.verifier.proofs.checks.matrix_holds.Statement.{statement}
+use Rattle.verifier.proofs.checks.matrix_holds.Tie as tie
+
+array-copy-out-matrix-term : tie.Need-array-copy-out-matrix-term
+array-copy-out-matrix-term c = search needs
+
+matrix-term-requires : tie.Need-matrix-term-requires
+matrix-term-requires c κs = search needs
+
+array-copy-out-matrix-term-2 : tie.Need-array-copy-out-matrix-term-2
+array-copy-out-matrix-term-2 c = search needs
+
+matrix-term-requires-2 : tie.Need-matrix-term-requires-2
+matrix-term-requires-2 c κs = search needs
+
+array-copy-out-matrix-term-3 : tie.Need-array-copy-out-matrix-term-3
+array-copy-out-matrix-term-3 c = search needs
+
+matrix-term-requires-3 : tie.Need-matrix-term-requires-3
+matrix-term-requires-3 c κs = search needs
+
+add-requires : tie.Need-add-requires
+add-requires c κs = search needs
+
+add-requires-2 : tie.Need-add-requires-2
+add-requires-2 c κs = search needs
+
+largest-requires : tie.Need-largest-requires
+largest-requires c κs = search needs
+
+vanishing-value-requires : tie.Need-vanishing-value-requires
+vanishing-value-requires c κs = search needs
+
+multiply-requires : tie.Need-multiply-requires
+multiply-requires c κs = search needs
+
+returns : tie.Need-returns
+unfolding joinedLeft joinedRight
+returns c q e =
+    let a = c .before .before .before .before .before .before .before .before .before .before .before .before .before .before .before .args in
+    let s = sizes (a .s) in
+    let h = a .h in
+    let term : MatrixName → Elem q = λ M.
+    of (at (three (h .delta)) M) ⊗ selector s M (of (h .gamma))
+    ⊗ matrixLeft s M (of (h .alpha)) (of (h .beta)) (of (at (three (h .values)) M)) (mapIndex of (at (openings (a .o) (a .t5) .index) M)) (of (h .gamma))
+    (of (at (three (a .o .matrixRemainders)) M)) in
+    let first = of-result (term A) (c .before .before .before .before .before .before .before .before .before .matrix-term .ensures q e A refl) in
+    let second = of-result (term B) (c .before .before .before .before .before .before .before .matrix-term2 .ensures q e B refl) in
+    let third = of-result (term C) (c .before .before .before .before .before .matrix-term3 .ensures q e C refl) in
+    let both = of-result (of (c .before .before .before .before .before .before .before .before .before .matrix-term .result) ⊕ of (c .before .before .before .before .before .before .before .matrix-term2 .result)) (c .before .before .before .before .add .ensures q e) in
+    let left = c .before .before .before .add2 .ensures q e in
+    let n = c .before .before .largest .ensures in
+    let v = of-result (vanishing (c .before .before .largest .result) (of {q = q} (a .h .gamma))) (c .before .vanishing-value .ensures q e) in
+    let right = c .multiply .ensures q e in
+    cc
+
+pub matrix-holds-spec : {M : Type 1} → statement M
+matrix-holds-spec =
+    tie.close
+    (tie.spec
+    array-copy-out-matrix-term
+    matrix-term-requires
+    array-copy-out-matrix-term-2
+    matrix-term-requires-2
+    array-copy-out-matrix-term-3
+    matrix-term-requires-3
+    add-requires
+    add-requires-2
+    largest-requires
+    vanishing-value-requires
+    multiply-requires
+    returns)

@@ -1,0 +1,88 @@
+-- `verifier::refusals::judge_delta` meets its contract. Assumes nothing.
+use Rattle.protocol.specs.Meanings.{three, sizes}
+use Rattle.protocol.specs.Messages.{lengths}
+use Rattle.protocol.specs.Refusals.{turnRefusal, lengthRefusal}
+use Rattle.protocol.specs.Session.{inTurn, deltaRefusal}
+use Rattle.protocol.specs.Three.{A, B, C, listed}
+use Rattle.verifier.proofs.AllowedSizes.{Allowed, in-turn-allowed, size-range}
+use Rattle.verifier.proofs.FirstLaws.{words-refusal, first-pair}
+use borrow.Author.Needs.{needs}
+use borrow.Author.Tests.{not-true, not-false}
+use mathlib.Core.Bool.{true, false}
+use mathlib.Core.List.{_++_}
+use mathlib.Core.Path.{_≡_, sym, _∙_}
+use native.Mathlib.Omega.{arith}
+use Rattle.verifier.proofs.refusals.judge_delta.Statement.{statement}
+use Rattle.verifier.proofs.refusals.judge_delta.Tie as tie
+
+in-turn-requires : tie.Need-in-turn-requires
+in-turn-requires c κs = search needs
+
+returns : tie.Need-returns
+unfolding deltaRefusal turnRefusal
+returns c q e =
+    let a = c .before .before .args in
+    let t : inTurn 4 (a .stage) (sizes (a .s)) ≡ false = sym (c .before .in-turn .ensures) ∙ not-true _ (c .if1 .taken) in
+    rw t
+
+slice-aggregate-judge-words : tie.Need-slice-aggregate-judge-words
+slice-aggregate-judge-words c = search needs
+
+judge-words-requires : tie.Need-judge-words-requires
+judge-words-requires c κs = search needs
+
+sub-t16 : tie.Need-sub-t16
+sub-t16 c =
+    let t = c .before .before .before .before .before in
+    let a = t .before .args in
+    let w : Allowed (sizes (a .s)) = in-turn-allowed 4 (a .stage) (sizes (a .s)) (sym (t .in-turn .ensures) ∙ not-false _ (c .before .before .before .before .if1 .left)) in
+    omega (arith, size-range (a .s .k .a) (w .K-size A))
+
+sub-t17 : tie.Need-sub-t17
+sub-t17 c =
+    let t = c .before .before .before .before .before .before .before in
+    let a = t .before .args in
+    let w : Allowed (sizes (a .s)) = in-turn-allowed 4 (a .stage) (sizes (a .s)) (sym (t .in-turn .ensures) ∙ not-false _ (c .before .before .before .before .before .before .if1 .left)) in
+    omega (arith, size-range (a .s .k .b) (w .K-size B))
+
+sub-t18 : tie.Need-sub-t18
+sub-t18 c =
+    let t = c .before .before .before .before .before .before .before .before .before in
+    let a = t .before .args in
+    let w : Allowed (sizes (a .s)) = in-turn-allowed 4 (a .stage) (sizes (a .s)) (sym (t .in-turn .ensures) ∙ not-false _ (c .before .before .before .before .before .before .before .before .if1 .left)) in
+    omega (arith, size-range (a .s .k .c) (w .K-size C))
+
+slice-aggregate-first-failed : tie.Need-slice-aggregate-first-failed
+slice-aggregate-first-failed c = search needs
+
+first-failed-requires : tie.Need-first-failed-requires
+first-failed-requires c κs = search needs
+
+first-of-requires : tie.Need-first-of-requires
+first-of-requires c κs = search needs
+
+returns-2 : tie.Need-returns-2
+unfolding deltaRefusal turnRefusal lengthRefusal lengths
+returns-2 c q e =
+    let i = c .before .before .before .before .before .before .before .before .before .before .before .before in
+    let a = i .before .before .args in
+    let t : inTurn 4 (a .stage) (sizes (a .s)) ≡ true = sym (i .before .in-turn .ensures) ∙ not-false _ (i .if1 .left) in
+    rw t
+    (first-pair (c .before .before .before .before .before .before .before .before .before .before .judge-words .ensures ∙ words-refusal q e (listed (three (a .values)) ++ listed (three (a .delta))))
+    (c .before .first-failed .ensures) (c .first-of .ensures))
+
+pub judge-delta-spec : {M : Type 1} → statement M
+judge-delta-spec =
+    tie.close
+    (tie.spec
+    in-turn-requires
+    returns
+    slice-aggregate-judge-words
+    judge-words-requires
+    sub-t16
+    sub-t17
+    sub-t18
+    slice-aggregate-first-failed
+    first-failed-requires
+    first-of-requires
+    returns-2)

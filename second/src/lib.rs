@@ -1,0 +1,34 @@
+//! A second implementation of document 01's proof system, made from the document alone.
+//!
+//! Every public call takes its inputs in the order of docs/CALLS.md and gives a complete result or the
+//! first refusal that applies. A lent slice is filled only on success. Groups of a fixed number of
+//! inputs are arrays: the three or six sizes, the three entry lists, the three challenges of a kind,
+//! the eleven sections, the twenty-one openings.
+
+#![forbid(unsafe_code)]
+#![allow(clippy::too_many_arguments)] // the calls have the inputs that docs/CALLS.md lists
+
+mod circuit;
+mod domain;
+mod field;
+mod index;
+mod job;
+mod message;
+mod polynomial;
+mod prover;
+mod record;
+mod refusal;
+mod statement;
+mod verdict;
+mod verifier;
+
+pub use domain::domain;
+pub use field::{add, inverse, multiply, power, subtract, MODULUS};
+pub use index::index;
+pub use job::prove;
+pub use polynomial::{evaluate, interpolate};
+pub use prover::{fifth_round, first_round, fourth_round, openings, second_round, third_round};
+pub use record::{read_record, section, write_record};
+pub use refusal::Refusal;
+pub use verdict::{Check, Verdict};
+pub use verifier::{open, Session};

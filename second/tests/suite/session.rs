@@ -1,0 +1,174 @@
+//! The verifier session: turns, and the refusals of each step at their boundaries.
+
+use crate::case::{refusal, square};
+use second::{Refusal, Session, Verdict};
+
+const P: u32 = second::MODULUS;
+const SIZES: [u32; 6] = [4, 8, 2, 1, 2, 4];
+
+/// A step's refusal, which must leave the session as it was.
+fn refused<Answer>(
+    session: &Session,
+    step: impl FnOnce(Session) -> (Session, Result<Answer, Refusal>),
+) -> Option<(u32, u32)> {
+    let (next, answer) = step(session.clone());
+    assert!(answer.is_ok() || next == *session, "a refused step has changed the session");
+    assert!(answer.is_err() || next != *session, "a step has left the session");
+    refusal(answer)
+}
+
+/// The sessions of a good run with the sizes above, after 1 to 7 steps.
+fn run() -> Vec<Session> {
+    let mut sessions = vec![second::open(SIZES, &[1, 2]).unwrap()];
+    let mut take = |step: &dyn Fn(Session) -> Session| {
+        let last = sessions[sessions.len() - 1].clone();
+        sessions.push(step(last));
+    };
+    take(&|session| session.alpha([7, 16, 3], 3).0);
+    take(&|session| session.eta([P - 1; 3], [P - 1; 3]).0);
+    take(&|session| session.beta([7, 8], 3).0);
+    take(&|session| session.delta([P - 1; 3], [0, 1, 3], [P - 1; 3]).0);
+    take(&|session| session.gamma(3, 3).0);
+    take(&|session| session.openings([P - 1; 21]).0);
+    sessions
+}
+
+#[test]
+fn turns() {
+    for (turn, session) in run().iter().enumerate() {
+        let refusals = [
+            refused(session, |session| session.alpha([0; 3], 0)),
+            refused(session, |session| session.eta([0; 3], [0; 3])),
+            refused(session, |session| session.beta([0; 2], 0)),
+            refused(session, |session| session.delta([0; 3], [0; 3], [0; 3])),
+            refused(session, |session| session.gamma(0, 0)),
+            refused(session, |session| session.openings([0; 21])),
+        ];
+        let expected = [0, 1, 2, 3, 4, 5].map(|step| (step != turn).then_some((1, 0)));
+        assert_eq!(refusals, expected);
+    }
+}
+
+#[test]
+fn turn_comes_first() {
+    let sessions = run();
+    let (opened, ended) = (&sessions[0], &sessions[6]);
+    assert_eq!(refused(ended, |session| session.alpha([u32::MAX; 3], P)), Some((1, 0)));
+    assert_eq!(refused(opened, |session| session.eta([P; 3], [P; 3])), Some((1, 0)));
+    assert_eq!(refused(opened, |session| session.beta([u32::MAX; 2], P)), Some((1, 0)));
+    assert_eq!(refused(opened, |session| session.delta([P; 3], [9; 3], [P; 3])), Some((1, 0)));
+    assert_eq!(refused(opened, |session| session.gamma(u32::MAX, P)), Some((1, 0)));
+    assert_eq!(refused(opened, |session| session.openings([P; 21])), Some((1, 0)));
+}
+
+#[test]
+fn open() {
+    let sizes = |place: usize, size: u32| {
+        let mut sizes = SIZES;
+        sizes[place] = size;
+        refusal(second::open(sizes, &[P; 5]))
+    };
+    for bad in [0, 3, 2048] {
+        for place in 0..6 {
+            assert_eq!(sizes(place, bad), Some((4, place as u32)));
+        }
+    }
+    assert_eq!(sizes(2, 16), Some((4, 2)));
+    assert_eq!(refusal(second::open([1, 1, 2, 3, 1, 1], &[])), Some((4, 2)));
+    assert_eq!(refusal(second::open([1, 3, 4, 3, 1, 1], &[])), Some((4, 1)));
+    assert_eq!(refusal(second::open(SIZES, &[P])), Some((5, 0)));
+    assert_eq!(refusal(second::open(SIZES, &[P; 3])), Some((5, 0)));
+    assert_eq!(refusal(second::open(SIZES, &[P - 1, P])), Some((6, 1)));
+    assert_eq!(refusal(second::open([1024; 6], &[P - 1; 1024])), None);
+}
+
+#[test]
+fn alpha() {
+    let session = &run()[0];
+    let root = second::power(31, (P - 1) / 4).unwrap();
+    let alpha = |lengths, alpha| refused(session, |session| session.alpha(lengths, alpha));
+    assert_eq!(alpha([9; 3], P), Some((6, 0)));
+    for inside in [1, P - 1, root] {
+        assert_eq!(alpha([u32::MAX; 3], inside), Some((10, 0)));
+    }
+    assert_eq!(alpha([8, 17, 4], 2), Some((11, 0)));
+    assert_eq!(alpha([7, 17, 4], 2), Some((11, 1)));
+    assert_eq!(alpha([7, 16, 4], 2), Some((11, 2)));
+    assert_eq!(alpha([7, 16, u32::MAX], 2), Some((11, 2)));
+    assert_eq!(alpha([7, 16, 3], 2), None);
+    assert_eq!(alpha([0, 0, 0], 0), None);
+}
+
+#[test]
+fn eta_and_openings() {
+    let sessions = run();
+    for bad in 0..6 {
+        let word = |place: usize| if place >= bad { P } else { P - 1 };
+        let (sums, eta) = ([0, 1, 2].map(word), [3, 4, 5].map(word));
+        assert_eq!(refused(&sessions[1], |session| session.eta(sums, eta)), Some((6, bad as u32)));
+    }
+    for bad in 0..21 {
+        let openings = std::array::from_fn(|place| if place >= bad { P } else { 0 });
+        assert_eq!(refused(&sessions[5], |session| session.openings(openings)), Some((6, bad as u32)));
+    }
+}
+
+#[test]
+fn beta() {
+    let session = &run()[2];
+    let root = second::power(31, (P - 1) / 8).unwrap();
+    let beta = |lengths, beta| refused(session, |session| session.beta(lengths, beta));
+    assert_eq!(beta([9; 2], P), Some((6, 0)));
+    for inside in [1, P - 1, root] {
+        assert_eq!(beta([9; 2], inside), Some((10, 1)));
+    }
+    assert_eq!(beta([8, 9], 2), Some((11, 0)));
+    assert_eq!(beta([7, 9], 2), Some((11, 1)));
+    assert_eq!(beta([7, 8], 2), None);
+    assert_eq!(beta([0, 0], 0), None);
+}
+
+#[test]
+fn delta() {
+    let session = &run()[3];
+    for bad in 0..6 {
+        let word = |place: usize| if place >= bad { P } else { 0 };
+        let (values, delta) = ([0, 1, 2].map(word), [3, 4, 5].map(word));
+        let answer = refused(session, |session| session.delta(values, [9; 3], delta));
+        assert_eq!(answer, Some((6, bad as u32)));
+    }
+    let delta = |lengths| refused(session, |session| session.delta([0; 3], lengths, [0; 3]));
+    assert_eq!(delta([1, 2, 4]), Some((11, 0)));
+    assert_eq!(delta([0, 2, 4]), Some((11, 1)));
+    assert_eq!(delta([0, 1, 4]), Some((11, 2)));
+    assert_eq!(delta([0, 1, 3]), None);
+    assert_eq!(delta([0, 0, 0]), None);
+}
+
+#[test]
+fn gamma() {
+    let session = &run()[4];
+    let root = second::power(31, (P - 1) / 4).unwrap();
+    let gamma = |length, gamma| refused(session, |session| session.gamma(length, gamma));
+    assert_eq!(gamma(9, P), Some((6, 0)));
+    for inside in [1, P - 1, root] {
+        assert_eq!(gamma(9, inside), Some((10, 2)));
+    }
+    assert_eq!(gamma(4, 2), Some((11, 0)));
+    assert_eq!(gamma(3, 2), None);
+    assert_eq!(gamma(0, second::power(31, (P - 1) / 8).unwrap()), None);
+}
+
+#[test]
+fn refused_step_may_be_tried_again() {
+    let case = square();
+    let proof = case.proof().unwrap();
+    let session = case.session(&proof).unwrap();
+    let mut bad = proof.openings;
+    bad[20] = P;
+    let (session, answer) = session.openings(bad);
+    assert_eq!(refusal(answer), Some((6, 20)));
+    let (session, answer) = session.openings(proof.openings);
+    assert_eq!(answer, Ok(Verdict::Accept));
+    assert_eq!(refusal(session.openings(proof.openings).1), Some((1, 0)));
+}
