@@ -1,0 +1,8 @@
+pub mod ScanLaws
+pub mod Allowed
+pub mod Bounds
+pub mod WordList
+pub mod Starts
+pub mod Rows
+pub mod Writing
+pub mod Lengths
