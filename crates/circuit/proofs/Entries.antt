@@ -2,7 +2,7 @@
 use mathlib.Core.Path.{_≡_, refl, ap, ap₂, _∙_, subst}
 use mathlib.Core.Bool.{Bool, true, false, not, _&&_}
 use mathlib.Core.List.{List, [], _∷_, map}
-use Prim.Native.Nat.{ℕ, zero, suc, _+_, _-_, _*_, _/_, _<_}
+use Prim.Native.Nat.{ℕ, zero, suc, _+_, _-_, _*_, _/_, _%_, _<_}
 use native.Mathlib.Omega.{arith}
 use lib.Dec.{eqb, ltb}
 use lib.ListN.{length, getD, length-map}
@@ -10,12 +10,8 @@ use Rattle.algebra.specs.Counting.{All}
 use Rattle.protocol.specs.Circuit.{Entry, Circuit}
 use Rattle.protocol.specs.Refusals.{rises, fits, entryTestsAfter, entryTests}
 use Rattle.protocol.specs.Calls.{entriesOf}
-use Rattle.circuit.specs.Given.{Within}
+use Rattle.circuit.specs.Given.{entryWords, Within}
 use Rattle.circuit.proofs.Rows.{map-at}
-
--- entry i of a list of words
-abbrev pub entryWords : List ℕ → ℕ → Entry
-entryWords l i = record { row = getD l (3 * i) 0; column = getD l (3 * i + 1) 0; value = getD l (3 * i + 2) 0 }
 
 pub length-entriesOf : (l : List ℕ) → length (entriesOf l) ≡ length l / 3
 unfolding entriesOf
@@ -24,6 +20,15 @@ length-entriesOf (i ∷ []) = refl
 length-entriesOf (i ∷ (k ∷ [])) = refl
 length-entriesOf (i ∷ (k ∷ (v ∷ l))) = omega (arith, length-entriesOf l)
 
+-- past the first entry
+words-later : (x y z : ℕ) (l : List ℕ) (i : ℕ) → entryWords l i ≡ entryWords (x ∷ (y ∷ (z ∷ l))) (suc i)
+words-later x y z l i =
+    let e0 : suc (suc (suc (3 * i))) ≡ 3 * suc i = omega arith in
+    let e1 : suc (suc (suc (3 * i + 1))) ≡ 3 * suc i + 1 = omega arith in
+    let e2 : suc (suc (suc (3 * i + 2))) ≡ 3 * suc i + 2 = omega arith in
+    let at : ℕ → ℕ = λ k. getD (x ∷ (y ∷ (z ∷ l))) k 0 in λ t.
+    record { row = ap at e0 t; column = ap at e1 t; value = ap at e2 t }
+
 pub entry-at : (l : List ℕ) (i : ℕ) (d : Entry) → i < length (entriesOf l) → getD (entriesOf l) i d ≡ entryWords l i
 unfolding entriesOf
 entry-at [] i d h = absurd (omega arith)
@@ -31,11 +36,7 @@ entry-at (x ∷ []) i d h = absurd (omega arith)
 entry-at (x ∷ (y ∷ [])) i d h = absurd (omega arith)
 entry-at (x ∷ (y ∷ (z ∷ l))) zero d h = refl
 entry-at (x ∷ (y ∷ (z ∷ l))) (suc i) d h =
-    let e0 : suc (suc (suc (3 * i))) ≡ 3 * suc i = omega arith in
-    let e1 : suc (suc (suc (3 * i + 1))) ≡ 3 * suc i + 1 = omega arith in
-    let e2 : suc (suc (suc (3 * i + 2))) ≡ 3 * suc i + 2 = omega arith in
-    let at : ℕ → ℕ = λ k. getD (x ∷ (y ∷ (z ∷ l))) k 0 in
-    entry-at l i d (omega arith) ∙ (λ t. record { row = ap at e0 t; column = ap at e1 t; value = ap at e2 t })
+    entry-at l i d (omega arith) ∙ words-later x y z l i
 
 -- the test of one entry, by the sizes alone
 pub fits-by : (k : Circuit) (e : Entry) {r c : ℕ} → k .R ≡ r → k .C ≡ c → fits k e ≡ (ltb (e .row) r && ltb (e .column) c && not (eqb (e .value) 0))
@@ -133,3 +134,13 @@ pub entry-within : (r c : ℕ) (l : List ℕ) → All (Within r c) (entriesOf l)
 entry-within r c l h i within =
     let below : i < length (entriesOf l) = omega (arith, length-entriesOf l) in
     subst (Within r c) (entry-at l i (entryWords l i) below) (all-at (Within r c) (entriesOf l) h i (entryWords l i) below)
+
+-- in a list of whole entries the words after the last entry are zeros
+pub entry-or-zeros : (l : List ℕ) (i : ℕ) → length l % 3 ≡ 0
+    → getD (entriesOf l) i (record { row = 0; column = 0; value = 0 }) ≡ entryWords l i
+unfolding entriesOf
+entry-or-zeros [] i whole = refl
+entry-or-zeros (x ∷ []) i whole = absurd (omega arith)
+entry-or-zeros (x ∷ (y ∷ [])) i whole = absurd (omega arith)
+entry-or-zeros (x ∷ (y ∷ (z ∷ l))) zero whole = refl
+entry-or-zeros (x ∷ (y ∷ (z ∷ l))) (suc i) whole = entry-or-zeros l i (omega arith) ∙ words-later x y z l i

@@ -2,3 +2,5 @@ pub mod Rows
 pub mod Entries
 pub mod Sums
 pub mod Mask
+pub mod Parts
+pub mod IndexValues

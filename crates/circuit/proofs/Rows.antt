@@ -6,7 +6,7 @@ use mathlib.Core.List.{List, [], _∷_, _++_, map}
 use mathlib.Core.Option.{Option, none, some}
 use Prim.Native.Nat.{ℕ, zero, suc, _+_, _≤_, _<_}
 use native.Mathlib.Omega.{arith}
-use lib.ListN.{length, drop, getD, drop-of-length-le}
+use lib.ListN.{length, drop, getD, length-map, drop-of-length-le}
 use lib.Seq.{drop-cons}
 use Rattle.protocol.specs.declared.Fault.{Fault}
 use Rattle.protocol.specs.declared.Fault.the-variants as fault
@@ -62,6 +62,10 @@ pub first-only : (o : Option Refusal) → first (o ∷ []) ≡ o
 first-only none = refl
 first-only (some r) = refl
 
+pub first-nested : (o : Option Refusal) (l : List (Option Refusal)) → first (o ∷ first l ∷ []) ≡ first (o ∷ l)
+first-nested none l = first-only (first l)
+first-nested (some r) l = refl
+
 -- a row in two parts: the second is counted on from the first
 pub refuse-append : (number n : ℕ) (l m : List Bool)
     → refuse number n (l ++ m) ≡ first (refuse number n l ∷ refuse number (n + length l) m ∷ [])
@@ -79,25 +83,52 @@ first-append [] m = sym (first-only (first m))
 first-append (none ∷ l) m = first-append l m
 first-append (some r ∷ l) m = refl
 
--- an answer that refuses is the first refusal; after one that does not, the first is among the others
-module _ (f : Fault) (l : List (Option Refusal)) where
-  pub first-stops : {o : Option Refusal} → faultRefusal f ≡ o → isFine f ≡ false → faultRefusal f ≡ first (o ∷ l)
-  first-stops e stop = go f stop ∙ ap (λ o. first (o ∷ l)) e
+-- the parts of a row that is a scan of words
+pub refuse-map-append : {T : Type 0} (number n : ℕ) (test : T → Bool) (l m : List T)
+    → refuse number n (map test (l ++ m)) ≡ first (refuse number n (map test l) ∷ refuse number (n + length l) (map test m) ∷ [])
+refuse-map-append number n test l m =
+    ap (refuse number n) (map-append test l m) ∙ refuse-append number n (map test l) (map test m)
+    ∙ ap (λ (k : ℕ). first (refuse number n (map test l) ∷ refuse number (n + k) (map test m) ∷ [])) (length-map l test)
+
+-- a row in three parts, whose places are counted by the caller
+pub refuse-three : (number : ℕ) (l m k : List Bool) (second third : ℕ) → second ≡ length l → third ≡ length l + length m
+    → refuse number 0 (l ++ (m ++ k)) ≡ first (refuse number 0 l ∷ refuse number second m ∷ refuse number third k ∷ [])
+refuse-three number l m k second third e f =
+    let at : 0 + length l ≡ second = omega arith in
+    let on : second + length m ≡ third = omega arith in
+    refuse-append number 0 l (m ++ k)
+    ∙ ap (λ (n : ℕ). first (refuse number 0 l ∷ refuse number n (m ++ k) ∷ [])) at
+    ∙ ap (λ (o : Option Refusal). first (refuse number 0 l ∷ o ∷ [])) (refuse-append number second m k)
+    ∙ first-nested (refuse number 0 l) (refuse number second m ∷ refuse number (second + length m) k ∷ [])
+    ∙ ap (λ (n : ℕ). first (refuse number 0 l ∷ refuse number second m ∷ refuse number n k ∷ [])) on
+
+-- Early returns: an answer that refuses is the first refusal; after one that does not, the first is among the others
+module _ (f : Fault) {o : Option Refusal} (says : faultRefusal f ≡ o) where
+  pub stops : (l : List (Option Refusal)) → isFine f ≡ false → faultRefusal f ≡ first (o ∷ l)
+  stops l stop = go f stop ∙ ap (λ o. first (o ∷ l)) says
     where
       go : (f : Fault) → isFine f ≡ false → faultRefusal f ≡ first (faultRefusal f ∷ l)
       go fault.Fine s = let z : _≡_ {A = ℕ} 0 1 = cc in absurd (omega arith)
       go (fault.Refused number position) s = refl
 
-  pub first-goes : {o : Option Refusal} → faultRefusal f ≡ o → isFine f ≡ true → first l ≡ first (o ∷ l)
-  first-goes e fine = go f fine ∙ ap (λ o. first (o ∷ l)) e
+  pub fine-none : isFine f ≡ true → o ≡ none
+  fine-none fine = sym says ∙ go f fine
     where
-      go : (f : Fault) → isFine f ≡ true → first l ≡ first (faultRefusal f ∷ l)
+      go : (f : Fault) → isFine f ≡ true → faultRefusal f ≡ none
       go fault.Fine s = refl
       go (fault.Refused number position) s = let z : _≡_ {A = ℕ} 0 1 = cc in absurd (omega arith)
 
-pub fine-none : {o : Option Refusal} (f : Fault) → faultRefusal f ≡ o → isFine f ≡ true → o ≡ none
-fine-none f e fine = sym e ∙ go f fine
-  where
-    go : (f : Fault) → isFine f ≡ true → faultRefusal f ≡ none
-    go fault.Fine s = refl
-    go (fault.Refused number position) s = let z : _≡_ {A = ℕ} 0 1 = cc in absurd (omega arith)
+  pub goes-on : (l : List (Option Refusal)) {x : Option Refusal} → isFine f ≡ true → x ≡ first l → x ≡ first (o ∷ l)
+  goes-on l fine e = e ∙ ap (λ o. first (o ∷ l)) (sym (fine-none fine))
+
+-- the last answer of several
+pub last-answer : {x o : Option Refusal} → x ≡ o → x ≡ first (o ∷ [])
+last-answer {x} {o} e = e ∙ sym (first-only o)
+
+-- the same for a row of one test that the code makes itself
+module _ (number n : ℕ) (l : List (Option Refusal)) {test : Bool} where
+  pub fails-first : test ≡ false → some (record { number = number; position = n }) ≡ first (refuse number n (test ∷ []) ∷ l)
+  fails-first e = ap (λ (t : Bool). first (refuse number n (t ∷ []) ∷ l)) (sym e)
+
+  pub passes : {x : Option Refusal} → test ≡ true → x ≡ first l → x ≡ first (refuse number n (test ∷ []) ∷ l)
+  passes t e = e ∙ ap (λ (t : Bool). first (refuse number n (t ∷ []) ∷ l)) (sym t)

@@ -1,9 +1,12 @@
 -- How the contracts of this crate name what a call is given: its circuit, entries within their matrix, and an answer that refuses
 -- nothing. Assumes nothing.
+use mathlib.Core.Path.{_≡_}
 use mathlib.Core.Bool.{Bool, true, false}
 use mathlib.Core.List.{List}
-use Prim.Native.Nat.{ℕ, _<_}
+use Prim.Native.Nat.{ℕ, _+_, _*_, _%_, _<_, _≤_}
+use lib.ListN.{length, getD}
 use Rattle.algebra.specs.Counting.{All}
+use Rattle.domain.specs.Size.{maxSize, isSize}
 use Rattle.protocol.specs.declared.Fault.{Fault}
 use Rattle.protocol.specs.declared.Fault.the-variants as fault
 use Rattle.protocol.specs.Three.{Three}
@@ -12,22 +15,47 @@ use Rattle.protocol.specs.Calls.{CircuitWords, entriesOf}
 
 -- the circuit of three sizes and the words of three entry lists
 abbrev pub given : ℕ → ℕ → ℕ → List ℕ → List ℕ → List ℕ → CircuitWords
-given r c x a b m = record { R = r; C = c; X = x; matrices = record { a = a; b = b; c = m } }
+given r c x ea eb ec = record { R = r; C = c; X = x; matrices = record { a = ea; b = eb; c = ec } }
 
 -- row and column are within a matrix of r rows and c columns
 pub record Within (r c : ℕ) (e : Entry) : Type 0 where
   pub row-below : e .row < r
   pub column-below : e .column < c
 
+-- entry i of a list of words, zeros after the last
+abbrev pub entryWords : List ℕ → ℕ → Entry
+entryWords l i = record { row = getD l (3 * i) 0; column = getD l (3 * i + 1) 0; value = getD l (3 * i + 2) 0 }
+
 -- the entries of three lists of words
 abbrev pub entryLists : List ℕ → List ℕ → List ℕ → Three (List Entry)
-entryLists a b m = record { a = entriesOf a; b = entriesOf b; c = entriesOf m }
+entryLists ea eb ec = record { a = entriesOf ea; b = entriesOf eb; c = entriesOf ec }
 
 -- and they are within it
-pub record EachWithin (r c : ℕ) (a b m : List ℕ) : Type 0 where
-  pub in-a : All (Within r c) (entriesOf a)
-  pub in-b : All (Within r c) (entriesOf b)
-  pub in-m : All (Within r c) (entriesOf m)
+pub record EachWithin (r c : ℕ) (ea eb ec : List ℕ) : Type 0 where
+  pub in-a : All (Within r c) (entriesOf ea)
+  pub in-b : All (Within r c) (entriesOf eb)
+  pub in-c : All (Within r c) (entriesOf ec)
+
+-- a list of whole entries, and not over 1,024 of them; three such lists
+pub record EntryWords (l : List ℕ) : Type 0 where
+  pub whole : length l % 3 ≡ 0
+  pub few : length l ≤ 3 * maxSize
+
+pub record ThreeLists (ea eb ec : List ℕ) : Type 0 where
+  pub list-a : EntryWords ea
+  pub list-b : EntryWords eb
+  pub list-c : EntryWords ec
+
+-- a circuit that 4 and 5 do not refuse, and what every prover call begins with
+pub record CircuitShaped (r c : ℕ) (ea eb ec : List ℕ) : Type 0 where
+  pub R-size : isSize r ≡ true
+  pub C-size : isSize c ≡ true
+  pub lists : ThreeLists ea eb ec
+
+pub record Shaped (r c : ℕ) (ea eb ec z m : List ℕ) : Type 0 where
+  pub circuit : CircuitShaped r c ea eb ec
+  pub z-length : length z ≡ c
+  pub m-length : length m ≡ 2 * c
 
 -- nothing is refused
 abbrev pub isFine : Fault → Bool

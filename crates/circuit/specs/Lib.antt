@@ -1,1 +1,3 @@
 pub mod Given
+pub mod Judgement
+pub mod IndexParts

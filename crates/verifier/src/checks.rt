@@ -12,7 +12,8 @@ ghost use Rattle.domain.specs.Qualifies.{Qualifies};
 ghost use Rattle.domain.specs.Known.{Known};
 ghost use Rattle.protocol.specs.Three.{MatrixName, at, mapThree};
 ghost use Rattle.protocol.specs.Index.{mapIndex};
-ghost use Rattle.protocol.specs.Checks.{mapHeard, mapOpenings, rowLeft, rowRight, weighted, assignmentValue, lineLeft, lineRight, numeratorValue, denominatorValue, matrixLeft, joinedLeft, joinedRight};
+ghost use Rattle.protocol.specs.Checks.{mapHeard, mapOpenings, rowLeft, rowRight, weighted, assignmentValue, lineLeft, lineRight};
+ghost use Rattle.protocol.specs.Checks.{numeratorValue, denominatorValue, matrixLeft, joinedLeft, joinedRight};
 ghost use Rattle.protocol.specs.Checks as checks;
 ghost use Rattle.protocol.specs.Refusals.{sixSizeTests};
 ghost use Rattle.protocol.specs.Session.{all};
@@ -28,7 +29,8 @@ use protocol::Verdict;
 // Row: σ_A σ_B - σ_C = h0(α) v_R(α).
 fn row_holds(p: u32, s: Sizes, sums: Triple, alpha: u32, quotient: u32) -> bool
     requires { ⌜ 1 < p ⌝ }
-    ensures { λ r. ⌜ ((q : Prime) → q .p ≡ p → r ≡ equal (rowLeft (mapThree (of {q = q}) (three sums))) (rowRight (sizes s) (of alpha) (of quotient))) ⌝ }
+    ensures { λ r. ⌜ ((q : Prime) → q .p ≡ p
+        → r ≡ equal (rowLeft (mapThree (of {q = q}) (three sums))) (rowRight (sizes s) (of alpha) (of quotient))) ⌝ }
 {
     let left = field::subtract(p, field::multiply(p, sums.a, sums.b), sums.c);
     let right = field::multiply(p, quotient, domain::vanishing_value(p, s.r, alpha));
@@ -98,7 +100,8 @@ fn line_holds(p: u32, s: Sizes, x: &[u32], h: Heard, o: Opened) -> bool
     ensures { λ r. ⌜ ((q : Prime) → Known q p → Qualifies q
         → r ≡ equal (lineLeft (mapThree (of {q = q}) (three (h .eta))) (mapThree of (three (h .values))) (of (o .mask))
         (assignmentValue (sizes s) (map of (now (x .entry))) (of (h .beta)) (of (o .witness))))
-        (lineRight (sizes s) (of (h .beta)) (weighted (mapThree of (three (h .eta))) (mapThree of (three (h .sums)))) (of (o .lineRemainder)) (of (o .lineQuotient)))) ⌝ }
+        (lineRight (sizes s) (of (h .beta)) (weighted (mapThree of (three (h .eta))) (mapThree of (three (h .sums))))
+        (of (o .lineRemainder)) (of (o .lineQuotient)))) ⌝ }
 {
     let eta = h.eta;
     let values = weighted_sum(p, eta, h.values);
@@ -145,7 +148,8 @@ fn matrix_left(
 ) -> u32
     requires { ⌜ 1 < p ⌝ }
     ensures { λ r. ⌜ ((q : Prime) → q .p ≡ p → (M : MatrixName) → at (sizes s .K) M ≡ size
-        → r ≡ (matrixLeft (sizes s) M (of {q = q} (h .alpha)) (of (h .beta)) (of value) (mapIndex of (indexWords index)) (of (h .gamma)) (of remainder)) .word) ⌝ }
+        → r ≡ (matrixLeft (sizes s) M (of {q = q} (h .alpha)) (of (h .beta)) (of value) (mapIndex of (indexWords index)) (of (h .gamma))
+        (of remainder)) .word) ⌝ }
 {
     let numerator = numerator_value(p, s, h.alpha, h.beta, index);
     let denominator = denominator_value(p, s, h.alpha, h.beta, index);
@@ -157,7 +161,8 @@ fn matrix_left(
 // s_M = |K_M| v_K(γ) / (|K| v_{K_M}(γ)), with |K_M| = size.
 fn selector(p: u32, s: Sizes, size: u32, gamma: u32) -> u32
     requires { ⌜ 1 < p ⌝ }
-    ensures { λ r. ⌜ ((q : Prime) → q .p ≡ p → (M : MatrixName) → at (sizes s .K) M ≡ size → r ≡ (checks.selector (sizes s) M (of {q = q} gamma)) .word) ⌝ }
+    ensures { λ r. ⌜ ((q : Prime) → q .p ≡ p → (M : MatrixName) → at (sizes s .K) M ≡ size
+        → r ≡ (checks.selector (sizes s) M (of {q = q} gamma)) .word) ⌝ }
 {
     let n = largest(s.k);
     let dividend = field::multiply(p, size, domain::vanishing_value(p, n, gamma));

@@ -42,7 +42,7 @@ check-sums-requires c κs =
     let s = c .before .before .before .before .before .before .before in
     let same : length (take (s .args .r) zeros) ≡ s .args .r = length-take-le (s .args .r) zeros (s .pre .1 .0) in (
       s .pre .0,
-      ((refl, refl), subst⁻¹ (λ (n : ℕ). EachWithin n (length (s .args .z .now)) (s .args .a .now) (s .args .b .now) (s .args .m .now)) same (s .pre .1 .1)),
+      ((refl, refl), subst⁻¹ (λ (n : ℕ). EachWithin n (length (s .args .z .now)) (s .args .ea .now) (s .args .eb .now) (s .args .ec .now)) same (s .pre .1 .1)),
     )
 
 returns : tie.Need-returns

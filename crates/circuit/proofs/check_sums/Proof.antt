@@ -21,12 +21,12 @@ row-sums-requires c κs = search needs
 row-sums-requires-2 : tie.Need-row-sums-requires-2
 row-sums-requires-2 c κs =
     let s = c .before .before .before .before .before .before .before .before .before .before .before .before in
-    (s .pre .0, subst⁻¹ (λ (n : ℕ). All (Within n (length (s .args .z .now))) (entriesOf (s .args .b .now))) (s .pre .1 .0 .0) (s .pre .1 .1 .in-b))
+    (s .pre .0, subst⁻¹ (λ (n : ℕ). All (Within n (length (s .args .z .now))) (entriesOf (s .args .eb .now))) (s .pre .1 .0 .0) (s .pre .1 .1 .in-b))
 
 row-sums-requires-3 : tie.Need-row-sums-requires-3
 row-sums-requires-3 c κs =
     let s = c .before .before .before .before .before .before .before .before .before .before .before .before .before .before .before .before in
-    (s .pre .0, subst⁻¹ (λ (n : ℕ). All (Within n (length (s .args .z .now))) (entriesOf (s .args .m .now))) (s .pre .1 .0 .1) (s .pre .1 .1 .in-m))
+    (s .pre .0, subst⁻¹ (λ (n : ℕ). All (Within n (length (s .args .z .now))) (entriesOf (s .args .ec .now))) (s .pre .1 .0 .1) (s .pre .1 .1 .in-c))
 
 check-rows-requires : tie.Need-check-rows-requires
 check-rows-requires c κs = search needs

@@ -3,7 +3,8 @@ use borrow.Author.Needs.{needs}
 use mathlib.Core.Path.{sym, _∙_}
 use native.Mathlib.Omega.{arith}
 use borrow.Author.Tests.{not-true, not-false}
-use Rattle.circuit.proofs.Entries.{entryWords, fits-by, entry-words-within, entry-misfits, entry-first, entry-later}
+use Rattle.circuit.specs.Given.{entryWords}
+use Rattle.circuit.proofs.Entries.{fits-by, entry-words-within, entry-misfits, entry-first, entry-later}
 use Rattle.circuit.proofs.entry_passes.Statement.{statement}
 use Rattle.circuit.proofs.entry_passes.Tie as tie
 

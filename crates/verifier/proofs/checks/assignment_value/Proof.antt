@@ -2,7 +2,7 @@
 use Rattle.domain.specs.Domain.{vanishing}
 use Rattle.domain.specs.Polynomial.{eval, interpolate}
 use Rattle.field.proofs.Words.{of-result}
-use Rattle.field.specs.Element.{of, _⊗_}
+use Rattle.field.specs.Element.{Elem, of, _⊗_}
 use Rattle.protocol.specs.Checks.{assignmentValue}
 use borrow.Author.Needs.{needs}
 use mathlib.Core.List.{map}
@@ -25,10 +25,15 @@ returns : tie.Need-returns
 unfolding assignmentValue
 returns c q K Q =
     let a = c .before .before .before .before .before .args in
-    let v = of-result (vanishing (a .s .x) (of {q = q} (a .beta))) (c .before .before .before .vanishing-value .ensures q (K .value)) in
-    let public = of-result (eval (interpolate (a .s .x) (map (of {q = q}) (a .x .now))) (of (a .beta))) (c .before .before .public-value .ensures q K Q) in
-    let multiple = of-result (of {q = q} (a .witness) ⊗ of (c .before .before .before .vanishing-value .result)) (c .before .multiply .ensures q (K .value)) in
-    let all = c .add .ensures q (K .value) in
+    let β : Elem q = of (a .beta) in
+    let vanish = c .before .before .before .vanishing-value in
+    let vanish-is = of-result (vanishing (a .s .x) β) (vanish .ensures q (K .value)) in
+    let public = c .before .before .public-value in
+    let public-is = of-result (eval (interpolate (a .s .x) (map of (a .x .now))) β) (public .ensures q K Q) in
+    let multiple = c .before .multiply in
+    let multiple-is = of-result (of {q = q} (a .witness) ⊗ of (vanish .result)) (multiple .ensures q (K .value)) in
+    let value = c .add in
+    let value-is = value .ensures q (K .value) in
     cc
 
 pub assignment-value-spec : {M : Type 1} → statement M

@@ -46,14 +46,22 @@ unfolding denominatorValue
 returns c q e =
     let a = c .before .before .before .before .before .before .before .before .args in
     let index = mapIndex (of {q = q}) (indexWords (a .t5)) in
-    let product = of-result (of {q = q} (a .alpha) ⊗ of (a .beta)) (c .before .before .before .before .before .before .before .multiply .ensures q e) in
-    let column = of-result (of {q = q} (a .alpha) ⊗ index .col) (c .before .before .before .before .before .before .multiply2 .ensures q e) in
-    let first = of-result (of (c .before .before .before .before .before .before .before .multiply .result) ⊖ of (c .before .before .before .before .before .before .multiply2 .result)) (c .before .before .before .before .before .subtract .ensures q e) in
-    let row = of-result (of {q = q} (a .beta) ⊗ index .row) (c .before .before .before .before .multiply3 .ensures q e) in
-    let second = of-result (of (c .before .before .before .before .before .subtract .result) ⊖ of (c .before .before .before .before .multiply3 .result)) (c .before .before .before .subtract2 .ensures q e) in
-    let both = of-result (of (c .before .before .before .subtract2 .result) ⊕ index .rowcol) (c .before .before .add .ensures q e) in
-    let scale = of-result (of {q = q} (a .s .r) ⊗ of (a .s .c)) (c .before .multiply4 .ensures q e) in
-    let all = c .multiply5 .ensures q e in
+    let product = c .before .before .before .before .before .before .before .multiply in
+    let product-is = of-result (of {q = q} (a .alpha) ⊗ of (a .beta)) (product .ensures q e) in
+    let column = c .before .before .before .before .before .before .multiply2 in
+    let column-is = of-result (of {q = q} (a .alpha) ⊗ index .col) (column .ensures q e) in
+    let first = c .before .before .before .before .before .subtract in
+    let first-is = of-result (of (product .result) ⊖ of (column .result)) (first .ensures q e) in
+    let row = c .before .before .before .before .multiply3 in
+    let row-is = of-result (of {q = q} (a .beta) ⊗ index .row) (row .ensures q e) in
+    let second = c .before .before .before .subtract2 in
+    let second-is = of-result (of (first .result) ⊖ of (row .result)) (second .ensures q e) in
+    let third = c .before .before .add in
+    let third-is = of-result (of (second .result) ⊕ index .rowcol) (third .ensures q e) in
+    let scale = c .before .multiply4 in
+    let scale-is = of-result (of {q = q} (a .s .r) ⊗ of (a .s .c)) (scale .ensures q e) in
+    let value = c .multiply5 in
+    let value-is = value .ensures q e in
     cc
 
 pub denominator-value-spec : {M : Type 1} → statement M

@@ -32,12 +32,18 @@ unfolding lineLeft
 returns c q K Q =
     let a = c .before .before .before .before .before .before .before .before .args in
     let η : Three (Elem q) = mapThree of (three (a .h .eta)) in
-    let values = of-result (weighted η (mapThree of (three (a .h .values)))) (c .before .before .before .before .before .weighted-sum .ensures q (K .value)) in
-    let sum = of-result (weighted η (mapThree of (three (a .h .sums)))) (c .before .before .before .before .weighted-sum2 .ensures q (K .value)) in
-    let z = of-result (assignmentValue (sizes (a .s)) (map (of {q = q}) (a .x .now)) (of (a .h .beta)) (of (a .o .witness))) (c .before .before .before .assignment-value .ensures q K Q) in
-    let product = of-result (of (c .before .before .before .before .before .weighted-sum .result) ⊗ of (c .before .before .before .assignment-value .result)) (c .before .before .multiply .ensures q (K .value)) in
-    let left = c .before .add .ensures q (K .value) in
-    let right = c .line-right .ensures q (K .value) in
+    let values = c .before .before .before .before .before .weighted-sum in
+    let values-is = of-result (weighted η (mapThree of (three (a .h .values)))) (values .ensures q (K .value)) in
+    let sum = c .before .before .before .before .weighted-sum2 in
+    let sum-is = of-result (weighted η (mapThree of (three (a .h .sums)))) (sum .ensures q (K .value)) in
+    let z = c .before .before .before .assignment-value in
+    let z-is = of-result (assignmentValue (sizes (a .s)) (map of (a .x .now)) (of {q = q} (a .h .beta)) (of (a .o .witness))) (z .ensures q K Q) in
+    let product = c .before .before .multiply in
+    let product-is = of-result (of {q = q} (values .result) ⊗ of (z .result)) (product .ensures q (K .value)) in
+    let left = c .before .add in
+    let left-is = left .ensures q (K .value) in
+    let right = c .line-right in
+    let right-is = right .ensures q (K .value) in
     cc
 
 pub line-holds-spec : {M : Type 1} → statement M

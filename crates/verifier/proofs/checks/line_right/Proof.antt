@@ -33,13 +33,20 @@ returns : tie.Need-returns
 unfolding lineRight
 returns c q e =
     let a = c .before .before .before .before .before .before .before .args in
-    let v = of-result (vanishing (a .s .c) (of {q = q} (a .beta))) (c .before .before .before .before .before .before .vanishing-value .ensures q e) in
-    let multiple = of-result (of {q = q} (a .quotient) ⊗ of (c .before .before .before .before .before .before .vanishing-value .result)) (c .before .before .before .before .before .multiply .ensures q e) in
-    let rest = of-result (of {q = q} (a .beta) ⊗ of (a .remainder)) (c .before .before .before .before .multiply2 .ensures q e) in
-    let inverted = of-result (inverse (of {q = q} (a .s .c))) (c .before .before .before .invert .ensures q e) in
-    let mean = of-result (of {q = q} (a .sum) ⊗ of (c .before .before .before .invert .result)) (c .before .before .multiply3 .ensures q e) in
-    let both = of-result (of (c .before .before .before .before .before .multiply .result) ⊕ of (c .before .before .before .before .multiply2 .result)) (c .before .add .ensures q e) in
-    let all = c .add2 .ensures q e in
+    let vanish = c .before .before .before .before .before .before .vanishing-value in
+    let vanish-is = of-result (vanishing (a .s .c) (of {q = q} (a .beta))) (vanish .ensures q e) in
+    let multiple = c .before .before .before .before .before .multiply in
+    let multiple-is = of-result (of {q = q} (a .quotient) ⊗ of (vanish .result)) (multiple .ensures q e) in
+    let rest = c .before .before .before .before .multiply2 in
+    let rest-is = of-result (of {q = q} (a .beta) ⊗ of (a .remainder)) (rest .ensures q e) in
+    let inverted = c .before .before .before .invert in
+    let inverted-is = of-result (inverse (of {q = q} (a .s .c))) (inverted .ensures q e) in
+    let mean = c .before .before .multiply3 in
+    let mean-is = of-result (of {q = q} (a .sum) ⊗ of (inverted .result)) (mean .ensures q e) in
+    let two = c .before .add in
+    let two-is = of-result (of {q = q} (multiple .result) ⊕ of (rest .result)) (two .ensures q e) in
+    let three = c .add2 in
+    let three-is = three .ensures q e in
     cc
 
 pub line-right-spec : {M : Type 1} → statement M

@@ -50,18 +50,27 @@ returns c q e =
     let a = c .before .before .before .before .before .before .before .before .before .before .before .before .before .before .before .args in
     let s = sizes (a .s) in
     let h = a .h in
+    let γ : Elem q = of (h .gamma) in
     let term : MatrixName → Elem q = λ M.
-    of (at (three (h .delta)) M) ⊗ selector s M (of (h .gamma))
-    ⊗ matrixLeft s M (of (h .alpha)) (of (h .beta)) (of (at (three (h .values)) M)) (mapIndex of (at (openings (a .o) (a .t5) .index) M)) (of (h .gamma))
+    of (at (three (h .delta)) M) ⊗ selector s M γ
+    ⊗ matrixLeft s M (of (h .alpha)) (of (h .beta)) (of (at (three (h .values)) M)) (mapIndex of (at (openings (a .o) (a .t5) .index) M)) γ
     (of (at (three (a .o .matrixRemainders)) M)) in
-    let first = of-result (term A) (c .before .before .before .before .before .before .before .before .before .matrix-term .ensures q e A refl) in
-    let second = of-result (term B) (c .before .before .before .before .before .before .before .matrix-term2 .ensures q e B refl) in
-    let third = of-result (term C) (c .before .before .before .before .before .matrix-term3 .ensures q e C refl) in
-    let both = of-result (of (c .before .before .before .before .before .before .before .before .before .matrix-term .result) ⊕ of (c .before .before .before .before .before .before .before .matrix-term2 .result)) (c .before .before .before .before .add .ensures q e) in
-    let left = c .before .before .before .add2 .ensures q e in
-    let n = c .before .before .largest .ensures in
-    let v = of-result (vanishing (c .before .before .largest .result) (of {q = q} (a .h .gamma))) (c .before .vanishing-value .ensures q e) in
-    let right = c .multiply .ensures q e in
+    let first = c .before .before .before .before .before .before .before .before .before .matrix-term in
+    let first-is = of-result (term A) (first .ensures q e A refl) in
+    let second = c .before .before .before .before .before .before .before .matrix-term2 in
+    let second-is = of-result (term B) (second .ensures q e B refl) in
+    let third = c .before .before .before .before .before .matrix-term3 in
+    let third-is = of-result (term C) (third .ensures q e C refl) in
+    let two = c .before .before .before .before .add in
+    let two-is = of-result (of (first .result) ⊕ of (second .result)) (two .ensures q e) in
+    let left = c .before .before .before .add2 in
+    let left-is = left .ensures q e in
+    let n = c .before .before .largest in
+    let n-is = n .ensures in
+    let vanish = c .before .vanishing-value in
+    let vanish-is = of-result (vanishing (n .result) γ) (vanish .ensures q e) in
+    let right = c .multiply in
+    let right-is = right .ensures q e in
     cc
 
 pub matrix-holds-spec : {M : Type 1} → statement M

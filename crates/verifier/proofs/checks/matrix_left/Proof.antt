@@ -1,6 +1,6 @@
 -- `verifier::checks::matrix_left` meets its contract. Assumes nothing.
 use Rattle.field.proofs.Words.{of-result}
-use Rattle.field.specs.Element.{of, _⊕_, _⊗_}
+use Rattle.field.specs.Element.{Elem, of, _⊕_, _⊗_}
 use Rattle.field.specs.Power.{inverse}
 use Rattle.protocol.specs.Checks.{numeratorValue, denominatorValue, matrixLeft}
 use Rattle.protocol.specs.Index.{mapIndex}
@@ -38,15 +38,25 @@ unfolding matrixLeft
 returns c q e M k =
     let a = c .before .before .before .before .before .before .before .before .args in
     let s = sizes (a .s) in
+    let α : Elem q = of (a .h .alpha) in
+    let β : Elem q = of (a .h .beta) in
     let index = mapIndex (of {q = q}) (indexWords (a .index)) in
-    let numerator = of-result (numeratorValue s (of {q = q} (a .h .alpha)) (of (a .h .beta)) index) (c .before .before .before .before .before .before .before .numerator-value .ensures q e) in
-    let denominator = of-result (denominatorValue s (of {q = q} (a .h .alpha)) (of (a .h .beta)) index) (c .before .before .before .before .before .before .denominator-value .ensures q e) in
-    let inverted = of-result (inverse (of {q = q} (a .size))) (c .before .before .before .before .before .invert .ensures q e) in
-    let mean = of-result (of {q = q} (a .value) ⊗ of (c .before .before .before .before .before .invert .result)) (c .before .before .before .before .multiply .ensures q e) in
-    let product = of-result (of {q = q} (a .h .gamma) ⊗ of (a .remainder)) (c .before .before .before .multiply2 .ensures q e) in
-    let ratio = of-result (of (c .before .before .before .multiply2 .result) ⊕ of (c .before .before .before .before .multiply .result)) (c .before .before .add .ensures q e) in
-    let other = of-result (of (c .before .before .before .before .before .before .denominator-value .result) ⊗ of (c .before .before .add .result)) (c .before .multiply3 .ensures q e) in
-    let all = c .subtract .ensures q e in
+    let numerator = c .before .before .before .before .before .before .before .numerator-value in
+    let numerator-is = of-result (numeratorValue s α β index) (numerator .ensures q e) in
+    let denominator = c .before .before .before .before .before .before .denominator-value in
+    let denominator-is = of-result (denominatorValue s α β index) (denominator .ensures q e) in
+    let inverted = c .before .before .before .before .before .invert in
+    let inverted-is = of-result (inverse (of {q = q} (a .size))) (inverted .ensures q e) in
+    let mean = c .before .before .before .before .multiply in
+    let mean-is = of-result (of {q = q} (a .value) ⊗ of (inverted .result)) (mean .ensures q e) in
+    let product = c .before .before .before .multiply2 in
+    let product-is = of-result (of {q = q} (a .h .gamma) ⊗ of (a .remainder)) (product .ensures q e) in
+    let ratio = c .before .before .add in
+    let ratio-is = of-result (of (product .result) ⊕ of (mean .result)) (ratio .ensures q e) in
+    let other = c .before .multiply3 in
+    let other-is = of-result (of (denominator .result) ⊗ of (ratio .result)) (other .ensures q e) in
+    let left = c .subtract in
+    let left-is = left .ensures q e in
     cc
 
 pub matrix-left-spec : {M : Type 1} → statement M

@@ -1,6 +1,6 @@
 -- `verifier::checks::matrix_term` meets its contract. Assumes nothing.
 use Rattle.field.proofs.Words.{of-result}
-use Rattle.field.specs.Element.{of, _⊗_}
+use Rattle.field.specs.Element.{Elem, of, _⊗_}
 use Rattle.protocol.specs.Checks.{selector, matrixLeft}
 use Rattle.protocol.specs.Index.{mapIndex}
 use Rattle.protocol.specs.Meanings.{sizes, indexWords}
@@ -23,10 +23,17 @@ multiply-requires-2 c κs = search needs
 returns : tie.Need-returns
 returns c q e M k =
     let a = c .before .before .before .before .args in
-    let s = of-result (selector (sizes (a .s)) M (of {q = q} (a .h .gamma))) (c .before .before .before .selector .ensures q e M k) in
-    let weight = of-result (of {q = q} (a .delta) ⊗ of (c .before .before .before .selector .result)) (c .before .before .multiply .ensures q e) in
-    let left = of-result (matrixLeft (sizes (a .s)) M (of {q = q} (a .h .alpha)) (of (a .h .beta)) (of (a .value)) (mapIndex of (indexWords (a .index))) (of (a .h .gamma)) (of (a .remainder))) (c .before .matrix-left .ensures q e M k) in
-    let all = c .multiply2 .ensures q e in
+    let s = sizes (a .s) in
+    let γ : Elem q = of (a .h .gamma) in
+    let index = mapIndex (of {q = q}) (indexWords (a .index)) in
+    let share = c .before .before .before .selector in
+    let share-is = of-result (selector s M γ) (share .ensures q e M k) in
+    let weight = c .before .before .multiply in
+    let weight-is = of-result (of {q = q} (a .delta) ⊗ of (share .result)) (weight .ensures q e) in
+    let left = c .before .matrix-left in
+    let left-is = of-result (matrixLeft s M (of (a .h .alpha)) (of (a .h .beta)) (of (a .value)) index γ (of (a .remainder))) (left .ensures q e M k) in
+    let term = c .multiply2 in
+    let term-is = term .ensures q e in
     cc
 
 pub matrix-term-spec : {M : Type 1} → statement M

@@ -26,10 +26,14 @@ returns : tie.Need-returns
 unfolding numeratorValue
 returns c q e =
     let a = c .before .before .before .before .args in
-    let rows = of-result (vanishing (a .s .r) (of {q = q} (a .alpha))) (c .before .before .before .vanishing-value .ensures q e) in
-    let columns = of-result (vanishing (a .s .c) (of {q = q} (a .beta))) (c .before .before .vanishing-value2 .ensures q e) in
-    let product = of-result (of (c .before .before .before .vanishing-value .result) ⊗ of (c .before .before .vanishing-value2 .result)) (c .before .multiply .ensures q e) in
-    let all = c .multiply2 .ensures q e in
+    let rows = c .before .before .before .vanishing-value in
+    let rows-is = of-result (vanishing (a .s .r) (of {q = q} (a .alpha))) (rows .ensures q e) in
+    let columns = c .before .before .vanishing-value2 in
+    let columns-is = of-result (vanishing (a .s .c) (of {q = q} (a .beta))) (columns .ensures q e) in
+    let product = c .before .multiply in
+    let product-is = of-result (of (rows .result) ⊗ of (columns .result)) (product .ensures q e) in
+    let value = c .multiply2 in
+    let value-is = value .ensures q e in
     cc
 
 pub numerator-value-spec : {M : Type 1} → statement M

@@ -23,10 +23,14 @@ returns : tie.Need-returns
 unfolding rowLeft rowRight
 returns c q e =
     let a = c .before .before .before .before .args in
-    let product = of-result (of {q = q} (a .sums .a) ⊗ of (a .sums .b)) (c .before .before .before .multiply .ensures q e) in
-    let left = c .before .before .subtract .ensures q e in
-    let v = of-result (vanishing (a .s .r) (of {q = q} (a .alpha))) (c .before .vanishing-value .ensures q e) in
-    let right = c .multiply2 .ensures q e in
+    let product = c .before .before .before .multiply in
+    let product-is = of-result (of {q = q} (a .sums .a) ⊗ of (a .sums .b)) (product .ensures q e) in
+    let left = c .before .before .subtract in
+    let left-is = left .ensures q e in
+    let vanish = c .before .vanishing-value in
+    let vanish-is = of-result (vanishing (a .s .r) (of {q = q} (a .alpha))) (vanish .ensures q e) in
+    let right = c .multiply2 in
+    let right-is = right .ensures q e in
     cc
 
 pub row-holds-spec : {M : Type 1} → statement M

@@ -33,13 +33,20 @@ returns : tie.Need-returns
 unfolding selector
 returns c q e M k =
     let a = c .before .before .before .before .before .before .before .args in
-    let n = c .before .before .before .before .before .before .largest .ensures in
-    let v = of-result (vanishing (c .before .before .before .before .before .before .largest .result) (of {q = q} (a .gamma))) (c .before .before .before .before .before .vanishing-value .ensures q e) in
-    let dividend = of-result (of {q = q} (a .size) ⊗ of (c .before .before .before .before .before .vanishing-value .result)) (c .before .before .before .before .multiply .ensures q e) in
-    let u = of-result (vanishing (a .size) (of {q = q} (a .gamma))) (c .before .before .before .vanishing-value2 .ensures q e) in
-    let divisor = of-result (of {q = q} (c .before .before .before .before .before .before .largest .result) ⊗ of (c .before .before .before .vanishing-value2 .result)) (c .before .before .multiply2 .ensures q e) in
-    let inverted = of-result (inverse (of (c .before .before .multiply2 .result))) (c .before .invert .ensures q e) in
-    let all = c .multiply3 .ensures q e in
+    let n = c .before .before .before .before .before .before .largest in
+    let n-is = n .ensures in
+    let all = c .before .before .before .before .before .vanishing-value in
+    let all-is = of-result (vanishing (n .result) (of {q = q} (a .gamma))) (all .ensures q e) in
+    let dividend = c .before .before .before .before .multiply in
+    let dividend-is = of-result (of {q = q} (a .size) ⊗ of (all .result)) (dividend .ensures q e) in
+    let own = c .before .before .before .vanishing-value2 in
+    let own-is = of-result (vanishing (a .size) (of {q = q} (a .gamma))) (own .ensures q e) in
+    let divisor = c .before .before .multiply2 in
+    let divisor-is = of-result (of {q = q} (n .result) ⊗ of (own .result)) (divisor .ensures q e) in
+    let inverted = c .before .invert in
+    let inverted-is = of-result (inverse (of {q = q} (divisor .result))) (inverted .ensures q e) in
+    let quotient = c .multiply3 in
+    let quotient-is = quotient .ensures q e in
     cc
 
 pub selector-spec : {M : Type 1} → statement M

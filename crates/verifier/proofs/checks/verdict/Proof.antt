@@ -17,12 +17,14 @@ unfolding verdict
 returns c q K Q = sym (pick-false _ _ (sym (c .before .row-holds .ensures q (K .value)) ∙ not-true _ (c .if1 .taken)))
 
 line-holds-requires : tie.Need-line-holds-requires
-line-holds-requires c κs = let t = c .before .before .before in (search needs, (allowed (sizes (t .args .s)) (t .pre .1 .0) .X-size, search needs))
+line-holds-requires c κs = let start = c .before .before .before in (search needs, (allowed (sizes (start .args .s)) (start .pre .1 .0) .X-size, search needs))
 
 returns-2 : tie.Need-returns-2
 unfolding verdict
 returns-2 c q K Q =
-    sym (pick-true _ _ (sym (c .before .before .before .row-holds .ensures q (K .value)) ∙ not-false _ (c .before .before .if1 .left))
+    sym
+    (pick-true _ _
+    (sym (c .before .before .before .row-holds .ensures q (K .value)) ∙ not-false _ (c .before .before .if1 .left))
     ∙ pick-false _ _ (sym (c .before .line-holds .ensures q K Q) ∙ not-true _ (c .if2 .taken)))
 
 matrix-holds-requires : tie.Need-matrix-holds-requires
@@ -31,14 +33,18 @@ matrix-holds-requires c κs = search needs
 returns-3 : tie.Need-returns-3
 unfolding verdict
 returns-3 c q K Q =
-    sym (pick-true _ _ (sym (c .before .before .before .before .before .row-holds .ensures q (K .value)) ∙ not-false _ (c .before .before .before .before .if1 .left))
+    sym
+    (pick-true _ _
+    (sym (c .before .before .before .before .before .row-holds .ensures q (K .value)) ∙ not-false _ (c .before .before .before .before .if1 .left))
     ∙ pick-true _ _ (sym (c .before .before .before .line-holds .ensures q K Q) ∙ not-false _ (c .before .before .if2 .left))
     ∙ pick-false _ _ (sym (c .before .matrix-holds .ensures q (K .value)) ∙ not-true _ (c .if3 .taken)))
 
 returns-4 : tie.Need-returns-4
 unfolding verdict
 returns-4 c q K Q =
-    sym (pick-true _ _ (sym (c .before .before .before .before .before .row-holds .ensures q (K .value)) ∙ not-false _ (c .before .before .before .before .if1 .left))
+    sym
+    (pick-true _ _
+    (sym (c .before .before .before .before .before .row-holds .ensures q (K .value)) ∙ not-false _ (c .before .before .before .before .if1 .left))
     ∙ pick-true _ _ (sym (c .before .before .before .line-holds .ensures q K Q) ∙ not-false _ (c .before .before .if2 .left))
     ∙ pick-true _ _ (sym (c .before .matrix-holds .ensures q (K .value)) ∙ not-false _ (c .if3 .left)))
 

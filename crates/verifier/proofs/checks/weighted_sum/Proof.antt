@@ -25,11 +25,16 @@ returns : tie.Need-returns
 unfolding weighted
 returns c q e =
     let a = c .before .before .before .before .before .args in
-    let p1 = of-result (of {q = q} (a .eta .a) ⊗ of (a .v .a)) (c .before .before .before .before .multiply .ensures q e) in
-    let p2 = of-result (of {q = q} (a .eta .b) ⊗ of (a .v .b)) (c .before .before .before .multiply2 .ensures q e) in
-    let p3 = of-result (of {q = q} (a .eta .c) ⊗ of (a .v .c)) (c .before .before .multiply3 .ensures q e) in
-    let both = of-result (of (c .before .before .before .before .multiply .result) ⊕ of (c .before .before .before .multiply2 .result)) (c .before .add .ensures q e) in
-    let all = c .add2 .ensures q e in
+    let first = c .before .before .before .before .multiply in
+    let first-is = of-result (of {q = q} (a .eta .a) ⊗ of (a .v .a)) (first .ensures q e) in
+    let second = c .before .before .before .multiply2 in
+    let second-is = of-result (of {q = q} (a .eta .b) ⊗ of (a .v .b)) (second .ensures q e) in
+    let third = c .before .before .multiply3 in
+    let third-is = of-result (of {q = q} (a .eta .c) ⊗ of (a .v .c)) (third .ensures q e) in
+    let two = c .before .add in
+    let two-is = of-result (of (first .result) ⊕ of (second .result)) (two .ensures q e) in
+    let three = c .add2 in
+    let three-is = three .ensures q e in
     cc
 
 pub weighted-sum-spec : {M : Type 1} → statement M

@@ -27,15 +27,17 @@ returns-2 : tie.Need-returns-2
 unfolding inTurn sizeRefusal
 returns-2 c =
     let j = c .before .before in
-    let a = j .before .before .args in
-    sym (ap₂ _&&_ (eq-eqb _ _ (j .before .if1 .left)) (row-passes 4 0 (sixSizeTests (sizes (a .s))) (sym (ap faultRefusal (c .enum-told .given .1)) ∙ j .judge-sizes .ensures)))
+    let tests = sixSizeTests (sizes (j .before .before .args .s)) in
+    let passed = sym (ap faultRefusal (c .enum-told .given .1)) ∙ j .judge-sizes .ensures in
+    sym (ap₂ _&&_ (eq-eqb _ _ (j .before .if1 .left)) (row-passes 4 0 tests passed))
 
 returns-3 : tie.Need-returns-3
 unfolding inTurn sizeRefusal
 returns-3 c =
     let j = c .before .before in
-    let a = j .before .before .args in
-    sym (ap₂ _&&_ (eq-eqb _ _ (j .before .if1 .left)) (row-fails 4 0 _ (sixSizeTests (sizes (a .s))) (sym (ap faultRefusal (c .enum-told2 .given .1)) ∙ j .judge-sizes .ensures)))
+    let tests = sixSizeTests (sizes (j .before .before .args .s)) in
+    let failed = sym (ap faultRefusal (c .enum-told2 .given .1)) ∙ j .judge-sizes .ensures in
+    sym (ap₂ _&&_ (eq-eqb _ _ (j .before .if1 .left)) (row-fails 4 0 _ tests failed))
 
 pub in-turn-spec : {M : Type 1} → statement M
 in-turn-spec =

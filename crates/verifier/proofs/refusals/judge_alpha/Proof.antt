@@ -14,6 +14,12 @@ use native.Mathlib.Omega.{arith}
 use Rattle.verifier.proofs.refusals.judge_alpha.Statement.{statement}
 use Rattle.verifier.proofs.refusals.judge_alpha.Tie as tie
 
+turn : (c : tie.Else1) → let a = c .before .before .args in inTurn 1 (a .stage) (sizes (a .s)) ≡ true
+turn c = sym (c .before .in-turn .ensures) ∙ not-false _ (c .if1 .left)
+
+sized : (c : tie.Else1) → Allowed (sizes (c .before .before .args .s))
+sized c = let a = c .before .before .args in in-turn-allowed 1 (a .stage) (sizes (a .s)) (turn c)
+
 in-turn-requires : tie.Need-in-turn-requires
 in-turn-requires c κs = search needs
 
@@ -31,39 +37,25 @@ judge-words-requires : tie.Need-judge-words-requires
 judge-words-requires c κs = search needs
 
 judge-challenge-requires : tie.Need-judge-challenge-requires
-judge-challenge-requires c κs =
-    let t = c .before .before .before in
-    let a = t .before .args in
-    let w : Allowed (sizes (a .s)) = in-turn-allowed 1 (a .stage) (sizes (a .s)) (sym (t .in-turn .ensures) ∙ not-false _ (c .before .before .if1 .left)) in
-    (search needs, (search needs, w .R-size))
+judge-challenge-requires c κs = (search needs, (search needs, sized (c .before .before) .R-size))
 
 sub-t17 : tie.Need-sub-t17
-sub-t17 c =
-    let t = c .before .before .before .before .before in
-    let a = t .before .args in
-    let w : Allowed (sizes (a .s)) = in-turn-allowed 1 (a .stage) (sizes (a .s)) (sym (t .in-turn .ensures) ∙ not-false _ (c .before .before .before .before .if1 .left)) in
-    omega (arith, w .X-within)
+sub-t17 c = omega (arith, sized (c .before .before .before .before) .X-within)
 
 add-t18 : tie.Need-add-t18
 add-t18 c =
-    let t = c .before .before .before .before .before in
-    let a = t .before .args in
-    let w : Allowed (sizes (a .s)) = in-turn-allowed 1 (a .stage) (sizes (a .s)) (sym (t .in-turn .ensures) ∙ not-false _ (c .before .before .before .before .if1 .left)) in
-    omega (arith, size-range (a .s .c) (w .C-size))
+    let t = c .before .before .before .before in
+    omega (arith, size-range (t .before .before .args .s .c) (sized t .C-size))
 
 mul-t19 : tie.Need-mul-t19
 mul-t19 c =
-    let t = c .before .before .before .before .before .before in
-    let a = t .before .args in
-    let w : Allowed (sizes (a .s)) = in-turn-allowed 1 (a .stage) (sizes (a .s)) (sym (t .in-turn .ensures) ∙ not-false _ (c .before .before .before .before .before .if1 .left)) in
-    omega (arith, size-range (a .s .c) (w .C-size))
+    let t = c .before .before .before .before .before in
+    omega (arith, size-range (t .before .before .args .s .c) (sized t .C-size))
 
 sub-t20 : tie.Need-sub-t20
 sub-t20 c =
-    let t = c .before .before .before .before .before .before .before in
-    let a = t .before .args in
-    let w : Allowed (sizes (a .s)) = in-turn-allowed 1 (a .stage) (sizes (a .s)) (sym (t .in-turn .ensures) ∙ not-false _ (c .before .before .before .before .before .before .if1 .left)) in
-    omega (arith, size-range (a .s .r) (w .R-size))
+    let t = c .before .before .before .before .before .before in
+    omega (arith, size-range (t .before .before .args .s .r) (sized t .R-size))
 
 slice-aggregate-first-failed : tie.Need-slice-aggregate-first-failed
 slice-aggregate-first-failed c = search needs
@@ -80,11 +72,11 @@ first-of-requires-2 c κs = search needs
 returns-2 : tie.Need-returns-2
 unfolding alphaRefusal turnRefusal lengthRefusal lengths
 returns-2 c q Q e =
-    let i = c .before .before .before .before .before .before .before .before .before .before in
-    let a = i .before .before .args in
-    let t : inTurn 1 (a .stage) (sizes (a .s)) ≡ true = sym (i .before .in-turn .ensures) ∙ not-false _ (i .if1 .left) in
-    rw t
-    (first-three (c .before .before .before .before .before .before .before .before .judge-words .ensures ∙ words-refusal q e (a .alpha ∷ [])) (c .before .before .before .before .before .before .before .judge-challenge .ensures q Q e)
+    let j = c .before .before .before .before .before .before .before in
+    let t = j .before .before .before in
+    let a = t .before .before .args in
+    rw (turn t)
+    (first-three (j .before .judge-words .ensures ∙ words-refusal q e (a .alpha ∷ [])) (j .judge-challenge .ensures q Q e)
     (c .before .before .first-failed .ensures) (c .first-of2 .ensures) (c .before .first-of .ensures))
 
 pub judge-alpha-spec : {M : Type 1} → statement M

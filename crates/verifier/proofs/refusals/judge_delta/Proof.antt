@@ -15,6 +15,12 @@ use native.Mathlib.Omega.{arith}
 use Rattle.verifier.proofs.refusals.judge_delta.Statement.{statement}
 use Rattle.verifier.proofs.refusals.judge_delta.Tie as tie
 
+turn : (c : tie.Else1) → let a = c .before .before .args in inTurn 4 (a .stage) (sizes (a .s)) ≡ true
+turn c = sym (c .before .in-turn .ensures) ∙ not-false _ (c .if1 .left)
+
+sized : (c : tie.Else1) → Allowed (sizes (c .before .before .args .s))
+sized c = let a = c .before .before .args in in-turn-allowed 4 (a .stage) (sizes (a .s)) (turn c)
+
 in-turn-requires : tie.Need-in-turn-requires
 in-turn-requires c κs = search needs
 
@@ -33,24 +39,18 @@ judge-words-requires c κs = search needs
 
 sub-t16 : tie.Need-sub-t16
 sub-t16 c =
-    let t = c .before .before .before .before .before in
-    let a = t .before .args in
-    let w : Allowed (sizes (a .s)) = in-turn-allowed 4 (a .stage) (sizes (a .s)) (sym (t .in-turn .ensures) ∙ not-false _ (c .before .before .before .before .if1 .left)) in
-    omega (arith, size-range (a .s .k .a) (w .K-size A))
+    let t = c .before .before .before .before in
+    omega (arith, size-range (t .before .before .args .s .k .a) (sized t .K-size A))
 
 sub-t17 : tie.Need-sub-t17
 sub-t17 c =
-    let t = c .before .before .before .before .before .before .before in
-    let a = t .before .args in
-    let w : Allowed (sizes (a .s)) = in-turn-allowed 4 (a .stage) (sizes (a .s)) (sym (t .in-turn .ensures) ∙ not-false _ (c .before .before .before .before .before .before .if1 .left)) in
-    omega (arith, size-range (a .s .k .b) (w .K-size B))
+    let t = c .before .before .before .before .before .before in
+    omega (arith, size-range (t .before .before .args .s .k .b) (sized t .K-size B))
 
 sub-t18 : tie.Need-sub-t18
 sub-t18 c =
-    let t = c .before .before .before .before .before .before .before .before .before in
-    let a = t .before .args in
-    let w : Allowed (sizes (a .s)) = in-turn-allowed 4 (a .stage) (sizes (a .s)) (sym (t .in-turn .ensures) ∙ not-false _ (c .before .before .before .before .before .before .before .before .if1 .left)) in
-    omega (arith, size-range (a .s .k .c) (w .K-size C))
+    let t = c .before .before .before .before .before .before .before .before in
+    omega (arith, size-range (t .before .before .args .s .k .c) (sized t .K-size C))
 
 slice-aggregate-first-failed : tie.Need-slice-aggregate-first-failed
 slice-aggregate-first-failed c = search needs
@@ -64,12 +64,12 @@ first-of-requires c κs = search needs
 returns-2 : tie.Need-returns-2
 unfolding deltaRefusal turnRefusal lengthRefusal lengths
 returns-2 c q e =
-    let i = c .before .before .before .before .before .before .before .before .before .before .before .before in
-    let a = i .before .before .args in
-    let t : inTurn 4 (a .stage) (sizes (a .s)) ≡ true = sym (i .before .in-turn .ensures) ∙ not-false _ (i .if1 .left) in
-    rw t
-    (first-pair (c .before .before .before .before .before .before .before .before .before .before .judge-words .ensures ∙ words-refusal q e (listed (three (a .values)) ++ listed (three (a .delta))))
-    (c .before .first-failed .ensures) (c .first-of .ensures))
+    let j = c .before .before .before .before .before .before .before .before .before .before in
+    let t = j .before .before in
+    let a = t .before .before .args in
+    let words = listed (three (a .values)) ++ listed (three (a .delta)) in
+    rw (turn t)
+    (first-pair (j .judge-words .ensures ∙ words-refusal q e words) (c .before .first-failed .ensures) (c .first-of .ensures))
 
 pub judge-delta-spec : {M : Type 1} → statement M
 judge-delta-spec =

@@ -12,6 +12,9 @@ use mathlib.Core.Path.{_≡_, sym, _∙_}
 use Rattle.verifier.proofs.refusals.judge_eta.Statement.{statement}
 use Rattle.verifier.proofs.refusals.judge_eta.Tie as tie
 
+turn : (c : tie.Else1) → let a = c .before .before .args in inTurn 2 (a .stage) (sizes (a .s)) ≡ true
+turn c = sym (c .before .in-turn .ensures) ∙ not-false _ (c .if1 .left)
+
 in-turn-requires : tie.Need-in-turn-requires
 in-turn-requires c κs = search needs
 
@@ -31,11 +34,10 @@ judge-words-requires c κs = search needs
 returns-2 : tie.Need-returns-2
 unfolding etaRefusal turnRefusal
 returns-2 c q e =
-    let i = c .before .before in
-    let a = i .before .before .args in
-    let t : inTurn 2 (a .stage) (sizes (a .s)) ≡ true = sym (i .before .in-turn .ensures) ∙ not-false _ (i .if1 .left) in
+    let t = c .before .before in
+    let a = t .before .before .args in
     let words = listed (three (a .sums)) ++ listed (three (a .eta)) in
-    rw t (c .judge-words .ensures ∙ words-refusal q e words ∙ sym (first-one (wordRefusal q words)))
+    rw (turn t) (c .judge-words .ensures ∙ words-refusal q e words ∙ sym (first-one (wordRefusal q words)))
 
 pub judge-eta-spec : {M : Type 1} → statement M
 judge-eta-spec =

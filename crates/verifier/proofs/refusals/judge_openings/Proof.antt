@@ -17,6 +17,9 @@ use mathlib.Core.Path.{_≡_, sym, _∙_}
 use Rattle.verifier.proofs.refusals.judge_openings.Statement.{statement}
 use Rattle.verifier.proofs.refusals.judge_openings.Tie as tie
 
+turn : (c : tie.Else1) → let a = c .before .before .args in inTurn 6 (a .stage) (sizes (a .s)) ≡ true
+turn c = sym (c .before .in-turn .ensures) ∙ not-false _ (c .if1 .left)
+
 in-turn-requires : tie.Need-in-turn-requires
 in-turn-requires c κs = search needs
 
@@ -63,18 +66,23 @@ first-of-requires-3 c κs = search needs
 returns-2 : tie.Need-returns-2
 unfolding openingsRefusal turnRefusal
 returns-2 c q e =
-    let i = c .before .before .before .before .before .before .before .before .before .before .before .before in
-    let a = i .before .before .args in
-    let t : inTurn 6 (a .stage) (sizes (a .s)) ≡ true = sym (i .before .in-turn .ensures) ∙ not-false _ (i .if1 .left) in
+    let m = c .before .before .before .before .before .before .before .before .before in
+    let t = m .before .before .before in
+    let a = t .before .before .args in
     let o = a .o in
     let below : List ℕ → List Bool = λ l. map (λ w. ltb w (a .p)) l in
     let part : ℕ → List Bool = λ i. below (listIndex (indexWords (getD (a .t5) i []))) in
-    let messages : List Bool = below (o .witness ∷ o .mask ∷ o .lineRemainder ∷ o .lineQuotient ∷ o .rowQuotient ∷ o .joinedQuotient ∷ listed (three (o .matrixRemainders))) in
+    let messages : List Bool =
+    below
+    (o .witness ∷ o .mask ∷ o .lineRemainder ∷ o .lineQuotient ∷ o .rowQuotient ∷ o .joinedQuotient ∷ listed (three (o .matrixRemainders))) in
     let words = listOpenings (openings o (a .t5)) in
-    let last = first-pair (c .before .before .before .before .before .judge-index2 .ensures) (c .before .before .before .judge-index3 .ensures) (c .before .before .first-of .ensures) ∙ sym (refuse-append 6 13 (part 1) (part 2)) in
-    let index = first-pair (c .before .before .before .before .before .before .before .judge-index .ensures) last (c .before .first-of2 .ensures) ∙ sym (refuse-append 6 9 (part 0) (part 1 ++ part 2)) in
-    let all = first-pair (c .before .before .before .before .before .before .before .before .before .judge-words .ensures) index (c .first-of3 .ensures) ∙ sym (refuse-append 6 0 messages (part 0 ++ (part 1 ++ part 2))) in
-    rw t (all ∙ words-refusal q e words ∙ sym (first-one (wordRefusal q words)))
+    let two = first-pair (c .before .before .before .before .before .judge-index2 .ensures) (c .before .before .before .judge-index3 .ensures) (c .before .before .first-of .ensures)
+    ∙ sym (refuse-append 6 13 (part 1) (part 2)) in
+    let three = first-pair (c .before .before .before .before .before .before .before .judge-index .ensures) two (c .before .first-of2 .ensures)
+    ∙ sym (refuse-append 6 9 (part 0) (part 1 ++ part 2)) in
+    let whole = first-pair (m .judge-words .ensures) three (c .first-of3 .ensures)
+    ∙ sym (refuse-append 6 0 messages (part 0 ++ (part 1 ++ part 2))) in
+    rw (turn t) (whole ∙ words-refusal q e words ∙ sym (first-one (wordRefusal q words)))
 
 pub judge-openings-spec : {M : Type 1} → statement M
 judge-openings-spec =

@@ -34,14 +34,16 @@ first-failed-requires c κs = search needs
 returns : tie.Need-returns
 unfolding sizeRefusal sixSizeTests sizeTests
 returns c =
-    let k5 = c .before .before in
-    let k3 = k5 .before .before in
-    let x = k3 .before in
-    let r = x .before .before in
+    let k3 = c .before .before in
+    let k2 = k3 .before in
+    let k1 = k2 .before in
+    let x = k1 .before in
+    let n = x .before in
+    let r = n .before in
     let s = r .before .before .args .s in
-    let same : r .is-size .result ∷ x .before .is-size2 .result ∷ x .is-public-size .result ∷ k3 .is-size3 .result ∷ k5 .before .is-size4 .result
-    ∷ k5 .is-size5 .result ∷ [] ≡ sixSizeTests (sizes s) =
-    cc (r .is-size .ensures, x .before .is-size2 .ensures, x .is-public-size .ensures, k3 .is-size3 .ensures, k5 .before .is-size4 .ensures, k5 .is-size5 .ensures) in
+    let same : r .is-size .result ∷ n .is-size2 .result ∷ x .is-public-size .result ∷ k1 .is-size3 .result ∷ k2 .is-size4 .result ∷ k3 .is-size5 .result ∷ []
+    ≡ sixSizeTests (sizes s) =
+    cc (r .is-size .ensures, n .is-size2 .ensures, x .is-public-size .ensures, k1 .is-size3 .ensures, k2 .is-size4 .ensures, k3 .is-size5 .ensures) in
     c .first-failed .ensures ∙ ap (refuse 4 0) same
 
 pub judge-sizes-spec : {M : Type 1} → statement M

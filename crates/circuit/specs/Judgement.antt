@@ -1,0 +1,43 @@
+-- The rows of the table of refusals that calls share, in two parts: 4 and 5 for what a call begins with, 6 and after for its
+-- contents. A call judges its lent slices between the two. Assumes nothing.
+use mathlib.Core.Bool.{Bool, _&&_}
+use mathlib.Core.List.{List, [], _∷_, _++_, map}
+use mathlib.Core.Option.{Option}
+use Prim.Native.Nat.{ℕ, _*_, _%_}
+use lib.Dec.{eqb, leb}
+use Rattle.field.specs.Prime.{Prime}
+use Rattle.field.specs.Element.{of}
+use Rattle.domain.specs.Size.{maxSize}
+use Rattle.protocol.specs.Circuit.{Circuit, sizesOf, largest}
+use Rattle.protocol.specs.Refusals.{Refusal, first, sizeTests, sizeRefusal, listRefusal, wordRefusal, entryRefusal, maskRefusal, assignmentRefusal, challengeRefusal}
+use Rattle.protocol.specs.Admission.{entryValues, assignmentTests}
+use Rattle.protocol.specs.Calls.{CircuitWords, circuitOf, entryListTests}
+
+-- the test of an entry list, by its length
+abbrev pub wholeAndFew : ℕ → Bool
+wholeAndFew n = eqb (n % 3) 0 && leb n (3 * maxSize)
+
+-- 4 and 5 of a circuit, and with z and m
+unfoldable pub indexShapeRefusal : CircuitWords → Option Refusal
+indexShapeRefusal c = first (sizeRefusal (sizeTests (c .R) (c .C) (c .X) []) ∷ listRefusal (entryListTests c) ∷ [])
+
+unfoldable pub shapeRefusal : CircuitWords → List ℕ → List ℕ → Option Refusal
+shapeRefusal c z m =
+    first
+    (sizeRefusal (sizeTests (c .R) (c .C) (c .X) []) ∷ listRefusal (entryListTests c ++ assignmentTests (circuitOf c) z m) ∷ [])
+
+module _ (q : Prime) (c : Circuit) where
+  -- 6 and 7 of a circuit
+  unfoldable pub indexContentsRefusal : Option Refusal
+  indexContentsRefusal = first (wordRefusal q (entryValues c ++ []) ∷ entryRefusal c ∷ [])
+
+  -- 6 to 10 of a prover call: z, the mask word, m, all challenge words, and those of α, β, γ that the call has
+  unfoldable pub contentsRefusal : List ℕ → ℕ → List ℕ → List ℕ → List ℕ → Option Refusal
+  contentsRefusal z mask m challenges points =
+      first
+      (wordRefusal q (entryValues c ++ (z ++ (mask ∷ (m ++ challenges))))
+      ∷ entryRefusal c
+      ∷ maskRefusal {q = q} c (map of m)
+      ∷ assignmentRefusal {q = q} c (map of z)
+      ∷ challengeRefusal {q = q} 0 (c .R ∷ c .C ∷ largest (sizesOf c .K) ∷ []) (map of points)
+      ∷ [])
