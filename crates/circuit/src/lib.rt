@@ -5,7 +5,7 @@ ghost use mathlib.Core.Bool.{true, not, _&&_};
 ghost use mathlib.Core.List.{[], _∷_, _++_, map};
 ghost use Prim.Native.Nat.{ℕ, _+_, _*_, _/_, _%_, _<_, _≤_, max};
 ghost use lib.Dec.{eqb, ltb, leb};
-ghost use lib.ListN.{length, getD, replicate};
+ghost use lib.ListN.{length, getD};
 ghost use Rattle.algebra.specs.Lists.{tabulate};
 ghost use Rattle.algebra.specs.Counting.{All};
 ghost use Rattle.field.specs.Prime.{Prime};
@@ -166,17 +166,6 @@ pub fn check_entries(r: u32, c: u32, start: usize, entries: &[u32]) -> Fault
     Fault::Fine
 }
 
-// Zeros into the slice.
-fn clear(out: &mut [u32])
-    ensures { λ _. ⌜ now (out .exit) ≡ replicate (length (now (out .entry))) 0 ⌝ }
-{
-    let mut i = 0;
-    while i < out.len() {
-        out[i] = 0;
-        i += 1;
-    }
-}
-
 // The sum of a matrix's values in each row, each times z at its column, into the slice: one pass over the entries.
 pub fn row_sums(p: u32, entries: &[u32], z: &[u32], out: &mut [u32])
     requires { ⌜ 0 < p ⌝ }
@@ -184,7 +173,7 @@ pub fn row_sums(p: u32, entries: &[u32], z: &[u32], out: &mut [u32])
     ensures { λ _. ⌜ ((q : Prime) → q .p ≡ p → (k : Circuit) (M : MatrixName) → at (k .matrices) M ≡ entriesOf (now (entries .entry))
         → now (out .exit) ≡ words (tabulate (length (now (out .entry))) (rowSum {q = q} k M (map of (now (z .entry)))))) ⌝ }
 {
-    clear(out);
+    poly::clear(out);
     let count = entries.len() / 3;
     let mut i = 0;
     while i < count {

@@ -33,7 +33,7 @@ fn entry(s: &[u32], i: usize) -> u32
 }
 
 // Zeros into the slice.
-fn clear(out: &mut [u32])
+pub fn clear(out: &mut [u32])
     ensures { λ _. ⌜ now (out .exit) ≡ replicate (length (now (out .entry))) 0 ⌝ }
 {
     let mut i = 0;

@@ -40,13 +40,13 @@ pub enum LastAnswer {
 }
 
 pub struct Stepped {
-    session: Session,
-    answer: Answer,
+    pub session: Session,
+    pub answer: Answer,
 }
 
 pub struct Finished {
-    session: Session,
-    answer: LastAnswer,
+    pub session: Session,
+    pub answer: LastAnswer,
 }
 
 // Nothing heard yet.

@@ -1,0 +1,178 @@
+-- `prover::line::add_column_sums` meets its contract: the entries from the i-th on are still to be added. Assumes nothing.
+use borrow.Author.Needs.{needs}
+use mathlib.Core.Path.{_≡_, refl, ap, _∙_}
+use mathlib.Core.List.{List, map}
+use Prim.Native.Nat.{_+_, _-_, _*_, _≤_, _<_}
+use native.Mathlib.Omega.{arith}
+use lib.ListN.{length, getD, length-set}
+use Rattle.field.specs.Prime.{Prime}
+use Rattle.field.specs.Element.{Elem, of, 𝟘, _⊕_, _⊗_}
+use Rattle.field.proofs.Words.{of-result}
+use Rattle.poly.proofs.WordLists.{element-at}
+use Rattle.protocol.specs.Circuit.{Entry}
+use Rattle.protocol.specs.Checks.{weighted}
+use Rattle.protocol.specs.Calls.{entriesOf}
+use Rattle.circuit.specs.Given.{Within}
+use Rattle.circuit.specs.Given.{entryWords}
+use Rattle.circuit.proofs.Entries.{length-entriesOf, entry-at, entry-within}
+use Rattle.prover.proofs.LineLaws.{Adding, adding-none, adding-turn, adding-end}
+use Rattle.prover.proofs.line.add_column_sums.Statement.{statement}
+use Rattle.prover.proofs.line.add_column_sums.Tie as tie
+
+abbrev Inv-loop : tie.InvT-loop
+Inv-loop p eta entries rows out₀ count i₀ out i =
+    (i ≤ count) × (length out ≡ length out₀)
+    × ((q : Prime) → q .p ≡ p → Adding q (of eta) (map of rows) (entriesOf entries) out₀ out i)
+
+abbrev μ-loop : tie.MeasureT-loop
+μ-loop p eta entries rows out₀ count i₀ out i = count - i
+
+-- the entry that a turn takes is within the matrix
+place :
+    (c : tie.In-loop Inv-loop μ-loop)
+    → let a = c .before .before .before .before .before .args in
+    Within (length (a .rows .now)) (length (a .out .now)) (entryWords (a .entries .now) (c .before .loop .i))
+place c =
+    let s = c .before .before .before .before .before in
+    entry-within (length (s .args .rows .now)) (length (s .args .out .now)) (s .args .entries .now) (s .pre .1) (c .before .loop .i) (omega arith)
+
+loop-holds : tie.Need-loop-holds Inv-loop μ-loop
+loop-holds c = (omega arith, refl, λ q e. adding-none q _ _ _ _)
+
+mul-row : tie.Need-mul-row Inv-loop μ-loop
+mul-row c = search needs
+
+mul-row-2 : tie.Need-mul-row-2 Inv-loop μ-loop
+mul-row-2 c = search needs
+
+shared-slice-read-row : tie.Need-shared-slice-read-row Inv-loop μ-loop
+shared-slice-read-row c = search needs
+
+cast-row : tie.Need-cast-row Inv-loop μ-loop
+cast-row c = omega (arith, c .shared-slice-known3 .given (3 * c .before .before .loop .i))
+
+mul-column : tie.Need-mul-column Inv-loop μ-loop
+mul-column c = search needs
+
+add-column : tie.Need-add-column Inv-loop μ-loop
+add-column c = search needs
+
+mul-column-2 : tie.Need-mul-column-2 Inv-loop μ-loop
+mul-column-2 c = search needs
+
+shared-slice-read-column : tie.Need-shared-slice-read-column Inv-loop μ-loop
+shared-slice-read-column c = search needs
+
+cast-column : tie.Need-cast-column Inv-loop μ-loop
+cast-column c = omega (arith, c .shared-slice-known4 .given (3 * c .before .before .before .loop .i + 1))
+
+mul-multiply : tie.Need-mul-multiply Inv-loop μ-loop
+mul-multiply c = search needs
+
+add-multiply : tie.Need-add-multiply Inv-loop μ-loop
+add-multiply c = search needs
+
+mul-multiply-2 : tie.Need-mul-multiply-2 Inv-loop μ-loop
+mul-multiply-2 c = search needs
+
+shared-slice-read-multiply : tie.Need-shared-slice-read-multiply Inv-loop μ-loop
+shared-slice-read-multiply c = search needs
+
+mul-multiply-3 : tie.Need-mul-multiply-3 Inv-loop μ-loop
+mul-multiply-3 c = omega (arith, place (c .before .before .before) .row-below)
+
+shared-slice-read-multiply-2 : tie.Need-shared-slice-read-multiply-2 Inv-loop μ-loop
+shared-slice-read-multiply-2 c = place (c .before .before .before .before) .row-below
+
+multiply-requires : tie.Need-multiply-requires Inv-loop μ-loop
+multiply-requires c κs = search needs
+
+mul-add : tie.Need-mul-add Inv-loop μ-loop
+mul-add c = omega (arith, place (c .before .before .before .before .before) .column-below)
+
+slice-read-add : tie.Need-slice-read-add Inv-loop μ-loop
+slice-read-add c = omega (arith, place (c .before .before .before .before .before .before) .column-below)
+
+multiply-requires-2 : tie.Need-multiply-requires-2 Inv-loop μ-loop
+multiply-requires-2 c κs = search needs
+
+add-requires : tie.Need-add-requires Inv-loop μ-loop
+add-requires c κs = search needs
+
+mul-out : tie.Need-mul-out Inv-loop μ-loop
+mul-out c = omega (arith, place (c .before .before .before .before .before .before .before .before) .column-below)
+
+slice-write-out : tie.Need-slice-write-out Inv-loop μ-loop
+slice-write-out c = omega (arith, place (c .before .before .before .before .before .before .before .before) .column-below)
+
+add-i : tie.Need-add-i Inv-loop μ-loop
+add-i c = search needs
+
+loop-less : tie.Need-loop-less Inv-loop μ-loop
+loop-less c = search needs
+
+loop-again : tie.Need-loop-again Inv-loop μ-loop
+loop-again c =
+    let turn = c .before .before .before .before .before .before .before .before in
+    let a = c .before .before .before .before .before .before .before .before .before .before .before .before .before .args in
+    let l = c .before .before .before .before .before .before .before .before .before .loop in
+    let es : List Entry = entriesOf (a .entries .now) in
+    let e : Entry = entryWords (a .entries .now) (l .i) in
+    let below : l .i < length es = omega (arith, length-entriesOf (a .entries .now)) in (
+      omega arith,
+      length-set (l .out) (e .column) (c .add .result) ∙ l .inv .1,
+      λ q same.
+          let rows : List (Elem q) = map of (a .rows .now) in
+          let product : of (c .before .before .before .multiply .result) ≡ of (e .value) ⊗ getD rows (e .row) 𝟘 =
+          of-result _ (c .before .before .before .multiply .ensures q same) ∙ ap (λ (x : Elem q). of (e .value) ⊗ x) (element-at (a .rows .now) (e .row)) in
+          let weighted : of (c .before .multiply2 .result) ≡ of (a .eta) ⊗ (of (e .value) ⊗ getD rows (e .row) 𝟘) =
+          of-result _ (c .before .multiply2 .ensures q same) ∙ ap (λ (x : Elem q). of (a .eta) ⊗ x) product in
+          adding-turn q (of (a .eta)) rows es (a .out .now) (l .out) (l .i) e (c .add .result) below (entry-at (a .entries .now) (l .i) e below)
+          (omega (arith, place turn .column-below))
+          (c .add .ensures q same ∙ ap (λ (x : Elem q). (of (getD (l .out) (e .column) 0) ⊕ x) .word) weighted) (l .inv .2 q same),
+    )
+
+same-length : tie.Need-same-length Inv-loop μ-loop
+same-length c = search needs
+
+returns : tie.Need-returns Inv-loop μ-loop
+returns c q e =
+    let a = c .before .before .before .before .before .args in
+    let l = c .before .loop in
+    adding-end q (of (a .eta)) (map of (a .rows .now)) (entriesOf (a .entries .now)) (a .out .now) (l .out) (l .i)
+    (omega (arith, length-entriesOf (a .entries .now))) (l .inv .1) (l .inv .2 q e)
+
+pub add-column-sums-spec : {M : Type 1} → statement M
+add-column-sums-spec =
+    tie.close
+    (tie.spec
+    Inv-loop
+    μ-loop
+    loop-holds
+    mul-row
+    mul-row-2
+    shared-slice-read-row
+    cast-row
+    mul-column
+    add-column
+    mul-column-2
+    shared-slice-read-column
+    cast-column
+    mul-multiply
+    add-multiply
+    mul-multiply-2
+    shared-slice-read-multiply
+    mul-multiply-3
+    shared-slice-read-multiply-2
+    multiply-requires
+    mul-add
+    slice-read-add
+    multiply-requires-2
+    add-requires
+    mul-out
+    slice-write-out
+    add-i
+    loop-less
+    loop-again
+    same-length
+    returns)

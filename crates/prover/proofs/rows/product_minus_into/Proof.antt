@@ -1,0 +1,34 @@
+-- `prover::rows::product_minus_into` meets its contract. Assumes nothing.
+use borrow.Author.Needs.{needs}
+use mathlib.Core.Path.{refl}
+use mathlib.Core.List.{map}
+use Rattle.field.specs.Element.{of}
+use Rattle.domain.specs.Polynomial.{Poly, times}
+use Rattle.prover.proofs.WitnessParts.{of-results}
+use Rattle.prover.proofs.WitnessLaws.{minus-made}
+use Rattle.prover.proofs.rows.product_minus_into.Statement.{statement}
+use Rattle.prover.proofs.rows.product_minus_into.Tie as tie
+
+multiply-into-requires : tie.Need-multiply-into-requires
+multiply-into-requires c κs = search needs
+
+sub-minus-one : tie.Need-sub-minus-one
+sub-minus-one c = search needs
+
+add-scaled-requires : tie.Need-add-scaled-requires
+add-scaled-requires c κs = search needs
+
+same-length : tie.Need-same-length
+same-length c = search needs
+
+returns : tie.Need-returns
+returns c q e =
+    let a = c .before .before .before .before .before .before .before .before .before .before .before .before .args in
+    let product : Poly q = times (map of (a .f .now)) (map of (a .g .now)) in
+    let multiplied = c .before .before .before .before .before .before .multiply-into in
+    minus-made q e product (map of (a .h .now)) (of-results product (multiplied .ensures q e)) refl (c .before .before .add-scaled .ensures q e)
+
+pub product-minus-into-spec : {M : Type 1} → statement M
+product-minus-into-spec =
+    tie.close
+    (tie.spec multiply-into-requires sub-minus-one add-scaled-requires same-length returns)

@@ -1,0 +1,130 @@
+-- `prover::witness::witness_into` meets its contract. Assumes nothing.
+use borrow.Author.Needs.{needs}
+use mathlib.Core.Path.{_≡_, sym, _∙_}
+use mathlib.Core.List.{List, _++_, map}
+use Prim.Native.Nat.{ℕ, _+_, _-_, _≤_}
+use native.Mathlib.Omega.{arith}
+use lib.ListN.{length, take, drop, set, length-set}
+use lib.Seq.{length-front}
+use Rattle.field.specs.Element.{of}
+use Rattle.domain.specs.Polynomial.{quotient, vanishingPoly}
+use Rattle.domain.proofs.SizeLaws.{size-positive, size-bound}
+use Rattle.domain.proofs.Division.{length-vanishingRatio}
+use Rattle.prover.proofs.WitnessParts.{part-length, filled-within, filled-length, part-order, of-filled}
+use Rattle.prover.proofs.WitnessLaws.{padded, witness-made}
+use Rattle.prover.proofs.witness.witness_into.Statement.{statement}
+use Rattle.prover.proofs.witness.witness_into.Tie as tie
+
+short : (c : tie.Start) → c .args .c - c .args .x ≤ length (c .args .out .now)
+short c = omega arith
+
+bound : (c : tie.Start) → c .args .c - c .args .x + 1 ≤ 1024
+bound c = omega (arith, size-bound (c .args .c) (c .pre .1 .0 .0), size-positive (c .args .x) (c .pre .1 .0 .1), c .pre .1 .0 .2)
+
+-- the slice with its first part filled and a 0 behind it is as long as before
+padded-length : (c : tie.Start) (e : List ℕ) → length e ≡ length (take (c .args .c - c .args .x) (c .args .out .now))
+    → length (set (e ++ drop (c .args .c - c .args .x) (c .args .out .now)) (c .args .c - c .args .x) 0) ≡ length (c .args .out .now)
+padded-length c e kept = simp length-set (length-front (c .args .out .now) e (c .args .c - c .args .x) kept)
+
+sub-n : tie.Need-sub-n
+sub-n c = search needs
+
+cast-n : tie.Need-cast-n
+cast-n c = search needs
+
+slice-relend-prefix-private-quotient-into : tie.Need-slice-relend-prefix-private-quotient-into
+slice-relend-prefix-private-quotient-into c = search needs
+
+slice-aggregate-private-quotient-into : tie.Need-slice-aggregate-private-quotient-into
+slice-aggregate-private-quotient-into c = part-length _ _ (short (c .before .before .before))
+
+private-quotient-into-requires : tie.Need-private-quotient-into-requires
+private-quotient-into-requires c κs =
+    let start = c .before .before .before in
+    (start .pre .0, (start .pre .1 .0, (start .pre .1 .1 .0, sym (part-length _ _ (short start)))))
+
+mul-out : tie.Need-mul-out
+mul-out c = search needs
+
+slice-write-out : tie.Need-slice-write-out
+slice-write-out c = search needs
+
+add-m : tie.Need-add-m
+add-m c = search needs
+
+array-borrow-prefix-ratio : tie.Need-array-borrow-prefix-ratio
+array-borrow-prefix-ratio c = bound (c .before .before .before .before .before .before)
+
+slice-aggregate-vanishing-ratio-into : tie.Need-slice-aggregate-vanishing-ratio-into
+slice-aggregate-vanishing-ratio-into c = part-length _ _ (bound (c .before .before .before .before .before .before .before))
+
+vanishing-ratio-into-requires : tie.Need-vanishing-ratio-into-requires
+vanishing-ratio-into-requires c κs =
+    let start = c .before .before .before .before .before .before .before in
+    (start .pre .0, (start .pre .1 .0, sym (part-length _ _ (bound start))))
+
+array-share-prefix-ratio : tie.Need-array-share-prefix-ratio
+array-share-prefix-ratio c =
+    let start = c .before .before .before .before .before .before .before .before .before .before in
+    let call = c .before .before .vanishing-ratio-into in
+    filled-within _ _ (bound start) (call .last .1 .1 .1 .0) (call .kept .1 .1 .1 .0)
+
+slice-aggregate-add-scaled : tie.Need-slice-aggregate-add-scaled
+slice-aggregate-add-scaled c =
+    let start = c .before .before .before .before .before .before .before .before .before .before .before in
+    let call = c .before .before .before .vanishing-ratio-into in
+    filled-length _ _ (bound start) (call .last .1 .1 .1 .0) (call .kept .1 .1 .1 .0)
+
+add-scaled-requires : tie.Need-add-scaled-requires
+add-scaled-requires c κs =
+    let start = c .before .before .before .before .before .before .before .before .before .before .before in
+    let first = c .before .before .before .before .before .before .before .private-quotient-into in
+    let ratio = c .before .before .before .vanishing-ratio-into in (
+      omega arith,
+      part-order (filled-length _ _ (bound start) (ratio .last .1 .1 .1 .0) (ratio .kept .1 .1 .1 .0))
+          (omega (arith, padded-length start (first .last .1 .1 .1 .1 .0) (first .kept .1 .1 .1 .1 .0))),
+    )
+
+same-length : tie.Need-same-length
+same-length c =
+    let start = c .before .before .before .before .before .before .before .before .before .before .before .before .before .before in
+    let first = c .before .before .before .before .before .before .before .before .before .before .private-quotient-into in
+    c .before .before .add-scaled .kept .1 .0 ∙ padded-length start (first .last .1 .1 .1 .1 .0) (first .kept .1 .1 .1 .1 .0)
+
+returns : tie.Need-returns
+returns c q known k eC eX =
+    let start = c .before .before .before .before .before .before .before .before .before .before .before .before .before .before in
+    let first = c .before .before .before .before .before .before .before .before .before .before .private-quotient-into in
+    let ratio = c .before .before .before .before .before .before .vanishing-ratio-into in
+    let x : ℕ = start .args .x in
+    let n : ℕ = start .args .c - x in
+    let sizes = start .pre .1 .0 in
+    let part = part-length n (start .args .out .now) (short start) in
+    c .before .before .add-scaled .ensures q (known .value)
+    ∙ witness-made q k (map of (start .args .z .now)) (of (start .args .r)) eC eX
+    (padded n (start .args .out .now) (first .last .1 .1 .1 .1 .0) (start .pre .1 .1 .1) (first .kept .1 .1 .1 .1 .0 ∙ sym part))
+    (first .ensures q known k eC eX)
+    (of-filled _ _ (bound start) (ratio .last .1 .1 .1 .0) (ratio .kept .1 .1 .1 .0) (quotient x (vanishingPoly (start .args .c)))
+    (ratio .ensures q (known .value)))
+    (omega (arith, first .kept .1 .1 .1 .1 .0, part, length-vanishingRatio q x (start .args .c) (sizes .1) (sizes .0) (sizes .2)))
+
+pub witness-into-spec : {M : Type 1} → statement M
+witness-into-spec =
+    tie.close
+    (tie.spec
+    sub-n
+    cast-n
+    slice-relend-prefix-private-quotient-into
+    slice-aggregate-private-quotient-into
+    private-quotient-into-requires
+    mul-out
+    slice-write-out
+    add-m
+    array-borrow-prefix-ratio
+    slice-aggregate-vanishing-ratio-into
+    vanishing-ratio-into-requires
+    array-share-prefix-ratio
+    slice-aggregate-add-scaled
+    add-scaled-requires
+    same-length
+    returns)

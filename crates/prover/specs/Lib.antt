@@ -1,0 +1,2 @@
+pub mod LineSums
+pub mod MatrixGiven
