@@ -1,2 +1,5 @@
+pub mod AnswerLaws
+pub mod AnswerLent
+pub mod CallPolynomials
 pub mod Padding
 pub mod Turns

@@ -1,0 +1,41 @@
+-- The answer of a call by its judgement: done where nothing is refused, and otherwise the refusal, with each lent slice as it was.
+-- Assumes nothing.
+use mathlib.Core.Path.{_≡_, sym, ap, ap₂, _∙_}
+use mathlib.Core.List.{List}
+use mathlib.Core.Option.{Option, none}
+use Prim.Native.Nat.{ℕ}
+use Rattle.protocol.specs.declared.Fault.{Fault}
+use Rattle.protocol.specs.declared.Fault.the-variants as fault
+use Rattle.protocol.specs.Meanings.{faultRefusal}
+use Rattle.protocol.specs.Three.{Three}
+use Rattle.protocol.specs.Refusals.{Refusal, Done, judged}
+use Rattle.varuna.specs.declared.answers.Word.the-variants as word
+use Rattle.varuna.specs.declared.answers.ThreeWords.the-variants as three-words
+use Rattle.varuna.specs.declared.answers.Filled.the-variants as filled
+use Rattle.varuna.specs.Answers.{wordAnswer, threeAnswer, filling, fills, fillsThree}
+use Rattle.varuna.specs.Inputs.{threeOf}
+
+-- a judgement that is matched: it is told to be Fine, or Refused
+pub free : {f : Fault} {o : Option Refusal} → fault.Fine ≡ f → faultRefusal f ≡ o → o ≡ none
+free told e = sym (ap faultRefusal told ∙ e)
+
+module _ {o : Option Refusal} where
+  pub word-done : {v w : ℕ} → o ≡ none → v ≡ w → word.Value v ≡ wordAnswer (judged o w)
+  word-done {v} {w} fine same = sym (ap₂ (λ (o : Option Refusal) (w : ℕ). wordAnswer (judged o w)) fine (sym same))
+
+  pub fill-done : {S : Type 0} {after result : S} (before : S) → o ≡ none → after ≡ result → filling filled.Done after ≡ fills (judged o result) before
+  fill-done {S} {after} {result} before fine same = sym (ap₂ (λ (o : Option Refusal) (w : S). fills (judged o w) before) fine (sym same))
+
+  module _ {a b c : ℕ} (w : Three ℕ) (fine : o ≡ none) (at-a : a ≡ w .a) (at-b : b ≡ w .b) (at-c : c ≡ w .c) where
+    same-three : threeOf a b c ≡ w
+    same-three = ap (λ (n : ℕ). threeOf n b c) at-a ∙ ap₂ (λ (m n : ℕ). threeOf (w .a) m n) at-b at-c
+
+    pub three-done : three-words.Value (record { a = a; b = b; c = c }) ≡ threeAnswer (judged o w)
+    three-done = sym (ap₂ (λ (o : Option Refusal) (w : Three ℕ). threeAnswer (judged o w)) fine (sym same-three))
+
+    pub fill-three-done : {S : Type 0} {after result : S} (before : S) → after ≡ result
+        → filling (three-words.Value (record { a = a; b = b; c = c })) after ≡ fillsThree (judged o (w, result)) before
+    fill-three-done {S} {after} {result} before same =
+        sym
+        (ap (λ (o : Option Refusal). fillsThree (judged o (w, result)) before) fine
+        ∙ ap₂ (λ (w : Three ℕ) (l : S). filling (threeAnswer (Done w)) l) (sym same-three) (sym same))

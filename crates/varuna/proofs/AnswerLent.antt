@@ -1,0 +1,35 @@
+-- The answer of a call whose inner function says what it leaves in the lent slice. Assumes nothing.
+use mathlib.Core.Path.{_≡_, ap, _∙_}
+use mathlib.Core.List.{List}
+use mathlib.Core.Option.{none, some}
+use Prim.Native.Nat.{ℕ}
+use native.Mathlib.Omega.{arith}
+use Rattle.protocol.specs.declared.Fault.{Fault}
+use Rattle.protocol.specs.declared.Fault.the-variants as fault
+use Rattle.protocol.specs.Meanings.{faultRefusal}
+use Rattle.protocol.specs.Refusals.{Refusal, Outcome, Done, Refused}
+use Rattle.record.specs.Answers.{LentAnswer}
+use Rattle.varuna.specs.declared.answers.Filled.the-variants as filled
+use Rattle.varuna.specs.Answers.{filling, fills}
+
+pub lent-done : (o : Outcome (List ℕ)) {f : Fault} {before after : List ℕ} → fault.Fine ≡ f → LentAnswer o (faultRefusal f) before after
+    → filling filled.Done after ≡ fills o before
+lent-done (Done w) {f} {before} {after} told h = ap (filling filled.Done) (h .lent)
+lent-done (Refused r) {f} {before} {after} told h =
+    let never : none ≡ some r = ap faultRefusal told ∙ h .answer in
+    let z : _≡_ {A = ℕ} 0 1 = cc in
+    absurd (omega arith)
+
+pub lent-refused : (o : Outcome (List ℕ)) {f : Fault} {number position : ℕ} {before after : List ℕ} → fault.Refused number position ≡ f
+    → LentAnswer o (faultRefusal f) before after → filling (filled.Refused number position) after ≡ fills o before
+lent-refused (Done w) {f} {number} {position} {before} {after} told h =
+    let given : Refusal = record { number = number; position = position } in
+    let never : some given ≡ none = ap faultRefusal told ∙ h .answer in
+    let z : _≡_ {A = ℕ} 0 1 = cc in
+    absurd (omega arith)
+lent-refused (Refused r) {f} {number} {position} {before} {after} told h =
+    let given : Refusal = record { number = number; position = position } in
+    let same : some given ≡ some r = ap faultRefusal told ∙ h .answer in
+    let inner : given ≡ r = cc in
+    ap (λ (r : Refusal). filling (filled.Refused (r .number) (r .position)) after) inner
+    ∙ ap (filling (filled.Refused (r .number) (r .position))) (h .lent)

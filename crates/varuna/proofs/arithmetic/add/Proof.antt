@@ -1,0 +1,37 @@
+-- `varuna::arithmetic::add` meets its contract. Assumes nothing.
+use borrow.Author.Needs.{needs}
+use mathlib.Core.Path.{refl, sym, ap, ap₂, _∙_}
+use mathlib.Core.Option.{Option}
+use Prim.Native.Nat.{ℕ}
+use Rattle.domain.specs.BabyBear.{babyBear}
+use Rattle.protocol.specs.Refusals.{Refusal, judged}
+use Rattle.protocol.specs.Calls.{operationCall}
+use Rattle.protocol.specs.Meanings.{faultRefusal}
+use Rattle.varuna.specs.Answers.{wordAnswer}
+use Rattle.varuna.proofs.arithmetic.add.Statement.{statement}
+use Rattle.varuna.proofs.arithmetic.add.Tie as tie
+
+check-pair-requires : tie.Need-check-pair-requires
+check-pair-requires c κs = search needs
+
+enum-told : tie.Need-enum-told
+enum-told c = search needs
+
+add-requires : tie.Need-add-requires
+add-requires c κs = search needs
+
+enum-known-fault : tie.Need-enum-known-fault
+enum-known-fault c = search needs
+
+returns : tie.Need-returns
+unfolding operationCall
+returns c =
+    ap₂ (λ (o : Option Refusal) (w : ℕ). wordAnswer (judged o w))
+    (ap faultRefusal (sym (c .before .enum-told .given .1)) ∙ c .before .before .before .check-pair .ensures) (c .add .ensures babyBear refl)
+
+returns-2 : tie.Need-returns-2
+unfolding operationCall
+returns-2 c = rw (sym (ap faultRefusal (sym (c .before .fault .given .1)) ∙ c .before .before .before .check-pair .ensures)) refl
+
+pub add-spec : {M : Type 1} → statement M
+add-spec = tie.close (tie.spec check-pair-requires enum-told add-requires enum-known-fault returns returns-2)

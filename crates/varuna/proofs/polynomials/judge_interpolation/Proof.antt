@@ -1,0 +1,43 @@
+-- `varuna::polynomials::judge_interpolation` meets its contract. Assumes nothing.
+use mathlib.Core.Path.{sym, _∙_}
+use borrow.Author.Tests.{eq-eqb, ne-eqb, not-true, not-false}
+use Rattle.protocol.specs.Refusals.{sizeRefusal, listRefusal, wordRefusal}
+use Rattle.varuna.proofs.CallPolynomials.{interpolation-goes}
+use borrow.Author.Needs.{needs}
+use Rattle.varuna.proofs.polynomials.judge_interpolation.Statement.{statement}
+use Rattle.varuna.proofs.polynomials.judge_interpolation.Tie as tie
+
+is-size-requires : tie.Need-is-size-requires
+is-size-requires c κs = search needs
+
+returns : tie.Need-returns
+unfolding sizeRefusal
+returns c = simp (sym (c .before .is-size .ensures) ∙ not-true _ (c .if1 .taken))
+
+returns-2 : tie.Need-returns-2
+unfolding sizeRefusal listRefusal
+returns-2 c = simp (sym (c .before .before .is-size .ensures) ∙ not-false _ (c .before .if1 .left), ne-eqb _ _ (c .if2 .taken))
+
+returns-3 : tie.Need-returns-3
+unfolding sizeRefusal listRefusal
+returns-3 c =
+    simp (
+      sym (c .before .before .before .is-size .ensures) ∙ not-false _ (c .before .before .if1 .left),
+      eq-eqb _ _ (c .before .if2 .left),
+      ne-eqb _ _ (c .if3 .taken),
+    )
+
+check-words-requires : tie.Need-check-words-requires
+check-words-requires c κs = search needs
+
+returns-4 : tie.Need-returns-4
+unfolding wordRefusal
+returns-4 c =
+    c .check-words .ensures
+    ∙ interpolation-goes _ _ _ _ (sym (c .before .before .before .before .is-size .ensures) ∙ not-false _ (c .before .before .before .if1 .left))
+    (c .before .before .if2 .left) (c .before .if3 .left)
+
+pub judge-interpolation-spec : {M : Type 1} → statement M
+judge-interpolation-spec =
+    tie.close
+    (tie.spec is-size-requires returns returns-2 returns-3 check-words-requires returns-4)

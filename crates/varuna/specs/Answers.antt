@@ -1,0 +1,59 @@
+-- What the answers of public calls mean, and what a call leaves in its lent slices. Assumes nothing.
+use mathlib.Core.List.{List, [], _∷_, _++_}
+use Prim.Native.Nat.{ℕ}
+use Rattle.protocol.specs.declared.Opened.{Opened}
+use Rattle.protocol.specs.Three.{Three, listed}
+use Rattle.protocol.specs.Refusals.{Refusal, Outcome, Done, Refused}
+use Rattle.protocol.specs.Meanings.{three}
+use Rattle.varuna.specs.declared.answers.Word.{Word}
+use Rattle.varuna.specs.declared.answers.Word.the-variants as word
+use Rattle.varuna.specs.declared.answers.ThreeWords.{ThreeWords}
+use Rattle.varuna.specs.declared.answers.ThreeWords.the-variants as three-words
+use Rattle.varuna.specs.declared.answers.Filled.{Filled}
+use Rattle.varuna.specs.declared.answers.Filled.the-variants as filled
+use Rattle.varuna.specs.declared.answers.IndexOpened.{IndexOpened}
+use Rattle.varuna.specs.declared.answers.IndexesOpened.{IndexesOpened}
+use Rattle.varuna.specs.declared.answers.Openings as declared-openings
+use Rattle.varuna.specs.declared.answers.Openings.the-variants as openings
+
+-- the answer of a call that gives one word
+abbrev pub wordAnswer : Outcome ℕ → Word
+wordAnswer (Done w) = word.Value w
+wordAnswer (Refused r) = word.Refused (r .number) (r .position)
+
+-- one word for each matrix
+abbrev pub threeAnswer : Outcome (Three ℕ) → ThreeWords
+threeAnswer (Done t) = three-words.Value (record { a = t .a; b = t .b; c = t .c })
+threeAnswer (Refused r) = three-words.Refused (r .number) (r .position)
+
+-- the answer of a call with lent slices, and the slices when it returns
+pub record Filling (A S : Type 0) : Type 0 where
+  pub answer : A
+  pub slice : S
+
+module _ {S : Type 0} where
+  abbrev pub filling : {A : Type 0} → A → S → Filling A S
+  filling answer slice = record { answer = answer; slice = slice }
+
+  -- the slices hold the result, or what they held before
+  abbrev pub fills : Outcome S → S → Filling Filled S
+  fills (Done result) before = filling filled.Done result
+  fills (Refused r) before = filling (filled.Refused (r .number) (r .position)) before
+
+  -- with one word for each matrix
+  abbrev pub fillsThree : Outcome (Three ℕ × S) → S → Filling ThreeWords S
+  fillsThree (Done result) before = filling (threeAnswer (Done (result .0))) (result .1)
+  fillsThree (Refused r) before = filling (three-words.Refused (r .number) (r .position)) before
+
+-- the openings in order
+abbrev pub indexList : IndexOpened → List ℕ
+indexList i = i .row ∷ i .col ∷ i .rowcol ∷ i .rowcolval ∷ []
+
+abbrev pub openedList : Opened → IndexesOpened → List ℕ
+openedList o i =
+    o .witness ∷ o .mask ∷ o .lineRemainder ∷ o .lineQuotient ∷ o .rowQuotient ∷ o .joinedQuotient
+    ∷ (listed (three (o .matrixRemainders)) ++ (indexList (i .a) ++ (indexList (i .b) ++ indexList (i .c))))
+
+abbrev pub openingsMeaning : declared-openings.Openings → Outcome (List ℕ)
+openingsMeaning (openings.Value o i) = Done (openedList o i)
+openingsMeaning (openings.Refused number position) = Refused (record { number = number; position = position })

@@ -1,0 +1,89 @@
+// Public calls on field words. Refusal 6 for a word of p or more.
+ghost use mathlib.Core.Path.{_≡_};
+ghost use mathlib.Core.List.{[], _∷_};
+ghost use Rattle.domain.specs.BabyBear.{babyBear};
+ghost use Rattle.protocol.specs.Refusals.{wordRefusal};
+ghost use Rattle.protocol.specs.Calls.{addCall, subtractCall, multiplyCall, powerCall, inverseCall};
+ghost use Rattle.protocol.specs.Meanings.{faultRefusal};
+ghost use Rattle.varuna.specs.Answers.{wordAnswer};
+use crate::answers::Word;
+use field::MODULE_PRIME;
+use protocol::Fault;
+
+fn check_word(a: u32) -> Fault
+    ensures { λ r. ⌜ faultRefusal r ≡ wordRefusal babyBear (a ∷ []) ⌝ }
+{
+    if a < MODULE_PRIME {
+        Fault::Fine
+    } else {
+        Fault::Refused(6, 0)
+    }
+}
+
+fn check_pair(a: u32, b: u32) -> Fault
+    ensures { λ r. ⌜ faultRefusal r ≡ wordRefusal babyBear (a ∷ b ∷ []) ⌝ }
+{
+    if MODULE_PRIME <= a {
+        return Fault::Refused(6, 0);
+    }
+    if b < MODULE_PRIME {
+        Fault::Fine
+    } else {
+        Fault::Refused(6, 1)
+    }
+}
+
+// a + b
+pub fn add(a: u32, b: u32) -> Word
+    ensures { λ r. ⌜ r ≡ wordAnswer (addCall babyBear a b) ⌝ }
+{
+    let fault = check_pair(a, b);
+    match fault {
+        Fault::Fine => Word::Value(field::add(MODULE_PRIME, a, b)),
+        Fault::Refused(number, position) => Word::Refused(number, position),
+    }
+}
+
+// a - b
+pub fn subtract(a: u32, b: u32) -> Word
+    ensures { λ r. ⌜ r ≡ wordAnswer (subtractCall babyBear a b) ⌝ }
+{
+    let fault = check_pair(a, b);
+    match fault {
+        Fault::Fine => Word::Value(field::subtract(MODULE_PRIME, a, b)),
+        Fault::Refused(number, position) => Word::Refused(number, position),
+    }
+}
+
+// a · b
+pub fn multiply(a: u32, b: u32) -> Word
+    ensures { λ r. ⌜ r ≡ wordAnswer (multiplyCall babyBear a b) ⌝ }
+{
+    let fault = check_pair(a, b);
+    match fault {
+        Fault::Fine => Word::Value(field::multiply(MODULE_PRIME, a, b)),
+        Fault::Refused(number, position) => Word::Refused(number, position),
+    }
+}
+
+// a^n, for any n
+pub fn power(a: u32, n: u32) -> Word
+    ensures { λ r. ⌜ r ≡ wordAnswer (powerCall babyBear a n) ⌝ }
+{
+    let fault = check_word(a);
+    match fault {
+        Fault::Fine => Word::Value(field::raise(MODULE_PRIME, a, n)),
+        Fault::Refused(number, position) => Word::Refused(number, position),
+    }
+}
+
+// 1/a, and 0 for 0
+pub fn inverse(a: u32) -> Word
+    ensures { λ r. ⌜ r ≡ wordAnswer (inverseCall babyBear a) ⌝ }
+{
+    let fault = check_word(a);
+    match fault {
+        Fault::Fine => Word::Value(field::invert(MODULE_PRIME, a)),
+        Fault::Refused(number, position) => Word::Refused(number, position),
+    }
+}

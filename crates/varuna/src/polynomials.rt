@@ -1,0 +1,94 @@
+// Public calls on domains and polynomials. Refusals 4 for a size, 5 for a length, 6 for a word of p or more.
+ghost use mathlib.Core.Path.{_≡_};
+ghost use mathlib.Core.List.{[], _∷_, _++_};
+ghost use lib.Dec.{eqb, leb};
+ghost use lib.ListN.{length};
+ghost use Rattle.domain.specs.BabyBear.{babyBear};
+ghost use Rattle.domain.specs.Size.{isSize};
+ghost use Rattle.protocol.specs.Refusals.{first, sizeRefusal, listRefusal, wordRefusal};
+ghost use Rattle.protocol.specs.Calls.{maxWords, domainCall, evaluateCall, interpolateCall};
+ghost use Rattle.protocol.specs.Meanings.{faultRefusal};
+ghost use Rattle.varuna.specs.Answers.{wordAnswer, filling, fills};
+use crate::answers::Filled;
+use crate::answers::Word;
+use field::MODULE_PRIME;
+use protocol::Fault;
+
+// The most words to evaluate.
+const MAX_WORDS: usize = 2048;
+
+// The n elements of a domain in order into a slice of n words. Refusals: 4 for n, 5 for the slice.
+pub fn list_domain(n: u32, out: &mut [u32]) -> Filled
+    ensures { λ r. ⌜ filling r (now (out .exit)) ≡ fills (domainCall babyBear n (length (now (out .entry)))) (now (out .entry)) ⌝ }
+{
+    if !domain::is_size(n) {
+        return Filled::Refused(4, 0);
+    }
+    if out.len() != n as usize {
+        return Filled::Refused(5, 0);
+    }
+    domain::fill_powers(MODULE_PRIME, domain::root_of(MODULE_PRIME, n), out);
+    Filled::Done
+}
+
+// 5 for the coefficients, then 6 for a coefficient, then 6 for the point.
+fn judge_evaluation(f: &[u32], y: u32) -> Fault
+    ensures { λ r. ⌜ faultRefusal r ≡ first (listRefusal (leb (length (now (f .entry))) maxWords ∷ []) ∷ wordRefusal babyBear (now (f .entry) ++ (y ∷ [])) ∷ []) ⌝ }
+{
+    if f.len() > MAX_WORDS {
+        return Fault::Refused(5, 0);
+    }
+    let fault = circuit::check_words(MODULE_PRIME, 0, f);
+    if !circuit::is_fine(fault) {
+        return fault;
+    }
+    if y < MODULE_PRIME {
+        Fault::Fine
+    } else {
+        Fault::Refused(6, f.len())
+    }
+}
+
+// The value at y of the polynomial with coefficients f, the constant first. Refusals: 5 over 2,048 words, 6 for a word.
+pub fn evaluate(f: &[u32], y: u32) -> Word
+    ensures { λ r. ⌜ r ≡ wordAnswer (evaluateCall babyBear (now (f .entry)) y) ⌝ }
+{
+    let fault = judge_evaluation(f, y);
+    match fault {
+        Fault::Fine => Word::Value(poly::evaluate(MODULE_PRIME, f, y)),
+        Fault::Refused(number, position) => Word::Refused(number, position),
+    }
+}
+
+// 4 for n, 5 for the values and the lent slice, 6 for a value.
+fn judge_interpolation(n: u32, values: &[u32], lent: usize) -> Fault
+    ensures { λ r. ⌜ faultRefusal r
+        ≡ first (sizeRefusal (isSize n ∷ []) ∷ listRefusal (eqb (length (now (values .entry))) n ∷ eqb lent n ∷ []) ∷ wordRefusal babyBear (now (values .entry)) ∷ []) ⌝ }
+{
+    if !domain::is_size(n) {
+        return Fault::Refused(4, 0);
+    }
+    if values.len() != n as usize {
+        return Fault::Refused(5, 0);
+    }
+    if lent != n as usize {
+        return Fault::Refused(5, 1);
+    }
+    circuit::check_words(MODULE_PRIME, 0, values)
+}
+
+// The n coefficients of the polynomial with the given values on the domain of size n into a slice. Refusals: 4 for n, 5 for the
+// values and the slice, 6 for a value.
+pub fn interpolate(n: u32, values: &[u32], out: &mut [u32]) -> Filled
+    ensures { λ r. ⌜ filling r (now (out .exit)) ≡ fills (interpolateCall babyBear n (now (values .entry)) (length (now (out .entry)))) (now (out .entry)) ⌝ }
+{
+    let fault = judge_interpolation(n, values, out.len());
+    match fault {
+        Fault::Fine => {
+            let root = domain::root_of(MODULE_PRIME, n);
+            poly::interpolate_into(MODULE_PRIME, root, values, out);
+            Filled::Done
+        }
+        Fault::Refused(number, position) => Filled::Refused(number, position),
+    }
+}
