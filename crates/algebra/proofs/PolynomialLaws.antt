@@ -92,11 +92,6 @@ module _ {A : Type 0} (R : CommRing A) where
   length-add (a ∷ f) [] = omega arith
   length-add (a ∷ f) (b ∷ g) = omega (arith, length-add f g)
 
-  -- a product with the empty list has as many coefficients, all 0, as the other factor
-  pub mul-empty : (f : List A) → mul R f [] ≡ replicate (length f) 𝟘
-  mul-empty [] = refl
-  mul-empty (a ∷ f) = ap (λ g. 𝟘 ∷ g) (mul-empty f)
-
   pub length-mul : (a b : A) (f g : List A) → length (mul R (a ∷ f) (b ∷ g)) ≡ suc (length f + length g)
   length-mul a b [] g = omega (arith, length-add (scale R a (b ∷ g)) (𝟘 ∷ []), length-scale a (b ∷ g))
   length-mul a b (c ∷ f) g =

@@ -72,10 +72,6 @@ module _ {A : Type 0} (R : CommRing A) where
     sumList-ext f g [] h = refl
     sumList-ext f g (x ∷ l) h = ap₂ _⊕_ (h .0) (sumList-ext f g l (h .1))
 
-    pub sumList-add : (f g : T → A) (l : List T) → sumList R (λ x. f x ⊕ g x) l ≡ sumList R f l ⊕ sumList R g l
-    sumList-add f g [] = sym (add-zero 𝟘)
-    sumList-add f g (x ∷ l) = ap (λ s. f x ⊕ g x ⊕ s) (sumList-add f g l) ∙ add-add-add-comm R (f x) (g x) (sumList R f l) (sumList R g l)
-
     pub sumList-scale : (c : A) (f : T → A) (l : List T) → sumList R (λ x. c ⊗ f x) l ≡ c ⊗ sumList R f l
     sumList-scale c f [] = sym (mul-zero R c)
     sumList-scale c f (x ∷ l) = ap (λ s. c ⊗ f x ⊕ s) (sumList-scale c f l) ∙ sym (mul-add c (f x) (sumList R f l))

@@ -144,10 +144,6 @@ module _ {q : Prime} (Q : Qualifies q) (m n : ℕ) (s : isSize m ≡ true) (t : 
       one : (k : ℕ) → k < n / m → pow (primeRing q) (pow (primeRing q) y m) k ≡ 𝟙
       one k l = ap (λ x. pow (primeRing q) x k) (sub-zero→eq (primeRing q) _ 𝟙 (vanishing-inside Q m s y h)) ∙ one-pow (primeRing q) k
 
-  pub vanishingRatio-between : (y : Elem q) → inside n y ≡ true → Outside m y → eval (vanishingRatio m n) y ≡ 𝟘
-  vanishingRatio-between y h o = no-zero-divisors q (vanishing m y) (eval (vanishingRatio m n) y)
-      (mul-comm _ _ ∙ eval-vanishingRatio m n s t m≤n y ∙ vanishing-inside Q n t y h) (vanishing-outside Q m s y o)
-
 -- where h · v_D + r agrees with f at enough points outside the domain, h and r are the quotient and the remainder of f
 pub division-recovers :
     {q : Prime} (Q : Qualifies q) (n : ℕ) → isSize n ≡ true → (f h r : Poly q) → n ≤ length f → length h ≡ length f - n → length r ≡ n

@@ -26,7 +26,7 @@ use Rattle.domain.specs.Size.{isSize}
 use Rattle.domain.specs.Domain.{root, element, domain}
 use Rattle.domain.specs.Polynomial.{Poly, eval, plus, scale, valuesOn, interpolate, agreeing}
 use Rattle.domain.specs.Qualifies.{Qualifies}
-use Rattle.domain.proofs.ListLaws.{equal-entries, map-tabulate}
+use Rattle.domain.proofs.ListLaws.{map-tabulate}
 use Rattle.domain.proofs.SizeLaws.{size-not-zero}
 use Rattle.domain.proofs.DomainLaws.{domain-order}
 
@@ -120,14 +120,6 @@ module _ {q : Prime} (Q : Qualifies q) (n : ℕ) (s : isSize n ≡ true) where
   pub interpolate-unique : (f : Poly q) (vs : List (Elem q)) → length f ≡ n → ((i : ℕ) → i < n → eval f (element n i) ≡ getD vs i 𝟘)
       → f ≡ interpolate n vs
   interpolate-unique f vs e h = equal-on-domain f (interpolate n vs) e (length-interpolate n vs) (λ i l. h i l ∙ sym (eval-interpolate vs i l))
-
-  pub interpolate-values : (f : Poly q) → length f ≡ n → interpolate n (valuesOn n f) ≡ f
-  interpolate-values f e = sym (interpolate-unique f (valuesOn n f) e (λ i l. sym (getD-valuesOn n i f l)))
-
-  pub values-interpolate : (vs : List (Elem q)) → length vs ≡ n → valuesOn n (interpolate n vs) ≡ vs
-  values-interpolate vs e = equal-entries 𝟘 (valuesOn n (interpolate n vs)) vs (length-valuesOn n (interpolate n vs) ∙ sym e)
-      (λ i l. let k : i < n = omega (arith, length-valuesOn n (interpolate n vs)) in
-      getD-valuesOn n i (interpolate n vs) k ∙ eval-interpolate vs i k)
 
   pub eval-agreeing : (F : Elem q → Elem q) (i : ℕ) → i < n → eval (agreeing n F) (element n i) ≡ F (element n i)
   unfolding agreeing

@@ -3,7 +3,7 @@
 ghost use mathlib.Core.Path.{_≡_};
 ghost use Prim.Native.Nat.{_%_, _<_};
 ghost use Rattle.field.specs.Prime.{Prime};
-ghost use Rattle.field.specs.Element.{Elem, of, _⊕_, _⊗_, _⊖_};
+ghost use Rattle.field.specs.Element.{of, _⊕_, _⊗_, _⊖_};
 ghost use Rattle.field.specs.Power.{power, inverse};
 
 // The module's prime: the remainder by a constant needs no division.

@@ -55,14 +55,6 @@ module _ {A : Type 0} where
   getD-map f (x ∷ l) zero a b h = refl
   getD-map f (x ∷ l) (suc i) a b h = getD-map f l i a b (omega arith)
 
-  pub getD-tail : (l : List A) (i : ℕ) (d : A) → getD (tail l) i d ≡ getD l (suc i) d
-  getD-tail [] i d = refl
-  getD-tail (x ∷ l) i d = refl
-
-  pub length-tail : (l : List A) → length (tail l) ≡ length l - 1
-  length-tail [] = refl
-  length-tail (x ∷ l) = omega arith
-
 -- the size for m
 module _ {n : ℕ} (m : ℕ) (e : n ≡ sizeFor m) where
   pub size-is : isSize n ≡ true

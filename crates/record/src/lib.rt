@@ -11,7 +11,6 @@ ghost use mathlib.Core.Option.{none};
 ghost use Prim.Native.Nat.{_+_, _-_, _*_, _≤_, _<_, _^_, max};
 ghost use lib.Dec.{leb};
 ghost use lib.ListN.{length, take, getD};
-ghost use Rattle.algebra.specs.Counting.{All};
 ghost use Rattle.field.specs.Prime.{Prime};
 ghost use Rattle.domain.specs.Size.{isSize};
 ghost use Rattle.protocol.specs.Refusals.{first, refuse, trailerBytes, sixSizeTests, endRefusal};

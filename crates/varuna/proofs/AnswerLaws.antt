@@ -1,7 +1,6 @@
 -- The answer of a call by its judgement: done where nothing is refused, and otherwise the refusal, with each lent slice as it was.
 -- Assumes nothing.
 use mathlib.Core.Path.{_≡_, sym, ap, ap₂, _∙_}
-use mathlib.Core.List.{List}
 use mathlib.Core.Option.{Option, none}
 use Prim.Native.Nat.{ℕ}
 use Rattle.protocol.specs.declared.Fault.{Fault}

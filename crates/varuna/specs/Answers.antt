@@ -3,7 +3,7 @@ use mathlib.Core.List.{List, [], _∷_, _++_}
 use Prim.Native.Nat.{ℕ}
 use Rattle.protocol.specs.declared.Opened.{Opened}
 use Rattle.protocol.specs.Three.{Three, listed}
-use Rattle.protocol.specs.Refusals.{Refusal, Outcome, Done, Refused}
+use Rattle.protocol.specs.Refusals.{Outcome, Done, Refused}
 use Rattle.protocol.specs.Meanings.{three}
 use Rattle.varuna.specs.declared.answers.Word.{Word}
 use Rattle.varuna.specs.declared.answers.Word.the-variants as word

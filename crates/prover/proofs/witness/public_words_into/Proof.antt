@@ -12,8 +12,6 @@ use Rattle.algebra.proofs.PolynomialLaws.{length-tabulate, getD-tabulate}
 use Rattle.domain.proofs.Fill.{Filled, fill-none, fill-turn, fill-end}
 use Rattle.prover.proofs.witness.public_words_into.Statement.{statement}
 use Rattle.prover.proofs.witness.public_words_into.Tie as tie
-use Rattle.prover.proofs.witness.public_words_into.Reads as reads
-use Rattle.prover.proofs.witness.public_words_into.Lts as lts
 
 -- what the slice is to hold
 abbrev picked : ℕ → List ℕ → ℕ → List ℕ
