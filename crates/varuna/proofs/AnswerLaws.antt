@@ -18,6 +18,9 @@ use Rattle.varuna.specs.Inputs.{threeOf}
 pub free : {f : Fault} {o : Option Refusal} → fault.Fine ≡ f → faultRefusal f ≡ o → o ≡ none
 free told e = sym (ap faultRefusal told ∙ e)
 
+pub three-same : {T : Type 0} {a b c : T} (w : Three T) → a ≡ w .a → b ≡ w .b → c ≡ w .c → threeOf a b c ≡ w
+three-same {T} {a} {b} {c} w at-a at-b at-c = ap (λ (n : T). threeOf n b c) at-a ∙ ap₂ (λ (m n : T). threeOf (w .a) m n) at-b at-c
+
 module _ {o : Option Refusal} where
   pub word-done : {v w : ℕ} → o ≡ none → v ≡ w → word.Value v ≡ wordAnswer (judged o w)
   word-done {v} {w} fine same = sym (ap₂ (λ (o : Option Refusal) (w : ℕ). wordAnswer (judged o w)) fine (sym same))
@@ -26,15 +29,15 @@ module _ {o : Option Refusal} where
   fill-done {S} {after} {result} before fine same = sym (ap₂ (λ (o : Option Refusal) (w : S). fills (judged o w) before) fine (sym same))
 
   module _ {a b c : ℕ} (w : Three ℕ) (fine : o ≡ none) (at-a : a ≡ w .a) (at-b : b ≡ w .b) (at-c : c ≡ w .c) where
-    same-three : threeOf a b c ≡ w
-    same-three = ap (λ (n : ℕ). threeOf n b c) at-a ∙ ap₂ (λ (m n : ℕ). threeOf (w .a) m n) at-b at-c
-
     pub three-done : three-words.Value (record { a = a; b = b; c = c }) ≡ threeAnswer (judged o w)
-    three-done = sym (ap₂ (λ (o : Option Refusal) (w : Three ℕ). threeAnswer (judged o w)) fine (sym same-three))
+    three-done = sym (ap₂ (λ (o : Option Refusal) (w : Three ℕ). threeAnswer (judged o w)) fine (sym (three-same w at-a at-b at-c)))
 
     pub fill-three-done : {S : Type 0} {after result : S} (before : S) → after ≡ result
         → filling (three-words.Value (record { a = a; b = b; c = c })) after ≡ fillsThree (judged o (w, result)) before
     fill-three-done {S} {after} {result} before same =
         sym
         (ap (λ (o : Option Refusal). fillsThree (judged o (w, result)) before) fine
-        ∙ ap₂ (λ (w : Three ℕ) (l : S). filling (threeAnswer (Done w)) l) (sym same-three) (sym same))
+        ∙ ap₂ (λ (w : Three ℕ) (l : S). filling (threeAnswer (Done w)) l) (sym (three-same w at-a at-b at-c)) (sym same))
+
+pub done : {T : Type 0} {o : Option Refusal} {v : T} (w : T) → o ≡ none → v ≡ w → Done v ≡ judged o w
+done {T} {o} {v} w fine same = sym (ap₂ (λ (o : Option Refusal) (w : T). judged o w) fine (sym same))

@@ -1,5 +1,7 @@
 pub mod AnswerLaws
 pub mod AnswerLent
 pub mod CallPolynomials
+pub mod CallRounds
+pub mod CallParts
 pub mod Padding
 pub mod Turns

@@ -49,11 +49,13 @@ module _ {S : Type 0} where
 abbrev pub indexList : IndexOpened → List ℕ
 indexList i = i .row ∷ i .col ∷ i .rowcol ∷ i .rowcolval ∷ []
 
-abbrev pub openedList : Opened → IndexesOpened → List ℕ
-openedList o i =
-    o .witness ∷ o .mask ∷ o .lineRemainder ∷ o .lineQuotient ∷ o .rowQuotient ∷ o .joinedQuotient
-    ∷ (listed (three (o .matrixRemainders)) ++ (indexList (i .a) ++ (indexList (i .b) ++ indexList (i .c))))
+abbrev pub indexesList : IndexesOpened → List ℕ
+indexesList i = indexList (i .a) ++ (indexList (i .b) ++ indexList (i .c))
+
+abbrev pub messageList : Opened → List ℕ
+messageList o =
+    o .witness ∷ o .mask ∷ o .lineRemainder ∷ o .lineQuotient ∷ o .rowQuotient ∷ o .joinedQuotient ∷ listed (three (o .matrixRemainders))
 
 abbrev pub openingsMeaning : declared-openings.Openings → Outcome (List ℕ)
-openingsMeaning (openings.Value o i) = Done (openedList o i)
+openingsMeaning (openings.Value o i) = Done (messageList o ++ indexesList i)
 openingsMeaning (openings.Refused number position) = Refused (record { number = number; position = position })

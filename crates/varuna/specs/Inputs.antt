@@ -1,16 +1,17 @@
 -- How the contracts of the indexer and the prover's rounds name what a call is given, and what is known of it where nothing is
 -- refused. Assumes nothing.
 use mathlib.Core.Path.{_≡_}
-use mathlib.Core.List.{List, map}
+use mathlib.Core.List.{List, _∷_, _++_, map}
 use Prim.Native.Nat.{ℕ, _*_}
 use lib.ListN.{length}
 use Rattle.field.specs.Prime.{Prime}
 use Rattle.field.specs.Element.{Elem, of}
 use Rattle.domain.specs.Polynomial.{Poly}
-use Rattle.protocol.specs.Three.{Three, mapThree}
+use Rattle.protocol.specs.Three.{Three, each, listed, mapThree}
 use Rattle.protocol.specs.Circuit.{Circuit, publicPart}
-use Rattle.protocol.specs.Messages.{witness, assignment, line}
-use Rattle.protocol.specs.Index.{Index}
+use Rattle.protocol.specs.Checks.{Openings}
+use Rattle.protocol.specs.Messages.{witness, assignment, line, messages, openings}
+use Rattle.protocol.specs.Index.{Index, index, listIndex}
 use Rattle.protocol.specs.Calls.{ProverInput, circuitOf}
 use Rattle.protocol.proofs.AdmissionLaws.{WellFormed}
 use Rattle.circuit.specs.Given.{given, EachWithin, ThreeLists}
@@ -52,3 +53,16 @@ module _ (q : Prime) (i : ProverInput) where
 
   abbrev pub lineIn : ℕ → Three ℕ → Poly q
   lineIn α η = line circuitIn (map of (i .m)) assignmentIn (of α) (mapThree of η)
+
+  abbrev pub openingsIn : ℕ → Three ℕ → ℕ → Three ℕ → ℕ → Openings (Elem q)
+  openingsIn α η β δ γ =
+      openings (messages circuitIn zIn (of (i .r)) (map of (i .m)) (of α) (mapThree of η) (of β) (mapThree of δ)) (each (index circuitIn)) (of α) (of β)
+      (of γ)
+
+-- the openings of the messages and of the index polynomials, in order
+abbrev pub messagesOpened : {T : Type 0} → Openings T → List T
+messagesOpened o =
+    o .witness ∷ o .mask ∷ o .lineRemainder ∷ o .lineQuotient ∷ o .rowQuotient ∷ o .joinedQuotient ∷ listed (o .matrixRemainders)
+
+abbrev pub indexesOpened : {T : Type 0} → Three (Index T) → List T
+indexesOpened i = listIndex (i .a) ++ (listIndex (i .b) ++ listIndex (i .c))

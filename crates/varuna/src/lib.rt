@@ -2,6 +2,10 @@
 // refusal of document 01's table that applies, and a refusal changes no lent slice and no session. docs/CALLS.md lists them.
 pub mod answers;
 pub mod arithmetic;
+pub mod indexer;
+mod judging;
+mod parts;
 pub mod polynomials;
 pub mod records;
+pub mod rounds;
 pub mod session;

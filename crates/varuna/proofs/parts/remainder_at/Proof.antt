@@ -1,0 +1,63 @@
+-- `varuna::parts::remainder_at` meets its contract. Assumes nothing.
+use mathlib.Core.Path.{refl, ap, _∙_}
+use Prim.Native.Nat.{_-_, _≤_}
+use lib.Dec.{lit<}
+use Rattle.field.specs.Element.{of}
+use Rattle.domain.specs.Polynomial.{Poly, eval}
+use Rattle.domain.specs.BabyBear.{babyBear}
+use Rattle.protocol.specs.Messages.{matrixRemainder}
+use Rattle.prover.proofs.WitnessParts.{part-length, filled-within, filled-length, of-filled}
+use Rattle.varuna.proofs.CallParts.{size-bounded, below-size, lent-below}
+use borrow.Author.Needs.{needs}
+use Rattle.varuna.proofs.parts.remainder_at.Statement.{statement}
+use Rattle.varuna.proofs.parts.remainder_at.Tie as tie
+
+room : (c : tie.After-matrix-size) → c .matrix-size .result - 1 ≤ 1024
+room c = size-bounded _ _ (c .matrix-size .ensures)
+
+matrix-size-requires : tie.Need-matrix-size-requires
+matrix-size-requires c κs = search needs
+
+sub-n : tie.Need-sub-n
+sub-n c = below-size _ _ (c .matrix-size .ensures)
+
+array-borrow-prefix-remainder : tie.Need-array-borrow-prefix-remainder
+array-borrow-prefix-remainder c = room c
+
+slice-aggregate-matrix-remainder-into : tie.Need-slice-aggregate-matrix-remainder-into
+slice-aggregate-matrix-remainder-into c = part-length _ _ (room (c .before))
+
+matrix-remainder-into-requires : tie.Need-matrix-remainder-into-requires
+matrix-remainder-into-requires c κs =
+    let s = c .before .before .before in
+    (lit< tt, (s .pre .0, (s .pre .1, lent-below _ _ (part-length _ _ (room (c .before))) (below-size _ _ (c .before .matrix-size .ensures)) ∙ c .before .matrix-size .ensures)))
+
+array-share-prefix-remainder : tie.Need-array-share-prefix-remainder
+array-share-prefix-remainder c = filled-within _ _ (room (c .before .before .before)) (c .before .matrix-remainder-into .last .1 .1 .1 .1 .1 .1 .0) (c .before .matrix-remainder-into .kept .1 .1 .1 .1 .1 .1 .0)
+
+slice-aggregate-evaluate : tie.Need-slice-aggregate-evaluate
+slice-aggregate-evaluate c = filled-length _ _ (room (c .before .before .before .before)) (c .before .before .matrix-remainder-into .last .1 .1 .1 .1 .1 .1 .0) (c .before .before .matrix-remainder-into .kept .1 .1 .1 .1 .1 .1 .0)
+
+evaluate-requires : tie.Need-evaluate-requires
+evaluate-requires c κs = search needs
+
+returns : tie.Need-returns
+returns c k M G H =
+    let s = c .before .before .before .before .before .before .before in
+    c .evaluate .ensures babyBear refl
+    ∙ ap (λ (f : Poly babyBear). eval f (of (s .args .gamma)) .word)
+    (of-filled _ _ (room (c .before .before .before .before .before)) (c .before .before .before .matrix-remainder-into .last .1 .1 .1 .1 .1 .1 .0) (c .before .before .before .matrix-remainder-into .kept .1 .1 .1 .1 .1 .1 .0) (matrixRemainder k (of (s .args .alpha)) (of (s .args .beta)) M) (c .before .before .before .matrix-remainder-into .ensures babyBear k M G H))
+
+pub remainder-at-spec : {M : Type 1} → statement M
+remainder-at-spec =
+    tie.close
+    (tie.spec
+    matrix-size-requires
+    sub-n
+    array-borrow-prefix-remainder
+    slice-aggregate-matrix-remainder-into
+    matrix-remainder-into-requires
+    array-share-prefix-remainder
+    slice-aggregate-evaluate
+    evaluate-requires
+    returns)

@@ -1,0 +1,143 @@
+-- `varuna::rounds::fifth_round` meets its contract. Assumes nothing.
+use mathlib.Core.Path.{_≡_, refl, sym, ap, ap₂, _∙_}
+use mathlib.Core.List.{List, [], _∷_}
+use Prim.Native.Nat.{ℕ, _-_, max}
+use lib.Dec.{lit<}
+use lib.ListN.{length}
+use Rattle.domain.specs.Size.{sizeFor}
+use Rattle.domain.specs.BabyBear.{babyBear}
+use Rattle.domain.proofs.Qualification.{babyBear-qualifies}
+use Rattle.protocol.specs.Circuit.{Circuit, sizesOf, largest}
+use Rattle.protocol.specs.Messages.{lengths}
+use Rattle.protocol.specs.Meanings.{faultRefusal}
+use Rattle.protocol.specs.Calls.{ProverInput, circuitOf, entriesOf, roundRefusal, fifthRoundCall}
+use Rattle.circuit.specs.Given.{given}
+use Rattle.varuna.specs.Inputs.{proverInput}
+use Rattle.varuna.proofs.AnswerLaws.{free, fill-done}
+use Rattle.varuna.proofs.CallRounds.{RoundFits, round-fits, one-below-largest, shaped, challenged, matrix-given, known-prime}
+use borrow.Author.Needs.{needs}
+use Rattle.varuna.proofs.rounds.fifth_round.Statement.{statement}
+use Rattle.varuna.proofs.rounds.fifth_round.Tie as tie
+
+-- what the call is given, the lengths of its lent slices, the lengths that they must have, its challenge words and its points
+abbrev input : tie.Start → ProverInput
+input s = proverInput (s .args .r) (s .args .c) (s .args .x) (s .args .ea .now) (s .args .eb .now) (s .args .ec .now) (s .args .z .now) (s .args .mask) (s .args .m .now)
+
+abbrev lent : tie.Start → List ℕ
+lent s = length (s .args .out .now) ∷ []
+
+abbrev due : tie.Start → List ℕ
+due s = (max (sizeFor (length (entriesOf (s .args .ea .now)))) (max (sizeFor (length (entriesOf (s .args .eb .now)))) (sizeFor (length (entriesOf (s .args .ec .now))))) - 1) ∷ []
+
+abbrev challenges : tie.Start → List ℕ
+challenges s = s .args .alpha ∷ (s .args .eta) .a ∷ (s .args .eta) .b ∷ (s .args .eta) .c ∷ s .args .beta ∷ (s .args .delta) .a ∷ (s .args .delta) .b ∷ (s .args .delta) .c ∷ []
+
+abbrev points : tie.Start → List ℕ
+points s = s .args .alpha ∷ s .args .beta ∷ []
+
+judgement : (c : tie.After-judge-round)
+    → faultRefusal (c .judge-round .result)
+    ≡ roundRefusal babyBear (input (c .before .before .before .before .before .before .before .before .before .before .before .before .before .before .before .before .before)) (lent (c .before .before .before .before .before .before .before .before .before .before .before .before .before .before .before .before .before)) (due (c .before .before .before .before .before .before .before .before .before .before .before .before .before .before .before .before .before)) (challenges (c .before .before .before .before .before .before .before .before .before .before .before .before .before .before .before .before .before)) (points (c .before .before .before .before .before .before .before .before .before .before .before .before .before .before .before .before .before))
+judgement c =
+    let s = c .before .before .before .before .before .before .before .before .before .before .before .before .before .before .before .before .before in
+    c .judge-round .ensures
+    ∙ ap (λ (n : ℕ). roundRefusal babyBear (input s) (lent s) (n ∷ []) (challenges s) (points s))
+    (c .before .before .before .before .before .less .ensures
+    ∙ ap (λ (n : ℕ). n - 1)
+    (c .before .before .before .before .before .before .larger2 .ensures
+    ∙ ap₂ max (c .before .before .before .before .before .before .before .matrix-size3 .ensures) (c .before .before .before .before .before .before .before .before .larger .ensures ∙ ap₂ max (c .before .before .before .before .before .before .before .before .before .before .matrix-size .ensures) (c .before .before .before .before .before .before .before .before .before .matrix-size2 .ensures))))
+
+-- nothing was refused
+abbrev Fitting : tie.Start → Type 0
+Fitting s = RoundFits (s .args .r) (s .args .c) (s .args .x) (s .args .ea .now) (s .args .eb .now) (s .args .ec .now) babyBear (s .args .z .now) (s .args .m .now) (s .args .mask) (lent s) (due s) (challenges s) (points s)
+
+fits : (c : tie.After-enum-told) → Fitting (c .before .before .before .before .before .before .before .before .before .before .before .before .before .before .before .before .before .before .before)
+fits c =
+    let s = c .before .before .before .before .before .before .before .before .before .before .before .before .before .before .before .before .before .before .before in
+    round-fits (s .args .r) (s .args .c) (s .args .x) (s .args .ea .now) (s .args .eb .now) (s .args .ec .now) babyBear (s .args .z .now) (s .args .m .now) (s .args .mask) (lent s) (due s) (challenges s) (points s)
+    (free (sym (c .enum-told .given .1)) (judgement (c .before .before)))
+
+matrix-size-requires : tie.Need-matrix-size-requires
+matrix-size-requires c κs = search needs
+
+matrix-size-requires-2 : tie.Need-matrix-size-requires-2
+matrix-size-requires-2 c κs = search needs
+
+larger-requires : tie.Need-larger-requires
+larger-requires c κs = search needs
+
+matrix-size-requires-3 : tie.Need-matrix-size-requires-3
+matrix-size-requires-3 c κs = search needs
+
+larger-requires-2 : tie.Need-larger-requires-2
+larger-requires-2 c κs = search needs
+
+less-requires : tie.Need-less-requires
+less-requires c κs = search needs
+
+slice-aggregate-judge-round : tie.Need-slice-aggregate-judge-round
+slice-aggregate-judge-round c = search needs
+
+slice-aggregate-judge-round-2 : tie.Need-slice-aggregate-judge-round-2
+slice-aggregate-judge-round-2 c = search needs
+
+slice-aggregate-judge-round-3 : tie.Need-slice-aggregate-judge-round-3
+slice-aggregate-judge-round-3 c = search needs
+
+slice-aggregate-judge-round-4 : tie.Need-slice-aggregate-judge-round-4
+slice-aggregate-judge-round-4 c = search needs
+
+judge-round-requires : tie.Need-judge-round-requires
+judge-round-requires c κs = search needs
+
+enum-told : tie.Need-enum-told
+enum-told c = search needs
+
+joined-quotient-into-requires : tie.Need-joined-quotient-into-requires
+unfolding largest
+joined-quotient-into-requires c κs =
+    let F = fits (c .before) in
+    (lit< tt, (shaped (F .fits), one-below-largest _ _ _ _ (F .lent-fit .0)))
+
+enum-known-fault : tie.Need-enum-known-fault
+enum-known-fault c = search needs
+
+same-length : tie.Need-same-length
+same-length c = search needs
+
+returns : tie.Need-returns
+unfolding fifthRoundCall lengths sizesOf circuitOf largest
+returns c =
+    let d = c .before .before .before .before in
+    let s = d .before .before .before .before .before .before .before .before .before .before .before .before .before .before .before .before .before .before .before in
+    let F = fits d in
+    let k : Circuit = circuitOf (given (s .args .r) (s .args .c) (s .args .x) (s .args .ea .now) (s .args .eb .now) (s .args .ec .now)) in
+    fill-done (s .args .out .now) (free (sym (d .enum-told .given .1)) (judgement (d .before .before)))
+    (c .before .before .joined-quotient-into .ensures babyBear k (matrix-given known-prime babyBear-qualifies (s .args .r) (s .args .c) (s .args .x) (s .args .ea .now) (s .args .eb .now) (s .args .ec .now))
+    (challenged (F .fits) (s .args .alpha) (s .args .beta) [] (F .outside)))
+
+returns-2 : tie.Need-returns-2
+unfolding fifthRoundCall lengths sizesOf circuitOf largest
+returns-2 c = rw (sym (ap faultRefusal (sym (c .before .fault .given .1)) ∙ judgement (c .before .before .before))) refl
+
+pub fifth-round-spec : {M : Type 1} → statement M
+fifth-round-spec =
+    tie.close
+    (tie.spec
+    matrix-size-requires
+    matrix-size-requires-2
+    larger-requires
+    matrix-size-requires-3
+    larger-requires-2
+    less-requires
+    slice-aggregate-judge-round
+    slice-aggregate-judge-round-2
+    slice-aggregate-judge-round-3
+    slice-aggregate-judge-round-4
+    judge-round-requires
+    enum-told
+    joined-quotient-into-requires
+    enum-known-fault
+    same-length
+    returns
+    returns-2)

@@ -1,0 +1,133 @@
+-- `varuna::rounds::first_round` meets its contract. Assumes nothing.
+use mathlib.Core.Path.{_≡_, refl, sym, ap, ap₂, _∙_}
+use mathlib.Core.List.{List, [], _∷_}
+use Prim.Native.Nat.{ℕ, _+_, _-_}
+use lib.Dec.{lit<}
+use lib.ListN.{length}
+use borrow.Author.Tests.{eqb-true}
+use Rattle.domain.specs.BabyBear.{babyBear}
+use Rattle.domain.proofs.Qualification.{babyBear-qualifies}
+use Rattle.protocol.specs.Circuit.{Circuit, sizesOf}
+use Rattle.protocol.specs.Messages.{lengths, witness, rowQuotient}
+use Rattle.protocol.specs.Meanings.{faultRefusal}
+use Rattle.protocol.specs.Calls.{ProverInput, circuitOf, roundRefusal, firstRoundCall}
+use Rattle.circuit.specs.Given.{given}
+use Rattle.varuna.specs.Inputs.{proverInput, assignmentIn}
+use Rattle.varuna.proofs.AnswerLaws.{free, fill-done}
+use Rattle.varuna.proofs.CallRounds.{RoundFits, round-fits, R-fits, C-fits, X-fits, X-below, shares, assignment-on-C, known-prime}
+use borrow.Author.Needs.{needs}
+use Rattle.varuna.proofs.rounds.first_round.Statement.{statement}
+use Rattle.varuna.proofs.rounds.first_round.Tie as tie
+
+-- what the call is given, the lengths of its lent slices, the lengths that they must have, its challenge words and its points
+abbrev input : tie.Start → ProverInput
+input s = proverInput (s .args .r) (s .args .c) (s .args .x) (s .args .ea .now) (s .args .eb .now) (s .args .ec .now) (s .args .z .now) (s .args .mask) (s .args .m .now)
+
+abbrev lent : tie.Start → List ℕ
+lent s = length (s .args .witness .now) ∷ length (s .args .rowQuotient .now) ∷ []
+
+abbrev due : tie.Start → List ℕ
+due s = (s .args .c - s .args .x + 1) ∷ (s .args .r - 1) ∷ []
+
+abbrev challenges : tie.Start → List ℕ
+challenges s = []
+
+abbrev points : tie.Start → List ℕ
+points s = []
+
+judgement : (c : tie.After-judge-round)
+    → faultRefusal (c .judge-round .result)
+    ≡ roundRefusal babyBear (input (c .before .before .before .before .before .before .before .before .before .before .before .before .before)) (lent (c .before .before .before .before .before .before .before .before .before .before .before .before .before)) (due (c .before .before .before .before .before .before .before .before .before .before .before .before .before)) (challenges (c .before .before .before .before .before .before .before .before .before .before .before .before .before)) (points (c .before .before .before .before .before .before .before .before .before .before .before .before .before))
+judgement c =
+    let s = c .before .before .before .before .before .before .before .before .before .before .before .before .before in
+    c .judge-round .ensures
+    ∙ ap₂ (λ (m n : ℕ). roundRefusal babyBear (input s) (lent s) ((m + 1) ∷ n ∷ []) [] []) (c .before .before .before .before .before .less .ensures) (c .before .before .before .before .less2 .ensures)
+
+-- nothing was refused
+abbrev Fitting : tie.Start → Type 0
+Fitting s = RoundFits (s .args .r) (s .args .c) (s .args .x) (s .args .ea .now) (s .args .eb .now) (s .args .ec .now) babyBear (s .args .z .now) (s .args .m .now) (s .args .mask) (lent s) (due s) (challenges s) (points s)
+
+fits : (c : tie.After-enum-told) → Fitting (c .before .before .before .before .before .before .before .before .before .before .before .before .before .before .before)
+fits c =
+    let s = c .before .before .before .before .before .before .before .before .before .before .before .before .before .before .before in
+    round-fits (s .args .r) (s .args .c) (s .args .x) (s .args .ea .now) (s .args .eb .now) (s .args .ec .now) babyBear (s .args .z .now) (s .args .m .now) (s .args .mask) (lent s) (due s) (challenges s) (points s)
+    (free (sym (c .enum-told .given .1)) (judgement (c .before .before)))
+
+less-requires : tie.Need-less-requires
+less-requires c κs = search needs
+
+add-t21 : tie.Need-add-t21
+add-t21 c = search needs
+
+less-requires-2 : tie.Need-less-requires-2
+less-requires-2 c κs = search needs
+
+slice-aggregate-none : tie.Need-slice-aggregate-none
+slice-aggregate-none c = search needs
+
+slice-aggregate-judge-round : tie.Need-slice-aggregate-judge-round
+slice-aggregate-judge-round c = search needs
+
+slice-aggregate-judge-round-2 : tie.Need-slice-aggregate-judge-round-2
+slice-aggregate-judge-round-2 c = search needs
+
+judge-round-requires : tie.Need-judge-round-requires
+judge-round-requires c κs = search needs
+
+enum-told : tie.Need-enum-told
+enum-told c = search needs
+
+witness-into-requires : tie.Need-witness-into-requires
+witness-into-requires c κs =
+    let F = fits (c .before) in
+    (lit< tt, ((C-fits (F .fits), X-fits (F .fits), X-below (F .fits)), (F .fits .z-length, eqb-true _ _ (F .lent-fit .0))))
+
+row-quotient-into-requires : tie.Need-row-quotient-into-requires
+row-quotient-into-requires c κs =
+    let F = fits (c .before .before .before .before .before) in
+    (lit< tt, (R-fits (F .fits), (eqb-true _ _ (F .lent-fit .1 .0), shares (F .fits))))
+
+enum-known-fault : tie.Need-enum-known-fault
+enum-known-fault c = search needs
+
+same-length : tie.Need-same-length
+same-length c = search needs
+
+same-length-2 : tie.Need-same-length-2
+same-length-2 c = search needs
+
+returns : tie.Need-returns
+unfolding firstRoundCall lengths sizesOf circuitOf
+returns c =
+    let d = c .before .before .before .before .before .before .before .before in
+    let s = d .before .before .before .before .before .before .before .before .before .before .before .before .before .before .before in
+    let F = fits d in
+    let k : Circuit = circuitOf (given (s .args .r) (s .args .c) (s .args .x) (s .args .ea .now) (s .args .eb .now) (s .args .ec .now)) in
+    fill-done (s .args .witness .now, s .args .rowQuotient .now) (free (sym (d .enum-told .given .1)) (judgement (d .before .before)))
+    (ap₂ (λ (l m : List ℕ). (l, m)) (c .before .before .before .before .before .before .witness-into .ensures babyBear known-prime k refl refl)
+    (c .before .before .row-quotient-into .ensures babyBear known-prime babyBear-qualifies k (F .fits .well-formed) refl refl (assignmentIn babyBear (input s))
+    (assignment-on-C (F .fits) babyBear-qualifies (s .args .mask))))
+
+returns-2 : tie.Need-returns-2
+unfolding firstRoundCall lengths sizesOf circuitOf
+returns-2 c = rw (sym (ap faultRefusal (sym (c .before .fault .given .1)) ∙ judgement (c .before .before .before))) refl
+
+pub first-round-spec : {M : Type 1} → statement M
+first-round-spec =
+    tie.close
+    (tie.spec
+    less-requires
+    add-t21
+    less-requires-2
+    slice-aggregate-none
+    slice-aggregate-judge-round
+    slice-aggregate-judge-round-2
+    judge-round-requires
+    enum-told
+    witness-into-requires
+    row-quotient-into-requires
+    enum-known-fault
+    same-length
+    same-length-2
+    returns
+    returns-2)

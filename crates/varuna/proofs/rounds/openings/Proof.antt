@@ -1,0 +1,107 @@
+-- `varuna::rounds::openings` meets its contract. Assumes nothing.
+use mathlib.Core.Path.{_≡_, refl, sym, ap, ap₂, _∙_}
+use mathlib.Core.List.{List, [], _∷_, _++_}
+use Prim.Native.Nat.{ℕ, _+_}
+use Rattle.domain.specs.BabyBear.{babyBear}
+use Rattle.protocol.specs.Three.{A, B, C}
+use Rattle.protocol.specs.Circuit.{Circuit}
+use Rattle.protocol.specs.Messages.{openings}
+use Rattle.protocol.specs.Meanings.{faultRefusal}
+use Rattle.protocol.specs.Calls.{ProverInput, circuitOf, roundRefusal, openingsCall}
+use Rattle.circuit.specs.Given.{given}
+use Rattle.varuna.specs.Inputs.{proverInput}
+use Rattle.varuna.proofs.AnswerLaws.{free, done}
+use Rattle.varuna.proofs.CallRounds.{RoundFits, round-fits, shaped, challenged}
+use borrow.Author.Needs.{needs}
+use Rattle.varuna.proofs.rounds.openings.Statement.{statement}
+use Rattle.varuna.proofs.rounds.openings.Tie as tie
+
+-- what the call is given, the lengths of its lent slices, the lengths that they must have, its challenge words and its points
+abbrev input : tie.Start → ProverInput
+input s = proverInput (s .args .r) (s .args .c) (s .args .x) (s .args .ea .now) (s .args .eb .now) (s .args .ec .now) (s .args .z .now) (s .args .mask) (s .args .m .now)
+
+abbrev lent : tie.Start → List ℕ
+lent s = []
+
+abbrev due : tie.Start → List ℕ
+due s = []
+
+abbrev challenges : tie.Start → List ℕ
+challenges s = s .args .alpha ∷ (s .args .eta) .a ∷ (s .args .eta) .b ∷ (s .args .eta) .c ∷ s .args .beta ∷ (s .args .delta) .a ∷ (s .args .delta) .b ∷ (s .args .delta) .c ∷ s .args .gamma ∷ []
+
+abbrev points : tie.Start → List ℕ
+points s = s .args .alpha ∷ s .args .beta ∷ s .args .gamma ∷ []
+
+judgement : (c : tie.After-judge-round)
+    → faultRefusal (c .judge-round .result)
+    ≡ roundRefusal babyBear (input (c .before .before .before .before .before .before .before .before .before)) (lent (c .before .before .before .before .before .before .before .before .before)) (due (c .before .before .before .before .before .before .before .before .before)) (challenges (c .before .before .before .before .before .before .before .before .before)) (points (c .before .before .before .before .before .before .before .before .before))
+judgement c = c .judge-round .ensures
+
+-- nothing was refused
+abbrev Fitting : tie.Start → Type 0
+Fitting s = RoundFits (s .args .r) (s .args .c) (s .args .x) (s .args .ea .now) (s .args .eb .now) (s .args .ec .now) babyBear (s .args .z .now) (s .args .m .now) (s .args .mask) (lent s) (due s) (challenges s) (points s)
+
+fits : (c : tie.After-enum-told) → Fitting (c .before .before .before .before .before .before .before .before .before .before .before)
+fits c =
+    let s = c .before .before .before .before .before .before .before .before .before .before .before in
+    round-fits (s .args .r) (s .args .c) (s .args .x) (s .args .ea .now) (s .args .eb .now) (s .args .ec .now) babyBear (s .args .z .now) (s .args .m .now) (s .args .mask) (lent s) (due s) (challenges s) (points s)
+    (free (sym (c .enum-told .given .1)) (judgement (c .before .before)))
+
+array-share-prefix-lengths : tie.Need-array-share-prefix-lengths
+array-share-prefix-lengths c = search needs
+
+slice-aggregate-none : tie.Need-slice-aggregate-none
+slice-aggregate-none c = search needs
+
+slice-aggregate-judge-round : tie.Need-slice-aggregate-judge-round
+slice-aggregate-judge-round c = search needs
+
+slice-aggregate-judge-round-2 : tie.Need-slice-aggregate-judge-round-2
+slice-aggregate-judge-round-2 c = search needs
+
+judge-round-requires : tie.Need-judge-round-requires
+judge-round-requires c κs = search needs
+
+enum-told : tie.Need-enum-told
+enum-told c = search needs
+
+messages-opened-requires : tie.Need-messages-opened-requires
+messages-opened-requires c κs =
+    let s = c .before .before .before .before .before .before .before .before .before .before .before in
+    let F = fits c in
+    (F .fits, challenged (F .fits) (s .args .alpha) (s .args .beta) (s .args .gamma ∷ []) (F .outside))
+
+indexes-opened-requires : tie.Need-indexes-opened-requires
+indexes-opened-requires c κs = shaped (fits (c .before) .fits)
+
+enum-known-fault : tie.Need-enum-known-fault
+enum-known-fault c = search needs
+
+returns : tie.Need-returns
+unfolding openingsCall circuitOf openings
+returns c =
+    let d = c .before .before in
+    let s = d .before .before .before .before .before .before .before .before .before .before .before in
+    let k : Circuit = circuitOf (given (s .args .r) (s .args .c) (s .args .x) (s .args .ea .now) (s .args .eb .now) (s .args .ec .now)) in
+    done _ (free (sym (d .enum-told .given .1)) (judgement (d .before .before)))
+    (ap₂ (λ (l m : List ℕ). l ++ m) (c .before .messages-opened .ensures) (c .indexes-opened .ensures k refl refl (elim [ A ↦ refl | B ↦ refl | C ↦ refl ])))
+
+returns-2 : tie.Need-returns-2
+unfolding openingsCall
+returns-2 c = rw (sym (ap faultRefusal (sym (c .before .fault .given .1)) ∙ judgement (c .before .before .before))) refl
+
+pub openings-spec : {M : Type 1} → statement M
+openings-spec =
+    tie.close
+    (tie.spec
+    array-share-prefix-lengths
+    slice-aggregate-none
+    slice-aggregate-judge-round
+    slice-aggregate-judge-round-2
+    judge-round-requires
+    enum-told
+    messages-opened-requires
+    indexes-opened-requires
+    enum-known-fault
+    returns
+    returns-2)

@@ -1,0 +1,122 @@
+-- `varuna::rounds::second_round` meets its contract. Assumes nothing.
+use mathlib.Core.Path.{_≡_, refl, sym, ap, _∙_}
+use mathlib.Core.List.{List, [], _∷_}
+use Prim.Native.Nat.{ℕ}
+use lib.Dec.{lit<}
+use Rattle.field.specs.Element.{Elem, of}
+use Rattle.domain.specs.BabyBear.{babyBear}
+use Rattle.domain.proofs.Qualification.{babyBear-qualifies}
+use Rattle.protocol.specs.Three.{A, B, C, mapThree}
+use Rattle.protocol.specs.Circuit.{Circuit}
+use Rattle.protocol.specs.Messages.{sums}
+use Rattle.protocol.specs.Meanings.{faultRefusal}
+use Rattle.protocol.specs.Calls.{ProverInput, circuitOf, roundRefusal, secondRoundCall}
+use Rattle.circuit.specs.Given.{given}
+use Rattle.varuna.specs.Inputs.{proverInput, assignmentIn}
+use Rattle.varuna.proofs.AnswerLaws.{free, three-done}
+use Rattle.varuna.proofs.CallRounds.{RoundFits, round-fits, R-fits, shares, assignment-on-C, known-prime}
+use borrow.Author.Needs.{needs}
+use Rattle.varuna.proofs.rounds.second_round.Statement.{statement}
+use Rattle.varuna.proofs.rounds.second_round.Tie as tie
+
+-- what the call is given, the lengths of its lent slices, the lengths that they must have, its challenge words and its points
+abbrev input : tie.Start → ProverInput
+input s = proverInput (s .args .r) (s .args .c) (s .args .x) (s .args .ea .now) (s .args .eb .now) (s .args .ec .now) (s .args .z .now) (s .args .mask) (s .args .m .now)
+
+abbrev lent : tie.Start → List ℕ
+lent s = []
+
+abbrev due : tie.Start → List ℕ
+due s = []
+
+abbrev challenges : tie.Start → List ℕ
+challenges s = s .args .alpha ∷ []
+
+abbrev points : tie.Start → List ℕ
+points s = s .args .alpha ∷ []
+
+judgement : (c : tie.After-judge-round)
+    → faultRefusal (c .judge-round .result)
+    ≡ roundRefusal babyBear (input (c .before .before .before .before .before .before .before .before .before)) (lent (c .before .before .before .before .before .before .before .before .before)) (due (c .before .before .before .before .before .before .before .before .before)) (challenges (c .before .before .before .before .before .before .before .before .before)) (points (c .before .before .before .before .before .before .before .before .before))
+judgement c = c .judge-round .ensures
+
+-- nothing was refused
+abbrev Fitting : tie.Start → Type 0
+Fitting s = RoundFits (s .args .r) (s .args .c) (s .args .x) (s .args .ea .now) (s .args .eb .now) (s .args .ec .now) babyBear (s .args .z .now) (s .args .m .now) (s .args .mask) (lent s) (due s) (challenges s) (points s)
+
+fits : (c : tie.After-enum-told) → Fitting (c .before .before .before .before .before .before .before .before .before .before .before)
+fits c =
+    let s = c .before .before .before .before .before .before .before .before .before .before .before in
+    round-fits (s .args .r) (s .args .c) (s .args .x) (s .args .ea .now) (s .args .eb .now) (s .args .ec .now) babyBear (s .args .z .now) (s .args .m .now) (s .args .mask) (lent s) (due s) (challenges s) (points s)
+    (free (sym (c .enum-told .given .1)) (judgement (c .before .before)))
+
+array-share-prefix-lengths : tie.Need-array-share-prefix-lengths
+array-share-prefix-lengths c = search needs
+
+slice-aggregate-none : tie.Need-slice-aggregate-none
+slice-aggregate-none c = search needs
+
+slice-aggregate-judge-round : tie.Need-slice-aggregate-judge-round
+slice-aggregate-judge-round c = search needs
+
+slice-aggregate-judge-round-2 : tie.Need-slice-aggregate-judge-round-2
+slice-aggregate-judge-round-2 c = search needs
+
+judge-round-requires : tie.Need-judge-round-requires
+judge-round-requires c κs = search needs
+
+enum-told : tie.Need-enum-told
+enum-told c = search needs
+
+row-sum-value-requires : tie.Need-row-sum-value-requires
+row-sum-value-requires c κs =
+    let F = fits (c) in
+    (lit< tt, (R-fits (F .fits), shares (F .fits) .in-a))
+
+row-sum-value-requires-2 : tie.Need-row-sum-value-requires-2
+row-sum-value-requires-2 c κs =
+    let F = fits (c .before) in
+    (lit< tt, (R-fits (F .fits), shares (F .fits) .in-b))
+
+row-sum-value-requires-3 : tie.Need-row-sum-value-requires-3
+row-sum-value-requires-3 c κs =
+    let F = fits (c .before .before) in
+    (lit< tt, (R-fits (F .fits), shares (F .fits) .in-c))
+
+enum-known-fault : tie.Need-enum-known-fault
+enum-known-fault c = search needs
+
+returns : tie.Need-returns
+unfolding secondRoundCall sums circuitOf
+returns c =
+    let d = c .before .before .before in
+    let s = d .before .before .before .before .before .before .before .before .before .before .before in
+    let F = fits d in
+    let k : Circuit = circuitOf (given (s .args .r) (s .args .c) (s .args .x) (s .args .ea .now) (s .args .eb .now) (s .args .ec .now)) in
+    let on = assignment-on-C (F .fits) babyBear-qualifies (s .args .mask) in
+    three-done (mapThree (λ (a : Elem babyBear). a .word) (sums k (assignmentIn babyBear (input s)) (of (s .args .alpha))))
+    (free (sym (d .enum-told .given .1)) (judgement (d .before .before)))
+    (c .before .before .row-sum-value .ensures babyBear known-prime babyBear-qualifies k (F .fits .well-formed) refl A refl (assignmentIn babyBear (input s)) on)
+    (c .before .row-sum-value2 .ensures babyBear known-prime babyBear-qualifies k (F .fits .well-formed) refl B refl (assignmentIn babyBear (input s)) on)
+    (c .row-sum-value3 .ensures babyBear known-prime babyBear-qualifies k (F .fits .well-formed) refl C refl (assignmentIn babyBear (input s)) on)
+
+returns-2 : tie.Need-returns-2
+unfolding secondRoundCall
+returns-2 c = rw (sym (ap faultRefusal (sym (c .before .fault .given .1)) ∙ judgement (c .before .before .before))) refl
+
+pub second-round-spec : {M : Type 1} → statement M
+second-round-spec =
+    tie.close
+    (tie.spec
+    array-share-prefix-lengths
+    slice-aggregate-none
+    slice-aggregate-judge-round
+    slice-aggregate-judge-round-2
+    judge-round-requires
+    enum-told
+    row-sum-value-requires
+    row-sum-value-requires-2
+    row-sum-value-requires-3
+    enum-known-fault
+    returns
+    returns-2)

@@ -1,0 +1,163 @@
+-- `varuna::rounds::third_round` meets its contract. Assumes nothing.
+use mathlib.Core.Path.{_≡_, refl, sym, ap, ap₂, _∙_}
+use mathlib.Core.List.{List, [], _∷_}
+use Prim.Native.Nat.{ℕ, _-_}
+use lib.Dec.{lit<}
+use lib.ListN.{length}
+use borrow.Author.Tests.{eqb-true}
+use Rattle.field.specs.Element.{words}
+use Rattle.domain.specs.Polynomial.{Poly}
+use Rattle.domain.specs.BabyBear.{babyBear}
+use Rattle.protocol.specs.Circuit.{Circuit, sizesOf}
+use Rattle.protocol.specs.Messages.{lengths, lineRemainder, lineQuotient}
+use Rattle.protocol.specs.Meanings.{faultRefusal, three}
+use Rattle.protocol.specs.Calls.{ProverInput, circuitOf, roundRefusal, thirdRoundCall}
+use Rattle.circuit.specs.Given.{given}
+use Rattle.prover.proofs.WitnessParts.{part-length, filled-within, filled-length, of-filled}
+use Rattle.varuna.specs.Inputs.{proverInput, lineIn}
+use Rattle.varuna.proofs.AnswerLaws.{free, fill-done}
+use Rattle.varuna.proofs.CallRounds.{RoundFits, round-fits, C-fits, line-bound}
+use borrow.Author.Needs.{needs}
+use Rattle.varuna.proofs.rounds.third_round.Statement.{statement}
+use Rattle.varuna.proofs.rounds.third_round.Tie as tie
+
+-- what the call is given, the lengths of its lent slices, the lengths that they must have, its challenge words and its points
+abbrev input : tie.Start → ProverInput
+input s = proverInput (s .args .r) (s .args .c) (s .args .x) (s .args .ea .now) (s .args .eb .now) (s .args .ec .now) (s .args .z .now) (s .args .mask) (s .args .m .now)
+
+abbrev lent : tie.Start → List ℕ
+lent s = length (s .args .remainder .now) ∷ length (s .args .quotient .now) ∷ []
+
+abbrev due : tie.Start → List ℕ
+due s = (s .args .c - 1) ∷ s .args .c ∷ []
+
+abbrev challenges : tie.Start → List ℕ
+challenges s = s .args .alpha ∷ (s .args .eta) .a ∷ (s .args .eta) .b ∷ (s .args .eta) .c ∷ []
+
+abbrev points : tie.Start → List ℕ
+points s = s .args .alpha ∷ []
+
+judgement : (c : tie.After-judge-round)
+    → faultRefusal (c .judge-round .result)
+    ≡ roundRefusal babyBear (input (c .before .before .before .before .before .before .before .before .before .before .before .before .before)) (lent (c .before .before .before .before .before .before .before .before .before .before .before .before .before)) (due (c .before .before .before .before .before .before .before .before .before .before .before .before .before)) (challenges (c .before .before .before .before .before .before .before .before .before .before .before .before .before)) (points (c .before .before .before .before .before .before .before .before .before .before .before .before .before))
+judgement c =
+    let s = c .before .before .before .before .before .before .before .before .before .before .before .before .before in
+    c .judge-round .ensures
+    ∙ ap (λ (n : ℕ). roundRefusal babyBear (input s) (lent s) (n ∷ s .args .c ∷ []) (challenges s) (points s)) (c .before .before .before .before .before .less .ensures)
+
+-- nothing was refused
+abbrev Fitting : tie.Start → Type 0
+Fitting s = RoundFits (s .args .r) (s .args .c) (s .args .x) (s .args .ea .now) (s .args .eb .now) (s .args .ec .now) babyBear (s .args .z .now) (s .args .m .now) (s .args .mask) (lent s) (due s) (challenges s) (points s)
+
+fits : (c : tie.After-enum-told) → Fitting (c .before .before .before .before .before .before .before .before .before .before .before .before .before .before .before)
+fits c =
+    let s = c .before .before .before .before .before .before .before .before .before .before .before .before .before .before .before in
+    round-fits (s .args .r) (s .args .c) (s .args .x) (s .args .ea .now) (s .args .eb .now) (s .args .ec .now) babyBear (s .args .z .now) (s .args .m .now) (s .args .mask) (lent s) (due s) (challenges s) (points s)
+    (free (sym (c .enum-told .given .1)) (judgement (c .before .before)))
+
+less-requires : tie.Need-less-requires
+less-requires c κs = search needs
+
+slice-aggregate-judge-round : tie.Need-slice-aggregate-judge-round
+slice-aggregate-judge-round c = search needs
+
+slice-aggregate-judge-round-2 : tie.Need-slice-aggregate-judge-round-2
+slice-aggregate-judge-round-2 c = search needs
+
+slice-aggregate-judge-round-3 : tie.Need-slice-aggregate-judge-round-3
+slice-aggregate-judge-round-3 c = search needs
+
+slice-aggregate-judge-round-4 : tie.Need-slice-aggregate-judge-round-4
+slice-aggregate-judge-round-4 c = search needs
+
+judge-round-requires : tie.Need-judge-round-requires
+judge-round-requires c κs = search needs
+
+enum-told : tie.Need-enum-told
+enum-told c = search needs
+
+mul-n : tie.Need-mul-n
+mul-n c = search needs
+
+array-borrow-prefix-line : tie.Need-array-borrow-prefix-line
+array-borrow-prefix-line c = line-bound (fits c .fits)
+
+slice-aggregate-line-of : tie.Need-slice-aggregate-line-of
+slice-aggregate-line-of c = part-length _ _ (line-bound (fits (c .before) .fits))
+
+line-of-requires : tie.Need-line-of-requires
+line-of-requires c κs = (fits (c .before) .fits, sym (part-length _ _ (line-bound (fits (c .before) .fits))))
+
+array-share-prefix-line : tie.Need-array-share-prefix-line
+array-share-prefix-line c = filled-within _ _ (line-bound (fits (c .before .before .before) .fits)) (c .before .line-of .last .1 .1 .1 .1 .1 .1 .1 .1 .1 .1 .1 .0) (c .before .line-of .kept .1 .1 .1 .1 .1 .1 .1 .1 .1 .1 .1 .0)
+
+slice-aggregate-line-remainder-into : tie.Need-slice-aggregate-line-remainder-into
+slice-aggregate-line-remainder-into c = filled-length _ _ (line-bound (fits (c .before .before .before .before) .fits)) (c .before .before .line-of .last .1 .1 .1 .1 .1 .1 .1 .1 .1 .1 .1 .0) (c .before .before .line-of .kept .1 .1 .1 .1 .1 .1 .1 .1 .1 .1 .1 .0)
+
+line-remainder-into-requires : tie.Need-line-remainder-into-requires
+line-remainder-into-requires c κs =
+    let F = fits (c .before .before .before .before .before) in
+    (lit< tt, (C-fits (F .fits), eqb-true _ _ (F .lent-fit .0)))
+
+array-share-prefix-line-2 : tie.Need-array-share-prefix-line-2
+array-share-prefix-line-2 c = filled-within _ _ (line-bound (fits (c .before .before .before .before .before .before .before .before) .fits)) (c .before .before .before .before .before .before .line-of .last .1 .1 .1 .1 .1 .1 .1 .1 .1 .1 .1 .0) (c .before .before .before .before .before .before .line-of .kept .1 .1 .1 .1 .1 .1 .1 .1 .1 .1 .1 .0)
+
+slice-aggregate-line-quotient-into : tie.Need-slice-aggregate-line-quotient-into
+slice-aggregate-line-quotient-into c = filled-length _ _ (line-bound (fits (c .before .before .before .before .before .before .before .before .before) .fits)) (c .before .before .before .before .before .before .before .line-of .last .1 .1 .1 .1 .1 .1 .1 .1 .1 .1 .1 .0) (c .before .before .before .before .before .before .before .line-of .kept .1 .1 .1 .1 .1 .1 .1 .1 .1 .1 .1 .0)
+
+line-quotient-into-requires : tie.Need-line-quotient-into-requires
+line-quotient-into-requires c κs =
+    let F = fits (c .before .before .before .before .before .before .before .before .before .before) in
+    (lit< tt, (C-fits (F .fits), (sym (filled-length _ _ (line-bound (fits (c .before .before .before .before .before .before .before .before .before .before) .fits)) (c .before .before .before .before .before .before .before .before .line-of .last .1 .1 .1 .1 .1 .1 .1 .1 .1 .1 .1 .0) (c .before .before .before .before .before .before .before .before .line-of .kept .1 .1 .1 .1 .1 .1 .1 .1 .1 .1 .1 .0)), eqb-true _ _ (F .lent-fit .1 .0))))
+
+enum-known-fault : tie.Need-enum-known-fault
+enum-known-fault c = search needs
+
+same-length : tie.Need-same-length
+same-length c = search needs
+
+same-length-2 : tie.Need-same-length-2
+same-length-2 c = search needs
+
+returns : tie.Need-returns
+unfolding thirdRoundCall lengths sizesOf circuitOf
+returns c =
+    let d = c .before .before .before .before .before .before .before .before .before .before .before .before .before in
+    let s = d .before .before .before .before .before .before .before .before .before .before .before .before .before .before .before in
+    let k : Circuit = circuitOf (given (s .args .r) (s .args .c) (s .args .x) (s .args .ea .now) (s .args .eb .now) (s .args .ec .now)) in
+    let made = (of-filled _ _ (line-bound (fits (c .before .before .before .before .before .before .before .before .before .before .before .before .before) .fits)) (c .before .before .before .before .before .before .before .before .before .before .before .line-of .last .1 .1 .1 .1 .1 .1 .1 .1 .1 .1 .1 .0) (c .before .before .before .before .before .before .before .before .before .before .before .line-of .kept .1 .1 .1 .1 .1 .1 .1 .1 .1 .1 .1 .0) (lineIn babyBear (input s) (s .args .alpha) (three (s .args .eta))) (c .before .before .before .before .before .before .before .before .before .before .before .line-of .ensures)) in
+    fill-done (s .args .remainder .now, s .args .quotient .now) (free (sym (d .enum-told .given .1)) (judgement (d .before .before)))
+    (ap₂ (λ (l m : List ℕ). (l, m))
+    (c .before .before .before .before .before .before .before .line-remainder-into .ensures babyBear refl k refl ∙ ap (λ (f : Poly babyBear). words (lineRemainder k f)) made)
+    (c .before .before .line-quotient-into .ensures babyBear refl k refl ∙ ap (λ (f : Poly babyBear). words (lineQuotient k f)) made))
+
+returns-2 : tie.Need-returns-2
+unfolding thirdRoundCall lengths sizesOf circuitOf
+returns-2 c = rw (sym (ap faultRefusal (sym (c .before .fault .given .1)) ∙ judgement (c .before .before .before))) refl
+
+pub third-round-spec : {M : Type 1} → statement M
+third-round-spec =
+    tie.close
+    (tie.spec
+    less-requires
+    slice-aggregate-judge-round
+    slice-aggregate-judge-round-2
+    slice-aggregate-judge-round-3
+    slice-aggregate-judge-round-4
+    judge-round-requires
+    enum-told
+    mul-n
+    array-borrow-prefix-line
+    slice-aggregate-line-of
+    line-of-requires
+    array-share-prefix-line
+    slice-aggregate-line-remainder-into
+    line-remainder-into-requires
+    array-share-prefix-line-2
+    slice-aggregate-line-quotient-into
+    line-quotient-into-requires
+    enum-known-fault
+    same-length
+    same-length-2
+    returns
+    returns-2)

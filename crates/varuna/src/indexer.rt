@@ -1,0 +1,71 @@
+// The indexer.
+ghost use mathlib.Core.Path.{_≡_};
+ghost use lib.ListN.{length};
+ghost use Rattle.domain.specs.BabyBear.{babyBear};
+ghost use Rattle.protocol.specs.Three.{mapThree};
+ghost use Rattle.protocol.specs.Index.{mapIndex};
+ghost use Rattle.protocol.specs.Calls.{indexCall};
+ghost use Rattle.circuit.specs.Given.{given};
+ghost use Rattle.varuna.specs.Answers.{filling, fills};
+ghost use Rattle.varuna.specs.Inputs.{twelve};
+use crate::answers::Filled;
+use crate::judging;
+use field::MODULE_PRIME;
+use protocol::Fault;
+
+// The twelve index polynomials of a circuit with entry lists ea, eb, ec, each into a slice of |K_M| words: row, col, rowcol and
+// rowcolval of A, then B, then C. Refusals: 4 for a size, 5 for an entry list or a slice, 6 for a value, 7 for an entry.
+pub fn index(
+    r: u32,
+    c: u32,
+    x: u32,
+    ea: &[u32],
+    eb: &[u32],
+    ec: &[u32],
+    rowA: &mut [u32],
+    colA: &mut [u32],
+    rowcolA: &mut [u32],
+    rowcolvalA: &mut [u32],
+    rowB: &mut [u32],
+    colB: &mut [u32],
+    rowcolB: &mut [u32],
+    rowcolvalB: &mut [u32],
+    rowC: &mut [u32],
+    colC: &mut [u32],
+    rowcolC: &mut [u32],
+    rowcolvalC: &mut [u32],
+) -> Filled
+    ensures { λ f. ⌜ filling f (twelve (now (rowA .exit)) (now (colA .exit)) (now (rowcolA .exit)) (now (rowcolvalA .exit)) (now (rowB .exit)) (now (colB .exit)) (now (rowcolB .exit)) (now (rowcolvalB .exit)) (now (rowC .exit)) (now (colC .exit)) (now (rowcolC .exit)) (now (rowcolvalC .exit)))
+        ≡ fills (indexCall babyBear (given r c x (now (ea .entry)) (now (eb .entry)) (now (ec .entry)))
+        (mapThree (mapIndex length) (twelve (now (rowA .entry)) (now (colA .entry)) (now (rowcolA .entry)) (now (rowcolvalA .entry)) (now (rowB .entry)) (now (colB .entry)) (now (rowcolB .entry)) (now (rowcolvalB .entry)) (now (rowC .entry)) (now (colC .entry)) (now (rowcolC .entry)) (now (rowcolvalC .entry)))))
+        (twelve (now (rowA .entry)) (now (colA .entry)) (now (rowcolA .entry)) (now (rowcolvalA .entry)) (now (rowB .entry)) (now (colB .entry)) (now (rowcolB .entry)) (now (rowcolvalB .entry)) (now (rowC .entry)) (now (colC .entry)) (now (rowcolC .entry)) (now (rowcolvalC .entry))) ⌝ }
+{
+    let lent = [
+        rowA.len(),
+        colA.len(),
+        rowcolA.len(),
+        rowcolvalA.len(),
+        rowB.len(),
+        colB.len(),
+        rowcolB.len(),
+        rowcolvalB.len(),
+        rowC.len(),
+        colC.len(),
+        rowcolC.len(),
+        rowcolvalC.len(),
+    ];
+    let ka = judging::matrix_size(ea);
+    let kb = judging::matrix_size(eb);
+    let kc = judging::matrix_size(ec);
+    let due = [ka, ka, ka, ka, kb, kb, kb, kb, kc, kc, kc, kc];
+    let fault = judging::judge_index(r, c, x, ea, eb, ec, &lent, &due);
+    match fault {
+        Fault::Fine => {
+            circuit::index_matrix_into(MODULE_PRIME, r, c, ea, rowA, colA, rowcolA, rowcolvalA);
+            circuit::index_matrix_into(MODULE_PRIME, r, c, eb, rowB, colB, rowcolB, rowcolvalB);
+            circuit::index_matrix_into(MODULE_PRIME, r, c, ec, rowC, colC, rowcolC, rowcolvalC);
+            Filled::Done
+        }
+        Fault::Refused(number, position) => Filled::Refused(number, position),
+    }
+}
