@@ -1,4 +1,5 @@
 pub mod RefusalLaws
+pub mod Rows
 pub mod VerdictLaws
 pub mod AdmissionLaws
 pub mod Extension
