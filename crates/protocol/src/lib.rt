@@ -1,5 +1,7 @@
 // Varuna as document 01 fixes it: definitions, statements and theorems. Declared here are the types that the crates of code share;
-// specs/Meanings.antt says what their values mean.
+// specs/Meanings.antt says what their values mean. The modules have the code that more than one crate needs.
+pub mod scans;
+pub mod six_sizes;
 
 // Nothing to refuse, or a refusal: its number in document 01's table and its position.
 pub enum Fault {

@@ -1,0 +1,18 @@
+-- `protocol::six_sizes::largest` meets its contract. Assumes nothing.
+use borrow.Author.Needs.{needs}
+use Rattle.protocol.specs.Circuit.{largest}
+use Rattle.protocol.proofs.six_sizes.largest.Statement.{statement}
+use Rattle.protocol.proofs.six_sizes.largest.Tie as tie
+
+larger-requires : tie.Need-larger-requires
+larger-requires c κs = search needs
+
+larger-requires-2 : tie.Need-larger-requires-2
+larger-requires-2 c κs = search needs
+
+returns : tie.Need-returns
+unfolding largest
+returns c = cc
+
+pub largest-spec : {M : Type 1} → statement M
+largest-spec = tie.close (tie.spec larger-requires larger-requires-2 returns)
