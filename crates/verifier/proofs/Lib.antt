@@ -1,4 +1,3 @@
-pub mod Scan
 pub mod FirstLaws
 pub mod AllowedSizes
 pub mod PublicValue

@@ -18,13 +18,13 @@ ghost use Rattle.protocol.specs.Checks as checks;
 ghost use Rattle.protocol.specs.Refusals.{sixSizeTests};
 ghost use Rattle.protocol.specs.Session.{all};
 ghost use Rattle.protocol.specs.Meanings.{three, sizes, heard, indexWords, openings, verdictMeaning};
-use crate::refusals::largest;
 use protocol::Check;
 use protocol::Heard;
 use protocol::Opened;
 use protocol::Sizes;
 use protocol::Triple;
 use protocol::Verdict;
+use protocol::six_sizes::largest;
 
 // Row: σ_A σ_B - σ_C = h0(α) v_R(α).
 fn row_holds(p: u32, s: Sizes, sums: Triple, alpha: u32, quotient: u32) -> bool

@@ -1,52 +1,25 @@
 // What refuses each step of the session, in the order of the table: no step is in turn unless the sizes are allowed.
 ghost use mathlib.Core.Path.{_≡_};
-ghost use mathlib.Core.Bool.{true, _&&_};
+ghost use mathlib.Core.Bool.{true};
 ghost use mathlib.Core.List.{[], _∷_, map};
-ghost use Prim.Native.Nat.{_+_, _<_};
-ghost use lib.Dec.{leb, ltb};
+ghost use Prim.Native.Nat.{_<_};
+ghost use lib.Dec.{ltb};
 ghost use Rattle.field.specs.Prime.{Prime};
 ghost use Rattle.field.specs.Element.{of};
 ghost use Rattle.domain.specs.Size.{isSize};
 ghost use Rattle.domain.specs.Qualifies.{Qualifies};
-ghost use Rattle.protocol.specs.Circuit as circuit;
 ghost use Rattle.protocol.specs.Index.{listIndex};
-ghost use Rattle.protocol.specs.Refusals.{first, refuse, sixSizeTests, sizeRefusal, challengeRefusal};
+ghost use Rattle.protocol.specs.Refusals.{first, refuse, challengeRefusal};
 ghost use Rattle.protocol.specs.Session.{inTurn, openRefusal, alphaRefusal, etaRefusal, betaRefusal, deltaRefusal, gammaRefusal, openingsRefusal};
 ghost use Rattle.protocol.specs.Meanings.{faultRefusal, three, sizes, indexWords, openings};
 use protocol::Fault;
 use protocol::Opened;
 use protocol::Sizes;
 use protocol::Triple;
-
-// The first test that fails, with its position counted from the one given.
-fn first_failed(number: u32, position: usize, tests: &[bool]) -> Fault
-    requires { ⌜ position < 16 ⌝ }
-    ensures { λ r. ⌜ faultRefusal r ≡ refuse number position (now (tests .entry)) ⌝ }
-{
-    let mut i = 0;
-    while i < tests.len() {
-        if !tests[i] {
-            return Fault::Refused(number, position + i);
-        }
-        i += 1;
-    }
-    Fault::Fine
-}
-
-// 6: the first word of p or more, with its position counted from the one given.
-fn judge_words(p: u32, position: usize, words: &[u32]) -> Fault
-    requires { ⌜ position < 32 ⌝ }
-    ensures { λ r. ⌜ faultRefusal r ≡ refuse 6 position (map (λ w. ltb w p) (now (words .entry))) ⌝ }
-{
-    let mut i = 0;
-    while i < words.len() {
-        if p <= words[i] {
-            return Fault::Refused(6, position + i);
-        }
-        i += 1;
-    }
-    Fault::Fine
-}
+use protocol::scans::first_failed;
+use protocol::scans::judge_words;
+use protocol::six_sizes::judge_sizes;
+use protocol::six_sizes::largest;
 
 // The first of two refusals.
 fn first_of(a: Fault, b: Fault) -> Fault
@@ -58,32 +31,6 @@ fn first_of(a: Fault, b: Fault) -> Fault
     }
 }
 
-// |X| is a size and at most |C|.
-fn is_public_size(x: u32, c: u32) -> bool
-    ensures { λ r. ⌜ r ≡ (isSize x && leb x c) ⌝ }
-{
-    if c < x {
-        return false;
-    }
-    domain::is_size(x)
-}
-
-// 4: a size not allowed, or |X| above |C|.
-fn judge_sizes(s: Sizes) -> Fault
-    ensures { λ r. ⌜ faultRefusal r ≡ sizeRefusal (sixSizeTests (sizes s)) ⌝ }
-{
-    let k = s.k;
-    let tests = [
-        domain::is_size(s.r),
-        domain::is_size(s.c),
-        is_public_size(s.x, s.c),
-        domain::is_size(k.a),
-        domain::is_size(k.b),
-        domain::is_size(k.c),
-    ];
-    first_failed(4, 0, &tests)
-}
-
 // The step after the first n is in turn.
 fn in_turn(n: u32, stage: u32, s: Sizes) -> bool
     ensures { λ r. ⌜ r ≡ inTurn n stage (sizes s) ⌝ }
@@ -91,7 +38,7 @@ fn in_turn(n: u32, stage: u32, s: Sizes) -> bool
     if stage != n {
         return false;
     }
-    match judge_sizes(s) {
+    match judge_sizes(4, 0, s) {
         Fault::Fine => true,
         Fault::Refused(_, _) => false,
     }
@@ -108,18 +55,10 @@ fn judge_challenge(p: u32, position: usize, n: u32, y: u32) -> Fault
     first_failed(10, position, &tests)
 }
 
-// |K|, the largest |K_M|.
-pub fn largest(k: Triple) -> u32
-    ensures { λ r. ⌜ r ≡ circuit.largest (three k) ⌝ }
-{
-    let rest = if k.b < k.c { k.c } else { k.b };
-    if k.a < rest { rest } else { k.a }
-}
-
 pub fn judge_open(p: u32, s: Sizes, x: &[u32]) -> Fault
     ensures { λ r. ⌜ ((q : Prime) → q .p ≡ p → faultRefusal r ≡ openRefusal q (sizes s) (now (x .entry))) ⌝ }
 {
-    let size = judge_sizes(s);
+    let size = judge_sizes(4, 0, s);
     let tests = [x.len() == s.x as usize];
     let list = first_failed(5, 0, &tests);
     let word = judge_words(p, 0, x);

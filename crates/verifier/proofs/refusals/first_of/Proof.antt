@@ -1,7 +1,7 @@
 -- `verifier::refusals::first_of` meets its contract. Assumes nothing.
 use Rattle.protocol.specs.Meanings.{faultRefusal}
 use Rattle.protocol.specs.Refusals.{first}
-use Rattle.verifier.proofs.FirstLaws.{first-one}
+use Rattle.protocol.proofs.Rows.{first-only}
 use borrow.Author.Needs.{needs}
 use mathlib.Core.List.{[], _∷_}
 use mathlib.Core.Path.{sym, ap, _∙_}
@@ -17,7 +17,7 @@ enum-told-2 c = search needs
 returns : tie.Need-returns
 returns c =
     let a = c .before .before .args in
-    sym (ap (λ f. first (faultRefusal f ∷ faultRefusal (a .b) ∷ [])) (c .enum-told .given .1) ∙ first-one (faultRefusal (a .b)))
+    sym (ap (λ f. first (faultRefusal f ∷ faultRefusal (a .b) ∷ [])) (c .enum-told .given .1) ∙ first-only (faultRefusal (a .b)))
 
 returns-2 : tie.Need-returns-2
 returns-2 c = search needs

@@ -1,6 +1,6 @@
 -- `verifier::refusals::in_turn` meets its contract. Assumes nothing.
 use Rattle.protocol.specs.Meanings.{faultRefusal, sizes}
-use Rattle.protocol.specs.Refusals.{sixSizeTests, sizeRefusal}
+use Rattle.protocol.specs.Refusals.{sixSizeTests}
 use Rattle.protocol.specs.Session.{all, inTurn}
 use Rattle.verifier.proofs.FirstLaws.{row-passes, row-fails}
 use borrow.Author.Needs.{needs}
@@ -24,7 +24,7 @@ enum-told-2 : tie.Need-enum-told-2
 enum-told-2 c = search needs
 
 returns-2 : tie.Need-returns-2
-unfolding inTurn sizeRefusal
+unfolding inTurn
 returns-2 c =
     let j = c .before .before in
     let tests = sixSizeTests (sizes (j .before .before .args .s)) in
@@ -32,7 +32,7 @@ returns-2 c =
     sym (ap₂ _&&_ (eq-eqb _ _ (j .before .if1 .left)) (row-passes 4 0 tests passed))
 
 returns-3 : tie.Need-returns-3
-unfolding inTurn sizeRefusal
+unfolding inTurn
 returns-3 c =
     let j = c .before .before in
     let tests = sixSizeTests (sizes (j .before .before .args .s)) in

@@ -4,7 +4,8 @@ use Rattle.protocol.specs.Messages.{lengths}
 use Rattle.protocol.specs.Refusals.{turnRefusal, lengthRefusal}
 use Rattle.protocol.specs.Session.{inTurn, alphaRefusal}
 use Rattle.verifier.proofs.AllowedSizes.{Allowed, in-turn-allowed, size-range}
-use Rattle.verifier.proofs.FirstLaws.{words-refusal, first-three}
+use Rattle.protocol.proofs.Rows.{word-row}
+use Rattle.verifier.proofs.FirstLaws.{first-three}
 use borrow.Author.Needs.{needs}
 use borrow.Author.Tests.{not-true, not-false}
 use mathlib.Core.Bool.{true, false}
@@ -76,7 +77,7 @@ returns-2 c q Q e =
     let t = j .before .before .before in
     let a = t .before .before .args in
     rw (turn t)
-    (first-three (j .before .judge-words .ensures ∙ words-refusal q e (a .alpha ∷ [])) (j .judge-challenge .ensures q Q e)
+    (first-three (j .before .judge-words .ensures ∙ word-row q e (a .alpha ∷ [])) (j .judge-challenge .ensures q Q e)
     (c .before .before .first-failed .ensures) (c .first-of2 .ensures) (c .before .first-of .ensures))
 
 pub judge-alpha-spec : {M : Type 1} → statement M

@@ -5,7 +5,8 @@ use Rattle.protocol.specs.Refusals.{turnRefusal, lengthRefusal}
 use Rattle.protocol.specs.Session.{inTurn, deltaRefusal}
 use Rattle.protocol.specs.Three.{A, B, C, listed}
 use Rattle.verifier.proofs.AllowedSizes.{Allowed, in-turn-allowed, size-range}
-use Rattle.verifier.proofs.FirstLaws.{words-refusal, first-pair}
+use Rattle.protocol.proofs.Rows.{word-row}
+use Rattle.verifier.proofs.FirstLaws.{first-pair}
 use borrow.Author.Needs.{needs}
 use borrow.Author.Tests.{not-true, not-false}
 use mathlib.Core.Bool.{true, false}
@@ -69,7 +70,7 @@ returns-2 c q e =
     let a = t .before .before .args in
     let words = listed (three (a .values)) ++ listed (three (a .delta)) in
     rw (turn t)
-    (first-pair (j .judge-words .ensures ∙ words-refusal q e words) (c .before .first-failed .ensures) (c .first-of .ensures))
+    (first-pair (j .judge-words .ensures ∙ word-row q e words) (c .before .first-failed .ensures) (c .first-of .ensures))
 
 pub judge-delta-spec : {M : Type 1} → statement M
 judge-delta-spec =

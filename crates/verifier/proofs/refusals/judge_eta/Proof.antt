@@ -3,7 +3,7 @@ use Rattle.protocol.specs.Meanings.{three, sizes}
 use Rattle.protocol.specs.Refusals.{turnRefusal, wordRefusal}
 use Rattle.protocol.specs.Session.{inTurn, etaRefusal}
 use Rattle.protocol.specs.Three.{listed}
-use Rattle.verifier.proofs.FirstLaws.{words-refusal, first-one}
+use Rattle.protocol.proofs.Rows.{word-row, first-only}
 use borrow.Author.Needs.{needs}
 use borrow.Author.Tests.{not-true, not-false}
 use mathlib.Core.Bool.{true, false}
@@ -37,7 +37,7 @@ returns-2 c q e =
     let t = c .before .before in
     let a = t .before .before .args in
     let words = listed (three (a .sums)) ++ listed (three (a .eta)) in
-    rw (turn t) (c .judge-words .ensures ∙ words-refusal q e words ∙ sym (first-one (wordRefusal q words)))
+    rw (turn t) (c .judge-words .ensures ∙ word-row q e words ∙ sym (first-only (wordRefusal q words)))
 
 pub judge-eta-spec : {M : Type 1} → statement M
 judge-eta-spec =

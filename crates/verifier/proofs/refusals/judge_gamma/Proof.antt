@@ -8,7 +8,8 @@ use Rattle.protocol.specs.Messages.{lengths}
 use Rattle.protocol.specs.Refusals.{refuse, turnRefusal, challengeRefusal, lengthRefusal}
 use Rattle.protocol.specs.Session.{inTurn, gammaRefusal}
 use Rattle.verifier.proofs.AllowedSizes.{Allowed, in-turn-allowed, largest-size, size-range}
-use Rattle.verifier.proofs.FirstLaws.{words-refusal, first-three}
+use Rattle.protocol.proofs.Rows.{word-row}
+use Rattle.verifier.proofs.FirstLaws.{first-three}
 use borrow.Author.Needs.{needs}
 use borrow.Author.Tests.{not-true, not-false}
 use lib.Dec.{leb}
@@ -75,7 +76,7 @@ returns-2 c q Q e =
     let a = t .before .before .args in
     let m = j .before .largest .ensures in
     rw (turn t)
-    (first-three (j .before .before .judge-words .ensures ∙ words-refusal q e (a .gamma ∷ []))
+    (first-three (j .before .before .judge-words .ensures ∙ word-row q e (a .gamma ∷ []))
     (j .judge-challenge .ensures q Q e ∙ ap (λ n. challengeRefusal {q = q} 2 (n ∷ []) (of (a .gamma) ∷ [])) m)
     (c .before .before .first-failed .ensures ∙ ap (λ n. refuse 11 0 (leb (a .quotient) (n - 1) ∷ [])) m)
     (c .first-of2 .ensures) (c .before .first-of .ensures))

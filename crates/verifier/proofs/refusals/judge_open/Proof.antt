@@ -1,7 +1,8 @@
 -- `verifier::refusals::judge_open` meets its contract. Assumes nothing.
-use Rattle.protocol.specs.Refusals.{listRefusal}
+use Rattle.protocol.specs.Refusals.{sizeRefusal, listRefusal}
 use Rattle.protocol.specs.Session.{openRefusal}
-use Rattle.verifier.proofs.FirstLaws.{words-refusal, first-three}
+use Rattle.protocol.proofs.Rows.{word-row}
+use Rattle.verifier.proofs.FirstLaws.{first-three}
 use borrow.Author.Needs.{needs}
 use mathlib.Core.Path.{_∙_}
 use Rattle.verifier.proofs.refusals.judge_open.Statement.{statement}
@@ -29,11 +30,11 @@ first-of-requires-2 : tie.Need-first-of-requires-2
 first-of-requires-2 c κs = search needs
 
 returns : tie.Need-returns
-unfolding openRefusal listRefusal
+unfolding openRefusal listRefusal sizeRefusal
 returns c q e =
     let a = c .before .before .before .before .before .before .before .before .args in
     first-three (c .before .before .before .before .before .before .judge-sizes .ensures) (c .before .before .before .first-failed .ensures)
-    (c .before .before .judge-words .ensures ∙ words-refusal q e (a .x .now)) (c .first-of2 .ensures) (c .before .first-of .ensures)
+    (c .before .before .judge-words .ensures ∙ word-row q e (a .x .now)) (c .first-of2 .ensures) (c .before .first-of .ensures)
 
 pub judge-open-spec : {M : Type 1} → statement M
 judge-open-spec =

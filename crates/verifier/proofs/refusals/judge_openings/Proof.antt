@@ -6,7 +6,8 @@ use Rattle.protocol.specs.Meanings.{sizes, three, indexWords, openings}
 use Rattle.protocol.specs.Refusals.{turnRefusal, wordRefusal}
 use Rattle.protocol.specs.Session.{inTurn, openingsRefusal}
 use Rattle.protocol.specs.Three.{listed}
-use Rattle.verifier.proofs.FirstLaws.{first-one, first-pair, refuse-append, words-refusal}
+use Rattle.protocol.proofs.Rows.{first-only, refuse-append, word-row}
+use Rattle.verifier.proofs.FirstLaws.{first-pair}
 use borrow.Author.Needs.{needs}
 use borrow.Author.Tests.{not-true, not-false}
 use lib.Dec.{ltb}
@@ -82,7 +83,7 @@ returns-2 c q e =
     ∙ sym (refuse-append 6 9 (part 0) (part 1 ++ part 2)) in
     let whole = first-pair (m .judge-words .ensures) three (c .first-of3 .ensures)
     ∙ sym (refuse-append 6 0 messages (part 0 ++ (part 1 ++ part 2))) in
-    rw (turn t) (whole ∙ words-refusal q e words ∙ sym (first-one (wordRefusal q words)))
+    rw (turn t) (whole ∙ word-row q e words ∙ sym (first-only (wordRefusal q words)))
 
 pub judge-openings-spec : {M : Type 1} → statement M
 judge-openings-spec =
