@@ -84,12 +84,12 @@ first-append (some r ∷ l) m = refl
 pub first-before-last : (l : List (Option Refusal)) (o : Option Refusal) → first (l ++ (o ∷ [])) ≡ first (first l ∷ o ∷ [])
 first-before-last l o = first-append l (o ∷ []) ∙ ap (λ u. first (first l ∷ u ∷ [])) (first-only o)
 
--- early returns: a row that refuses, and one that does not
+-- early returns: a row that refuses, and one that leaves it to the next
 pub first-stop : {r : Refusal} {o : Option Refusal} (l : List (Option Refusal)) → o ≡ some r → first (o ∷ l) ≡ some r
 first-stop l e = ap (λ o. first (o ∷ l)) e
 
-pub first-pass : {o : Option Refusal} (l : List (Option Refusal)) → o ≡ none → first (o ∷ l) ≡ first l
-first-pass l e = ap (λ o. first (o ∷ l)) e
+pub first-pass : {o : Option Refusal} (next : Option Refusal) → o ≡ none → first (o ∷ next ∷ []) ≡ next
+first-pass next e = ap (λ o. first (o ∷ next ∷ [])) e ∙ first-only next
 
 -- a row in two parts: the second is counted on from the first
 pub refuse-append : (number n : ℕ) (l m : List Bool)

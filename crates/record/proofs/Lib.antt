@@ -1,4 +1,4 @@
-pub mod ScanLaws
+pub mod Scanned
 pub mod Allowed
 pub mod Bounds
 pub mod WordList

@@ -15,9 +15,9 @@ use Rattle.protocol.specs.Refusals.{Refusal, Done, Refused, first, refuse, sixS
 use Rattle.protocol.specs.Record.{sectionLengths, sectionBytes, partsOf, trailerWord, wordsIn, sizesRead, recordRefusal, readRecord}
 use Rattle.protocol.specs.Calls.{sectionCall}
 use Rattle.protocol.proofs.RefusalLaws.{first-none, refuse-none, and-true}
+use Rattle.protocol.proofs.Rows.{first-before-last, word-row}
 use Rattle.record.specs.Answers.{sizesFound}
 use Rattle.record.specs.Layout.{Allowed, refuseWords, startsRow, totalRow, startsRefusal, trailerRefusalOf, layoutRefusal}
-use Rattle.record.proofs.ScanLaws.{first-split}
 use Rattle.record.proofs.Starts.{eleven, trailer-rows}
 
 module _ (total last : ℕ) (free : endRefusal total last ≡ none) where
@@ -63,18 +63,16 @@ module _ (bytes : List ℕ) (q : Prime) where
       (layoutRefusal bytes ∷ wordRefusal q (wordsIn (take (length bytes - trailerBytes) bytes)) ∷ [])
   unfolding recordRefusal layoutRefusal trailerRefusalOf
   record-rows =
-      first-split (endRefusal (length bytes) (trailerWord bytes 17)) (trailerRefusalOf bytes)
+      first-before-last (endRefusal (length bytes) (trailerWord bytes 17) ∷ trailerRefusalOf bytes ∷ [])
       (wordRefusal q (wordsIn (take (length bytes - trailerBytes) bytes)))
 
   pub section-words : (p : ℕ) → q .p ≡ p → layoutRefusal bytes ≡ none
       → refuseWords p 0 (wordsIn (take (4 * ((length bytes - trailerBytes) / 4)) bytes))
       ≡ wordRefusal q (wordsIn (take (length bytes - trailerBytes) bytes))
-  unfolding wordRefusal
   section-words p e free =
       let l : Laid bytes = laid bytes free in
       let count : 4 * ((length bytes - trailerBytes) / 4) ≡ length bytes - trailerBytes = omega (arith, l .long, l .whole) in
-      ap (λ n. refuseWords p 0 (wordsIn (take n bytes))) count
-      ∙ ap (λ n. refuseWords n 0 (wordsIn (take (length bytes - trailerBytes) bytes))) (sym e)
+      ap (λ n. refuseWords p 0 (wordsIn (take n bytes))) count ∙ word-row q e (wordsIn (take (length bytes - trailerBytes) bytes))
 
   pub read-refused : (r : Refusal) → recordRefusal bytes q ≡ some r → sizesFound (readRecord bytes q) ≡ Refused r
   unfolding readRecord

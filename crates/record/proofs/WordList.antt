@@ -1,15 +1,15 @@
--- The words of a part of the bytes are the words of the bytes: a scan of these finds the refusal of those. Assumes nothing.
+-- The words of a part of the bytes are the words of the bytes, and so are their tests. Assumes nothing.
 use mathlib.Core.Path.{_≡_, ap, _∙_}
-use mathlib.Core.List.{List}
-use mathlib.Core.Option.{none, some}
+use mathlib.Core.Bool.{Bool}
+use mathlib.Core.List.{List, map}
 use Prim.Native.Nat.{ℕ, _+_, _*_, _/_, _<_, _≤_}
 use native.Mathlib.Omega.{arith}
-use lib.ListN.{length, getD, take}
+use lib.Dec.{ltb}
+use lib.ListN.{length, getD, take, length-map}
 use lib.Seq.{length-take-le, getD-take}
 use Rattle.algebra.proofs.PolynomialLaws.{length-tabulate, getD-tabulate}
 use Rattle.protocol.specs.Record.{wordAt, wordsIn}
-use Rattle.record.specs.Layout.{refuseWords}
-use Rattle.record.proofs.ScanLaws.{refusal, words-fine, words-stop}
+use Rattle.protocol.proofs.Rows.{map-at}
 
 module _ (bytes : List ℕ) (count : ℕ) (fits : 4 * count ≤ length bytes) where
   abbrev part : List ℕ
@@ -31,20 +31,14 @@ module _ (bytes : List ℕ) (count : ℕ) (fits : 4 * count ≤ length bytes) wh
       byte : (k : ℕ) → k < 4 → getD part (4 * i + k) 0 ≡ getD bytes (4 * i + k) 0
       byte k small = getD-take (4 * count) bytes (4 * i + k) 0 (omega arith)
 
+  -- the row of the words of the part
   module _ (p : ℕ) where
-    -- word i is below p in the one where it is in the other
-    below-in-part : (i : ℕ) → i < count → wordAt bytes i < p → getD (wordsIn part) i 0 < p
-    below-in-part i within below = omega (arith, word-of-part i within)
+    abbrev tests : List Bool
+    tests = map (λ w. ltb w p) (wordsIn part)
 
-    pub part-fine : ((i : ℕ) → i < count → wordAt bytes i < p) → refuseWords p 0 (wordsIn part) ≡ none
-    part-fine h = words-fine p 0 (wordsIn part) λ i within.
-        let less : i < count = omega (arith, length-words) in
-        below-in-part i less (h i less)
+    pub length-tests : length tests ≡ count
+    length-tests = length-map (wordsIn part) (λ w. ltb w p) ∙ length-words
 
-    pub part-stop : (i : ℕ) → i < count → ((k : ℕ) → k < i → wordAt bytes k < p) → p ≤ wordAt bytes i
-        → refuseWords p 0 (wordsIn part) ≡ some (refusal 6 i)
-    part-stop i within h le =
-        let same : 0 + i ≡ i = omega arith in
-        words-stop p 0 (wordsIn part) i (omega (arith, length-words)) (λ k less. below-in-part k (omega arith) (h k less))
-        (omega (arith, word-of-part i within))
-        ∙ ap (λ n. some (refusal 6 n)) same
+    pub test-at : (i : ℕ) (z : Bool) → i < count → getD tests i z ≡ ltb (wordAt bytes i) p
+    test-at i z below =
+        map-at (λ w. ltb w p) (wordsIn part) i 0 z (omega (arith, length-words)) ∙ ap (λ w. ltb w p) (word-of-part i below)

@@ -1,19 +1,18 @@
 // The proof record on bytes: its reader, its section finder and its writer. The modulus p is a parameter; the contracts hold for
 // each prime of that value. What is checked before the words holds whatever p is.
-use domain::is_size;
 use protocol::Fault;
 use protocol::Sizes;
 use protocol::Triple;
+use protocol::scans::judge_words;
+use protocol::six_sizes::judge_sizes;
+use protocol::six_sizes::largest;
 ghost use mathlib.Core.Path.{_≡_};
-ghost use mathlib.Core.Bool.{_&&_};
 ghost use mathlib.Core.List.{[], _∷_, _++_, map};
 ghost use mathlib.Core.Option.{none};
-ghost use Prim.Native.Nat.{_+_, _-_, _*_, _≤_, _<_, _^_, max};
-ghost use lib.Dec.{leb};
+ghost use Prim.Native.Nat.{_+_, _-_, _*_, _≤_, _<_, _^_};
 ghost use lib.ListN.{length, take, getD};
 ghost use Rattle.field.specs.Prime.{Prime};
-ghost use Rattle.domain.specs.Size.{isSize};
-ghost use Rattle.protocol.specs.Refusals.{first, refuse, trailerBytes, sixSizeTests, endRefusal};
+ghost use Rattle.protocol.specs.Refusals.{first, trailerBytes, endRefusal};
 ghost use Rattle.protocol.specs.Record.{wordBytes, bytesOf, wordAt, wordsIn, sectionLengths, trailer, writeRecord, partsOf, trailerWord, sizesRead, recordRefusal, readRecord};
 ghost use Rattle.protocol.specs.Calls.{writeCall, sectionCall};
 ghost use Rattle.protocol.specs.Meanings.{faultRefusal, sizes as sizesMeaning};
@@ -90,59 +89,13 @@ fn sizes_in(bytes: &[u8]) -> Sizes
     }
 }
 
-// The first test that fails, counted from a start.
-pub fn first_failing(number: u32, start: usize, tests: &[bool]) -> Fault
-    requires { ⌜ start + length (now tests) < 2 ^ 64 ⌝ }
-    ensures { λ r. ⌜ faultRefusal r ≡ refuse number start (now (tests .entry)) ⌝ }
-{
-    let mut i = 0;
-    while i < tests.len() {
-        if tests[i] {
-            i += 1;
-        } else {
-            return Fault::Refused(number, start + i);
-        }
-    }
-    Fault::Fine
-}
-
-// A size that is not above c.
-fn is_size_within(x: u32, c: u32) -> bool
-    ensures { λ r. ⌜ r ≡ (isSize x && leb x c) ⌝ }
-{
-    if is_size(x) { x <= c } else { false }
-}
-
-// The six sizes, by the given row of the table and counted from a start.
-fn size_fault(number: u32, start: usize, s: Sizes) -> Fault
-    requires { ⌜ start < 18 ⌝ }
-    ensures { λ r. ⌜ faultRefusal r ≡ refuse number start (sixSizeTests (sizesMeaning s)) ⌝ }
-{
-    let k = s.k;
-    let tests = [
-        is_size(s.r),
-        is_size(s.c),
-        is_size_within(s.x, s.c),
-        is_size(k.a),
-        is_size(k.b),
-        is_size(k.c),
-    ];
-    first_failing(number, start, &tests)
-}
-
-fn larger(a: u32, b: u32) -> u32
-    ensures { λ r. ⌜ r ≡ max a b ⌝ }
-{
-    if a <= b { b } else { a }
-}
-
 // The lengths of the sections in words.
 fn section_lengths(s: Sizes) -> [u32; SECTIONS]
     requires { ⌜ Allowed (sizesMeaning s) ⌝ }
     ensures { λ r. ⌜ r ≡ sectionLengths (sizesMeaning s) ⌝ }
 {
     let k = s.k;
-    let largest = larger(k.a, larger(k.b, k.c));
+    let joined_size = largest(k);
     [
         s.c - s.x + 1,
         2 * s.c,
@@ -154,7 +107,7 @@ fn section_lengths(s: Sizes) -> [u32; SECTIONS]
         k.a - 1,
         k.b - 1,
         k.c - 1,
-        largest - 1,
+        joined_size - 1,
     ]
 }
 
@@ -218,7 +171,7 @@ fn trailer_fault(bytes: &[u8]) -> Fault
     ensures { λ r. ⌜ faultRefusal r ≡ trailerRefusalOf (now (bytes .entry)) ⌝ }
 {
     let s = sizes_in(bytes);
-    if let Fault::Refused(number, position) = size_fault(BAD_TRAILER, SECTIONS, s) {
+    if let Fault::Refused(number, position) = judge_sizes(BAD_TRAILER, SECTIONS, s) {
         return Fault::Refused(number, position);
     }
     starts_fault(bytes, s)
@@ -294,21 +247,6 @@ pub fn section<'a>(p: u32, bytes: &'a [u8], k: usize) -> &'a [u8]
     section_part(bytes, k)
 }
 
-// The first word that is not below p, counted from a start.
-pub fn words_fault(p: u32, start: usize, ws: &[u32]) -> Fault
-    requires { ⌜ start + length (now ws) < 2 ^ 64 ⌝ }
-    ensures { λ r. ⌜ faultRefusal r ≡ refuseWords p start (now (ws .entry)) ⌝ }
-{
-    let mut i = 0;
-    while i < ws.len() {
-        if p <= ws[i] {
-            return Fault::Refused(BAD_WORD, start + i);
-        }
-        i += 1;
-    }
-    Fault::Fine
-}
-
 // How far a call's words were looked through: the first refusal among them, and their count.
 struct Scan {
     fault: Fault,
@@ -316,7 +254,7 @@ struct Scan {
 }
 
 fn scan_words(p: u32, scan: Scan, ws: &[u32]) -> Scan
-    requires { ⌜ scan .count + length (now ws) < 2 ^ 64 ⌝ }
+    requires { ⌜ scan .count < 2 ^ 32 ⌝ }
     ensures { λ r. ⌜ r .count ≡ scan .count + length (now (ws .entry)) ⌝ }
     ensures { λ r. ⌜ faultRefusal (r .fault) ≡ first (faultRefusal (scan .fault) ∷ refuseWords p (scan .count) (now (ws .entry)) ∷ []) ⌝ }
 {
@@ -330,7 +268,7 @@ fn scan_words(p: u32, scan: Scan, ws: &[u32]) -> Scan
         };
     }
     Scan {
-        fault: words_fault(p, start, ws),
+        fault: judge_words(p, start, ws),
         count: count,
     }
 }
@@ -396,7 +334,7 @@ fn shape_fault(s: Sizes, found: &[usize], lent: usize) -> Fault
     requires { ⌜ length (now found) ≡ 11 ⌝ }
     ensures { λ r. ⌜ faultRefusal r ≡ shapeRefusal (sizesMeaning s) (now (found .entry)) lent ⌝ }
 {
-    if let Fault::Refused(number, position) = size_fault(BAD_SIZE, 0, s) {
+    if let Fault::Refused(number, position) = judge_sizes(BAD_SIZE, 0, s) {
         return Fault::Refused(number, position);
     }
     lengths_fault(s, found, lent)

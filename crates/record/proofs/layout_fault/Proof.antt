@@ -1,4 +1,5 @@
 -- `record::layout_fault` meets its contract. Assumes nothing.
+use mathlib.Core.List.{[], _∷_}
 use mathlib.Core.Option.{none}
 use mathlib.Core.Path.{_≡_, sym, ap, _∙_}
 use lib.ListN.{length}
@@ -8,7 +9,7 @@ use Rattle.protocol.specs.Record.{trailerWord}
 use Rattle.protocol.specs.Refusals.{endRefusal}
 use Rattle.record.specs.Layout.{trailerRefusalOf, layoutRefusal}
 use Rattle.record.proofs.Rows.{end-long}
-use Rattle.record.proofs.ScanLaws.{first-stop, first-pass}
+use Rattle.protocol.proofs.Rows.{first-stop, first-pass}
 use Rattle.record.proofs.layout_fault.Statement.{statement}
 use Rattle.record.proofs.layout_fault.Tie as tie
 
@@ -22,7 +23,7 @@ returns : tie.Need-returns
 unfolding layoutRefusal
 returns c =
     let bytes = c .before .before .before .before .before .args .bytes .now in
-    sym (first-stop (endRefusal (length bytes) (trailerWord bytes 17)) (trailerRefusalOf bytes)
+    sym (first-stop (trailerRefusalOf bytes ∷ [])
     (sym (c .before .before .before .end-fault .ensures) ∙ ap faultRefusal (c .before .number .given .1)))
 
 enum-told : tie.Need-enum-told
@@ -39,7 +40,7 @@ returns-2 c =
     let bytes = c .before .before .before .before .before .args .bytes .now in
     let none-before : endRefusal (length bytes) (trailerWord bytes 17) ≡ none =
     sym (c .before .before .before .end-fault .ensures) ∙ ap faultRefusal (c .before .enum-told .given .1) in
-    c .trailer-fault .ensures ∙ sym (first-pass _ _ none-before)
+    c .trailer-fault .ensures ∙ sym (first-pass _ none-before)
 
 pub layout-fault-spec : {M : Type 1} → statement M
 layout-fault-spec =

@@ -1,4 +1,5 @@
 -- `record::record_fault` meets its contract. Assumes nothing.
+use mathlib.Core.List.{[], _∷_}
 use mathlib.Core.Option.{none}
 use mathlib.Core.Path.{_≡_, sym, ap, _∙_}
 use Prim.Native.Nat.{_-_}
@@ -8,7 +9,7 @@ use Rattle.protocol.specs.Meanings.{faultRefusal}
 use Rattle.protocol.specs.Refusals.{wordRefusal, trailerBytes}
 use Rattle.protocol.specs.Record.{wordsIn}
 use Rattle.record.proofs.Rows.{laid, record-rows, section-words}
-use Rattle.record.proofs.ScanLaws.{first-stop, first-pass}
+use Rattle.protocol.proofs.Rows.{first-stop, first-pass}
 use Rattle.record.specs.Layout.{layoutRefusal}
 use Rattle.record.proofs.record_fault.Statement.{statement}
 use Rattle.record.proofs.record_fault.Tie as tie
@@ -24,7 +25,7 @@ returns c =
     let bytes = c .before .before .before .before .before .args .bytes .now in
     let stopped = sym (c .before .before .before .layout-fault .ensures) ∙ ap faultRefusal (c .before .number .given .1) in (
       λ q e. sym (record-rows bytes q
-          ∙ first-stop _ (wordRefusal q (wordsIn (take (length bytes - trailerBytes) bytes))) stopped),
+          ∙ first-stop (wordRefusal q (wordsIn (take (length bytes - trailerBytes) bytes)) ∷ []) stopped),
       λ e. stopped ∙ e,
     )
 
@@ -44,7 +45,7 @@ returns-2 c =
     let bytes = c .before .before .before .before .before .args .bytes .now in
     let free : layoutRefusal bytes ≡ none = sym (c .before .before .before .layout-fault .ensures)
     ∙ ap faultRefusal (c .before .enum-told .given .1) in
-    (λ q e. c .section-words-fault .ensures ∙ section-words bytes q _ e free ∙ sym (record-rows bytes q ∙ first-pass _ _ free), λ e. free)
+    (λ q e. c .section-words-fault .ensures ∙ section-words bytes q _ e free ∙ sym (record-rows bytes q ∙ first-pass _ free), λ e. free)
 
 pub record-fault-spec : {M : Type 1} → statement M
 record-fault-spec =

@@ -9,60 +9,58 @@ use Rattle.record.proofs.Allowed.{sizes-in-range, public-within}
 use Rattle.record.proofs.section_lengths.Statement.{statement}
 use Rattle.record.proofs.section_lengths.Tie as tie
 
-larger-requires : tie.Need-larger-requires
-larger-requires c κs = search needs
-
-larger-requires-2 : tie.Need-larger-requires-2
-larger-requires-2 c κs = search needs
+largest-requires : tie.Need-largest-requires
+largest-requires c κs = search needs
 
 sub-t4 : tie.Need-sub-t4
 sub-t4 c =
-    let start = c .before .before .before .before in
+    let start = c .before .before .before in
     public-within (sizes (start .args .s)) (start .pre)
 
 add-t5 : tie.Need-add-t5
 add-t5 c =
-    let start = c .before .before .before .before in
+    let start = c .before .before .before in
     omega (arith, sizes-in-range (sizes (start .args .s)) (start .pre))
 
 mul-t6 : tie.Need-mul-t6
 mul-t6 c =
-    let start = c .before .before .before .before .before in
+    let start = c .before .before .before .before in
     omega (arith, sizes-in-range (sizes (start .args .s)) (start .pre))
 
 sub-t7 : tie.Need-sub-t7
 sub-t7 c =
-    let start = c .before .before .before .before .before .before in
+    let start = c .before .before .before .before .before in
     omega (arith, sizes-in-range (sizes (start .args .s)) (start .pre))
 
 sub-t8 : tie.Need-sub-t8
 sub-t8 c =
-    let start = c .before .before .before .before .before .before .before in
+    let start = c .before .before .before .before .before .before in
     omega (arith, sizes-in-range (sizes (start .args .s)) (start .pre))
 
 sub-t9 : tie.Need-sub-t9
 sub-t9 c =
-    let start = c .before .before .before .before .before .before .before .before in
+    let start = c .before .before .before .before .before .before .before in
     omega (arith, sizes-in-range (sizes (start .args .s)) (start .pre))
 
 sub-t10 : tie.Need-sub-t10
 sub-t10 c =
-    let start = c .before .before .before .before .before .before .before .before .before in
+    let start = c .before .before .before .before .before .before .before .before in
     omega (arith, sizes-in-range (sizes (start .args .s)) (start .pre))
 
 sub-t11 : tie.Need-sub-t11
 sub-t11 c =
-    let start = c .before .before .before .before .before .before .before .before .before .before in
+    let start = c .before .before .before .before .before .before .before .before .before in
     omega (arith, sizes-in-range (sizes (start .args .s)) (start .pre))
 
 sub-t12 : tie.Need-sub-t12
+unfolding largest
 sub-t12 c =
-    let start = c .before .before .before .before .before .before .before .before .before .before in
+    let start = c .before .before .before .before .before .before .before .before .before in
     omega (
       arith,
       sizes-in-range (sizes (start .args .s))
           (start .pre),
-      c .before .before .before .before .before .before .before .larger2 .ensures,
+      c .before .before .before .before .before .before .before .largest .ensures,
     )
 
 returns : tie.Need-returns
@@ -73,8 +71,7 @@ pub section-lengths-spec : {M : Type 1} → statement M
 section-lengths-spec =
     tie.close
     (tie.spec
-    larger-requires
-    larger-requires-2
+    largest-requires
     sub-t4
     add-t5
     mul-t6

@@ -3,7 +3,7 @@ use mathlib.Core.Path.{ap, _∙_}
 use native.Mathlib.Omega.{arith}
 use borrow.Author.Needs.{needs}
 use Rattle.record.proofs.Writing.{eleven-joined}
-use Rattle.record.proofs.ScanLaws.{scanned-none, scanned-more}
+use Rattle.record.proofs.Scanned.{scanned-none, scanned-more}
 use Rattle.record.specs.Layout.{refuseWords}
 use Rattle.record.proofs.sections_fault.Statement.{statement}
 use Rattle.record.proofs.sections_fault.Tie as tie

@@ -1,6 +1,6 @@
 -- `record::write` meets its contract. Assumes nothing.
 use mathlib.Core.Option.{none}
-use mathlib.Core.List.{List, map}
+use mathlib.Core.List.{List, [], _∷_, map}
 use mathlib.Core.Path.{_≡_, refl, sym, ap, _∙_}
 use Prim.Native.Nat.{ℕ}
 use native.Mathlib.Omega.{arith}
@@ -10,8 +10,8 @@ use Rattle.protocol.specs.Circuit.{Sizes}
 use Rattle.protocol.specs.declared.Fault.the-variants as fault
 use Rattle.protocol.specs.Meanings.{faultRefusal, sizes}
 use Rattle.protocol.specs.Refusals.{wordRefusal}
-use Rattle.record.proofs.Lengths.{Shaped, shaped, few-bytes, room-given, write-refused, write-done, word-row}
-use Rattle.record.proofs.ScanLaws.{first-stop, first-pass}
+use Rattle.protocol.proofs.Rows.{first-stop, first-pass, word-row}
+use Rattle.record.proofs.Lengths.{Shaped, shaped, few-bytes, room-given, write-refused, write-done}
 use Rattle.record.specs.Layout.{joined, eachSection, shapeRefusal}
 use Rattle.record.proofs.write.Statement.{statement}
 use Rattle.record.proofs.write.Tie as tie
@@ -49,7 +49,7 @@ returns : tie.Need-returns
 returns c q e =
     let j = c .before .before .before in
     let stopped = sym (j .shape-fault .ensures) ∙ ap faultRefusal (c .before .number .given .1) in
-    write-refused q (given j) (parts j) (length (lent j)) _ (lent j) (first-stop _ (wordRefusal q (joined (parts j))) stopped)
+    write-refused q (given j) (parts j) (length (lent j)) _ (lent j) (first-stop (wordRefusal q (joined (parts j)) ∷ []) stopped)
 
 enum-told : tie.Need-enum-told
 enum-told c = search needs
@@ -66,10 +66,10 @@ returns-2 : tie.Need-returns-2
 returns-2 c q e =
     let scanned = c .before .before .before in
     let j = scanned .before .before .before in
-    let stopped = word-row q (j .before .before .before .before .before .before .before .before .before .before .before .before .before .before .args .p) (joined (parts j)) e
+    let stopped = sym (word-row q e (joined (parts j)))
     ∙ sym (scanned .sections-fault .ensures) ∙ ap faultRefusal (c .before .number2 .given .1) in
     write-refused q (given j) (parts j) (length (lent j)) _ (lent j)
-    (first-pass _ (wordRefusal q (joined (parts j))) (shape-free j (scanned .before .enum-told .given .1)) ∙ stopped)
+    (first-pass (wordRefusal q (joined (parts j))) (shape-free j (scanned .before .enum-told .given .1)) ∙ stopped)
 
 enum-told-2 : tie.Need-enum-told-2
 enum-told-2 c = search needs
@@ -89,7 +89,7 @@ returns-3 c q e =
     let filled = c .before .before in
     let scanned = filled .before .before .before .before in
     let j = scanned .before .before .before in
-    let words-free = word-row q (j .before .before .before .before .before .before .before .before .before .before .before .before .before .before .args .p) (joined (parts j)) e
+    let words-free = sym (word-row q e (joined (parts j)))
     ∙ sym (scanned .sections-fault .ensures) ∙ ap faultRefusal (filled .before .before .enum-told2 .given .1) in
     write-done q (given j) (parts j) (length (lent j)) (lent j) (filled .fill-record .last .1 .1 .1 .1 .1 .1 .1 .1 .1 .1 .1 .1 .0)
     (shape-free j (scanned .before .enum-told .given .1)) words-free (filled .fill-record .ensures)
