@@ -6,8 +6,8 @@ use Rattle.protocol.specs.Circuit.{Sizes}
 use Rattle.protocol.specs.Refusals.{Refusal, Outcome, Done, Refused}
 use Rattle.protocol.specs.Record.{Contents}
 use Rattle.protocol.specs.Meanings.{sizes}
-use Rattle.record.specs.declared.Reading.{Reading}
-use Rattle.record.specs.declared.Reading.the-variants as reading
+use Rattle.record.specs.declared.reader.Reading.{Reading}
+use Rattle.record.specs.declared.reader.Reading.the-variants as reading
 
 -- the six sizes read, or the refusal
 abbrev pub readingMeaning : Reading → Outcome Sizes

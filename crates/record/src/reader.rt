@@ -1,0 +1,170 @@
+// The reader: a record from its end, then its trailer, then its words.
+ghost use mathlib.Core.Path.{_≡_};
+ghost use mathlib.Core.Option.{none};
+ghost use Prim.Native.Nat.{_+_, _*_, _≤_, _<_};
+ghost use lib.ListN.{length, take};
+ghost use Rattle.field.specs.Prime.{Prime};
+ghost use Rattle.protocol.specs.Refusals.{trailerBytes, endRefusal};
+ghost use Rattle.protocol.specs.Record.{wordAt, wordsIn, trailerWord, sizesRead, recordRefusal, readRecord};
+ghost use Rattle.protocol.specs.Meanings.{faultRefusal, sizes as sizesMeaning};
+ghost use Rattle.record.specs.Answers.{readingMeaning, sizesFound};
+ghost use Rattle.record.specs.Layout.{Allowed, refuseWords, startsRefusal, trailerRefusalOf, layoutRefusal};
+use crate::layout::SECTIONS;
+use crate::layout::TRAILER_BYTES;
+use crate::layout::TRAILER_WORDS;
+use crate::layout::WORD_BYTES;
+use crate::layout::section_bounds;
+use protocol::Fault;
+use protocol::Sizes;
+use protocol::Triple;
+use protocol::six_sizes::judge_sizes;
+
+// The rows of the table of refusals that a record can fail.
+const BAD_END: u32 = 2;
+
+const BAD_TRAILER: u32 = 3;
+
+const BAD_WORD: u32 = 6;
+
+// What reading a record answers: its sizes, or a refusal's number and position.
+pub enum Reading {
+    Whole(Sizes),
+    Refused(u32, usize),
+}
+
+fn wide(b: u8) -> u32
+    ensures { λ r. ⌜ (r ≡ b) × (r < 256) ⌝ }
+{
+    b as u32
+}
+
+// Word i of the bytes.
+fn word_at(bytes: &[u8], i: usize) -> u32
+    requires { ⌜ 4 * i + 4 ≤ length (now bytes) ⌝ }
+    ensures { λ r. ⌜ r ≡ wordAt (now (bytes .entry)) i ⌝ }
+{
+    let at = WORD_BYTES * i;
+    wide(bytes[at])
+        + 256 * wide(bytes[at + 1])
+        + 65536 * wide(bytes[at + 2])
+        + 16777216 * wide(bytes[at + 3])
+}
+
+// Word k of the trailer.
+fn trailer_word(bytes: &[u8], k: usize) -> u32
+    requires { ⌜ (trailerBytes ≤ length (now bytes)) × (k < 18) ⌝ }
+    ensures { λ r. ⌜ r ≡ trailerWord (now (bytes .entry)) k ⌝ }
+{
+    word_at(bytes, (bytes.len() - TRAILER_BYTES) / WORD_BYTES + k)
+}
+
+pub fn sizes_in(bytes: &[u8]) -> Sizes
+    requires { ⌜ trailerBytes ≤ length (now bytes) ⌝ }
+    ensures { λ r. ⌜ sizesMeaning r ≡ sizesRead (now (bytes .entry)) ⌝ }
+{
+    Sizes {
+        r: trailer_word(bytes, SECTIONS),
+        c: trailer_word(bytes, SECTIONS + 1),
+        x: trailer_word(bytes, SECTIONS + 2),
+        k: Triple {
+            a: trailer_word(bytes, SECTIONS + 3),
+            b: trailer_word(bytes, SECTIONS + 4),
+            c: trailer_word(bytes, SECTIONS + 5),
+        },
+    }
+}
+
+// The end of a record: its length, and its last word.
+fn end_fault(bytes: &[u8]) -> Fault
+    ensures { λ r. ⌜ faultRefusal r ≡ endRefusal (length (now (bytes .entry))) (trailerWord (now (bytes .entry)) 17) ⌝ }
+{
+    let n = bytes.len();
+    if n < TRAILER_BYTES {
+        return Fault::Refused(BAD_END, 0);
+    }
+    if n % WORD_BYTES != 0 {
+        return Fault::Refused(BAD_END, 0);
+    }
+    let last = trailer_word(bytes, TRAILER_WORDS - 1) as usize;
+    if last != n - TRAILER_BYTES {
+        return Fault::Refused(BAD_END, 0);
+    }
+    Fault::Fine
+}
+
+// The starts and the total length of a record against those that its sizes give.
+fn starts_fault(bytes: &[u8], s: Sizes) -> Fault
+    requires { ⌜ (trailerBytes ≤ length (now bytes)) × Allowed (sizesMeaning s) ⌝ }
+    ensures { λ r. ⌜ faultRefusal r ≡ startsRefusal (now (bytes .entry)) (sizesMeaning s) ⌝ }
+{
+    let given = section_bounds(s);
+    let mut k = 0;
+    while k < SECTIONS {
+        if trailer_word(bytes, k) != given[k] {
+            return Fault::Refused(BAD_TRAILER, k);
+        }
+        k += 1;
+    }
+    if bytes.len() - TRAILER_BYTES != given[SECTIONS] as usize {
+        return Fault::Refused(BAD_TRAILER, TRAILER_WORDS - 1);
+    }
+    Fault::Fine
+}
+
+// The trailer of a record: its sizes, then its starts, then the total length.
+fn trailer_fault(bytes: &[u8]) -> Fault
+    requires { ⌜ trailerBytes ≤ length (now bytes) ⌝ }
+    ensures { λ r. ⌜ faultRefusal r ≡ trailerRefusalOf (now (bytes .entry)) ⌝ }
+{
+    let s = sizes_in(bytes);
+    if let Fault::Refused(number, position) = judge_sizes(BAD_TRAILER, SECTIONS, s) {
+        return Fault::Refused(number, position);
+    }
+    starts_fault(bytes, s)
+}
+
+// All of a record but its words.
+fn layout_fault(bytes: &[u8]) -> Fault
+    ensures { λ r. ⌜ faultRefusal r ≡ layoutRefusal (now (bytes .entry)) ⌝ }
+{
+    if let Fault::Refused(number, position) = end_fault(bytes) {
+        return Fault::Refused(number, position);
+    }
+    trailer_fault(bytes)
+}
+
+// The words of a record's sections, of which there are so many.
+fn section_words_fault(p: u32, bytes: &[u8], count: usize) -> Fault
+    requires { ⌜ 4 * count ≤ length (now bytes) ⌝ }
+    ensures { λ r. ⌜ faultRefusal r ≡ refuseWords p 0 (wordsIn (take (4 * count) (now (bytes .entry)))) ⌝ }
+{
+    let mut i = 0;
+    while i < count {
+        if p <= word_at(bytes, i) {
+            return Fault::Refused(BAD_WORD, i);
+        }
+        i += 1;
+    }
+    Fault::Fine
+}
+
+// The first refusal of a record. Where there is none, its layout holds whatever p is.
+pub fn record_fault(p: u32, bytes: &[u8]) -> Fault
+    ensures { λ r. ⌜ ((q : Prime) → q .p ≡ p → faultRefusal r ≡ recordRefusal (now (bytes .entry)) q) ⌝ }
+    ensures { λ r. ⌜ (faultRefusal r ≡ none → layoutRefusal (now (bytes .entry)) ≡ none) ⌝ }
+{
+    if let Fault::Refused(number, position) = layout_fault(bytes) {
+        return Fault::Refused(number, position);
+    }
+    section_words_fault(p, bytes, (bytes.len() - TRAILER_BYTES) / WORD_BYTES)
+}
+
+// A record's sizes, or its first refusal: the end (2), the trailer (3), a word (6).
+pub fn read(p: u32, bytes: &[u8]) -> Reading
+    ensures { λ r. ⌜ ((q : Prime) → q .p ≡ p → readingMeaning r ≡ sizesFound (readRecord (now (bytes .entry)) q)) ⌝ }
+{
+    if let Fault::Refused(number, position) = record_fault(p, bytes) {
+        return Reading::Refused(number, position);
+    }
+    Reading::Whole(sizes_in(bytes))
+}
