@@ -1,6 +1,5 @@
--- The lengths of the sections and of the lent bytes in a call to write a record, against those that the sizes give: the rows
--- of the lengths. What is known where the sizes and the lengths are not refused, and what the call answers.
--- Assumes nothing.
+-- The lengths of the sections and of the lent bytes in a call to write a record, as rows against those that the sizes give. What
+-- is known where the sizes and the lengths are not refused, and what the call answers. Assumes nothing.
 use mathlib.Core.Path.{_≡_, refl, sym, ap, ap₂, _∙_}
 use mathlib.Core.Bool.{Bool, true}
 use mathlib.Core.List.{List, [], _∷_, _++_, map}
@@ -30,7 +29,8 @@ pub length-due : (s : Sizes) {due : List ℕ} → due ≡ sectionLengths s → l
 length-due s e = ap length e ∙ eleven s
 
 -- the lengths found against those due, then the lent bytes against the bounds given
-pub length-rows : (s : Sizes) (found due given : List ℕ) (lent : ℕ) → length found ≡ 11 → due ≡ sectionLengths s → given ≡ bounds (sectionLengths s)
+pub length-rows : (s : Sizes) (found due given : List ℕ) (lent : ℕ)
+    → length found ≡ 11 → due ≡ sectionLengths s → given ≡ bounds (sectionLengths s)
     → lengthRefusals s found lent
     ≡ first (refuse 5 0 (pairs eqb found due) ∷ refuse 5 11 (eqb lent (getD given 11 0 + trailerBytes) ∷ []) ∷ [])
 unfolding lengthRefusals listRefusal sectionBytes

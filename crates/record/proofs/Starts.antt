@@ -1,5 +1,4 @@
--- The starts and the total length that a trailer has, against the bounds that its sizes give: the rows of
--- the starts. Assumes nothing.
+-- The starts and the total length that a trailer has, as rows against the bounds that its sizes give. Assumes nothing.
 use mathlib.Core.Path.{_≡_, refl, sym, ap, ap₂, _∙_}
 use mathlib.Core.List.{List, [], _∷_}
 use Prim.Native.Nat.{ℕ, _-_}

@@ -36,7 +36,8 @@ returns c =
     let fits = c .before .before .before .before .before .pre in
     passed-stop 6 0 (tests (a .p) (a .bytes .now) (a .count)) (l .i) (l .inv .1)
     (omega (arith, length-tests (a .bytes .now) (a .count) fits (a .p))) false (l .i) (omega arith)
-    (test-at (a .bytes .now) (a .count) fits (a .p) (l .i) false (omega arith) ∙ le-ltb (wordAt (a .bytes .now) (l .i)) (a .p) (omega (arith, c .before .word-at .ensures)))
+    (test-at (a .bytes .now) (a .count) fits (a .p) (l .i) false (omega arith)
+    ∙ le-ltb (wordAt (a .bytes .now) (l .i)) (a .p) (omega (arith, c .before .word-at .ensures)))
 
 add-i : tie.Need-add-i Inv-loop μ-loop
 add-i c = search needs
