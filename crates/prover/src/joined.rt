@@ -39,7 +39,7 @@ fn add_matrix(
         (scale (of {q = q} delta ⊗ (of (sizeFor (length (entriesOf (now (entries .entry))))) ⊘ of (length (now (out .entry)) + 1)))
         (matrixQuotient k (of alpha) (of beta) M)))) ⌝ }
 {
-    let size = circuit::size_of(entries);
+    let size = circuit::matrices::size_of(entries);
     let share = field::multiply(p, size, field::invert(p, (out.len() + 1) as u32));
     let m = (size - 1) as usize;
     let mut quotient = [0u32; 1024];

@@ -228,7 +228,7 @@ pub fn fraction_into(
     let mut col = [0u32; 1024];
     let mut rowcol = [0u32; 1024];
     let mut rowcolval = [0u32; 1024];
-    circuit::index_matrix_into(
+    circuit::indexer::index_matrix_into(
         p,
         r,
         c,

@@ -30,7 +30,7 @@ pub fn image_into(p: u32, r: u32, entries: &[u32], z: &[u32], out: &mut [u32])
 {
     let n = r as usize;
     let mut sums = [0u32; 1024];
-    circuit::row_sums(p, entries, z, &mut sums[..n]);
+    circuit::matrices::row_sums(p, entries, z, &mut sums[..n]);
     poly::interpolate_into(p, domain::root_of(p, r), &sums[..n], out);
 }
 

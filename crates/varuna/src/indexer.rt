@@ -61,9 +61,36 @@ pub fn index(
     let fault = judging::judge_index(r, c, x, ea, eb, ec, &lent, &due);
     match fault {
         Fault::Fine => {
-            circuit::index_matrix_into(MODULE_PRIME, r, c, ea, rowA, colA, rowcolA, rowcolvalA);
-            circuit::index_matrix_into(MODULE_PRIME, r, c, eb, rowB, colB, rowcolB, rowcolvalB);
-            circuit::index_matrix_into(MODULE_PRIME, r, c, ec, rowC, colC, rowcolC, rowcolvalC);
+            circuit::indexer::index_matrix_into(
+                MODULE_PRIME,
+                r,
+                c,
+                ea,
+                rowA,
+                colA,
+                rowcolA,
+                rowcolvalA,
+            );
+            circuit::indexer::index_matrix_into(
+                MODULE_PRIME,
+                r,
+                c,
+                eb,
+                rowB,
+                colB,
+                rowcolB,
+                rowcolvalB,
+            );
+            circuit::indexer::index_matrix_into(
+                MODULE_PRIME,
+                r,
+                c,
+                ec,
+                rowC,
+                colC,
+                rowcolC,
+                rowcolvalC,
+            );
             Filled::Done
         }
         Fault::Refused(number, position) => Filled::Refused(number, position),

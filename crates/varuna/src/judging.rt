@@ -73,7 +73,7 @@ pub fn judge_index(
         ≡ first (circuitRefusals babyBear (circuitOf (given r c x (now (ea .entry)) (now (eb .entry)) (now (ec .entry))))
         (entryListTests (given r c x (now (ea .entry)) (now (eb .entry)) (now (ec .entry))) ++ pairs eqb (now (lent .entry)) (now (due .entry))) []) ⌝ }
 {
-    let shape = circuit::judge_index_shape(r, c, x, ea, eb, ec);
+    let shape = circuit::judging::judge_index_shape(r, c, x, ea, eb, ec);
     if !circuit::is_fine(shape) {
         return shape;
     }
@@ -81,7 +81,7 @@ pub fn judge_index(
     if !circuit::is_fine(slices) {
         return slices;
     }
-    circuit::judge_index_contents(MODULE_PRIME, r, c, ea, eb, ec)
+    circuit::judging::judge_index_contents(MODULE_PRIME, r, c, ea, eb, ec)
 }
 
 // 4 to 10 of a prover call. The challenges are all its challenge words, the points those of α, β, γ that it has.
@@ -106,7 +106,7 @@ pub fn judge_round(
         ≡ roundRefusal babyBear (proverInput r c x (now (ea .entry)) (now (eb .entry)) (now (ec .entry)) (now (z .entry)) mask (now (m .entry)))
         (now (lent .entry)) (now (due .entry)) (now (challenges .entry)) (now (points .entry)) ⌝ }
 {
-    let shape = circuit::judge_shape(r, c, x, ea, eb, ec, z, m);
+    let shape = circuit::judging::judge_shape(r, c, x, ea, eb, ec, z, m);
     if !circuit::is_fine(shape) {
         return shape;
     }
@@ -114,7 +114,7 @@ pub fn judge_round(
     if !circuit::is_fine(slices) {
         return slices;
     }
-    circuit::judge_contents(
+    circuit::judging::judge_contents(
         MODULE_PRIME,
         r,
         c,

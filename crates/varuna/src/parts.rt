@@ -209,7 +209,7 @@ fn index_at(r: u32, c: u32, entries: &[u32], gamma: u32) -> IndexOpened
     let mut col = [0u32; 1024];
     let mut rowcol = [0u32; 1024];
     let mut rowcolval = [0u32; 1024];
-    circuit::index_matrix_into(
+    circuit::indexer::index_matrix_into(
         MODULE_PRIME,
         r,
         c,

@@ -1,0 +1,116 @@
+-- `circuit::checks::check_points` meets its contract: the points passed are outside their domains. Assumes nothing.
+use borrow.Author.Needs.{needs}
+use mathlib.Core.Path.{_≡_, sym, ap, _∙_}
+use mathlib.Core.Bool.{Bool, true, not}
+use mathlib.Core.List.{List, [], _∷_, map}
+use Prim.Native.Nat.{ℕ, _-_, _≤_, _<_}
+use native.Mathlib.Omega.{arith}
+use lib.ListN.{length, getD, length-map}
+use Rattle.field.specs.Prime.{Prime}
+use Rattle.field.specs.Element.{Elem, of, 𝟘}
+use Rattle.domain.specs.Size.{isSize}
+use Rattle.domain.specs.Domain.{inside}
+use Rattle.domain.specs.Qualifies.{Qualifies}
+use Rattle.poly.proofs.WordLists.{element-at}
+use Rattle.protocol.specs.Refusals.{pairs, challengeRefusal}
+use Rattle.circuit.proofs.Rows.{Passed, passed-none, passed-turn, passed-stop, passed-end}
+use Rattle.circuit.proofs.Entries.{all-at}
+use Rattle.circuit.proofs.Parts.{length-pairs, pairs-at}
+use Rattle.circuit.proofs.checks.check_points.Statement.{statement}
+use Rattle.circuit.proofs.checks.check_points.Tie as tie
+
+abbrev tests : (q : Prime) (ns points : List ℕ) → List Bool
+tests q ns points = pairs (λ (n : ℕ) (y : Elem q). not (inside n y)) ns (map of points)
+
+-- how many they are, and the test at place i
+tests-count : (q : Prime) (ns points : List ℕ) → length points ≤ length ns → length (tests q ns points) ≡ length points
+tests-count q ns points h =
+    length-pairs (λ (n : ℕ) (y : Elem q). not (inside n y)) ns (map of points) (omega (arith, length-map points (of {q = q})))
+    ∙ length-map points of
+
+test-at : (q : Prime) (ns points : List ℕ) (i : ℕ) (b : Bool) → length points ≤ length ns → i < length points
+    → b ≡ inside (getD ns i 0) (of {q = q} (getD points i 0)) → getD (tests q ns points) i true ≡ not b
+test-at q ns points i b h within e =
+    pairs-at (λ (n : ℕ) (y : Elem q). not (inside n y)) ns (map of points) i 0 𝟘 (omega (arith, length-map points (of {q = q})))
+    (omega (arith, length-map points (of {q = q})))
+    ∙ ap (λ (y : Elem q). not (inside (getD ns i 0) y)) (sym (element-at points i)) ∙ ap not (sym e)
+
+abbrev Inv-loop : tie.InvT-loop
+Inv-loop p r c k points sizes i₀ i = (i ≤ length points) × ((q : Prime) → Qualifies q → q .p ≡ p → Passed 10 0 (tests q (r ∷ c ∷ k ∷ []) points) i)
+
+abbrev μ-loop : tie.MeasureT-loop
+μ-loop p r c k points sizes i₀ i = length points - i
+
+loop-holds : tie.Need-loop-holds Inv-loop μ-loop
+loop-holds c = (omega arith, λ q Q e. passed-none 10 0 _)
+
+mul-is-inside : tie.Need-mul-is-inside Inv-loop μ-loop
+mul-is-inside c = search needs
+
+array-read-is-inside : tie.Need-array-read-is-inside Inv-loop μ-loop
+array-read-is-inside c = search needs
+
+mul-is-inside-2 : tie.Need-mul-is-inside-2 Inv-loop μ-loop
+mul-is-inside-2 c = search needs
+
+shared-slice-read-is-inside : tie.Need-shared-slice-read-is-inside Inv-loop μ-loop
+shared-slice-read-is-inside c = search needs
+
+is-inside-requires : tie.Need-is-inside-requires Inv-loop μ-loop
+is-inside-requires c κs =
+    let s = c .before .before .before .before in
+    let ns : List ℕ = s .args .r ∷ s .args .c ∷ s .args .k ∷ [] in
+    (s .pre .0, all-at (λ n. isSize n ≡ true) ns (s .pre .1 .0 .0, (s .pre .1 .0 .1 .0, (s .pre .1 .0 .1 .1, tt))) (c .before .before .loop .i) 0 (omega arith))
+
+returns : tie.Need-returns Inv-loop μ-loop
+unfolding challengeRefusal
+returns c q Q e =
+    let a = c .before .before .before .before .before .before .args in
+    let l = c .before .before .before .before .loop in
+    let ns : List ℕ = a .r ∷ a .c ∷ a .k ∷ [] in
+    passed-stop 10 0 (tests q ns (a .points .now)) (l .i) (l .inv .1 q Q e) (omega (arith, tests-count q ns (a .points .now) (c .before .before .before .before .before .before .pre .1 .1))) (l .i) (omega arith)
+    (test-at q ns (a .points .now) (l .i) (c .before .is-inside .result) (c .before .before .before .before .before .before .pre .1 .1) (omega arith) (c .before .is-inside .ensures q Q e) ∙ ap not (c .if1 .taken))
+
+add-i : tie.Need-add-i Inv-loop μ-loop
+add-i c = search needs
+
+loop-less : tie.Need-loop-less Inv-loop μ-loop
+loop-less c = search needs
+
+loop-again : tie.Need-loop-again Inv-loop μ-loop
+loop-again c =
+    let a = c .before .before .before .before .before .before .args in
+    let l = c .before .before .before .before .loop in
+    let ns : List ℕ = a .r ∷ a .c ∷ a .k ∷ [] in (
+      omega arith,
+      λ q Q e.
+          passed-turn 10 0 (tests q ns (a .points .now)) (l .i) (l .inv .1 q Q e) (omega (arith, tests-count q ns (a .points .now) (c .before .before .before .before .before .before .pre .1 .1)))
+          (test-at q ns (a .points .now) (l .i) (c .before .is-inside .result) (c .before .before .before .before .before .before .pre .1 .1) (omega arith) (c .before .is-inside .ensures q Q e) ∙ ap not (c .if1 .left)),
+    )
+
+returns-2 : tie.Need-returns-2 Inv-loop μ-loop
+unfolding challengeRefusal
+returns-2 c q Q e =
+    let a = c .before .before .before .args in
+    let l = c .before .loop in
+    let ns : List ℕ = a .r ∷ a .c ∷ a .k ∷ [] in
+    sym
+    (passed-end 10 0 (tests q ns (a .points .now)) (l .i) (l .inv .1 q Q e) (omega (arith, tests-count q ns (a .points .now) (c .before .before .before .pre .1 .1))))
+
+pub check-points-spec : {M : Type 1} → statement M
+check-points-spec =
+    tie.close
+    (tie.spec
+    Inv-loop
+    μ-loop
+    loop-holds
+    mul-is-inside
+    array-read-is-inside
+    mul-is-inside-2
+    shared-slice-read-is-inside
+    is-inside-requires
+    returns
+    add-i
+    loop-less
+    loop-again
+    returns-2)

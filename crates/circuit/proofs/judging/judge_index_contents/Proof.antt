@@ -1,0 +1,42 @@
+-- `circuit::judging::judge_index_contents` meets its contract. Assumes nothing.
+use borrow.Author.Needs.{needs}
+use mathlib.Core.Path.{sym, _∙_}
+use mathlib.Core.List.{[], _∷_}
+use borrow.Author.Tests.{not-true, not-false}
+use Rattle.protocol.specs.Refusals.{entryRefusal}
+use Rattle.circuit.specs.Judgement.{indexContentsRefusal}
+use Rattle.circuit.proofs.Rows.{stops, goes-on, last-answer}
+use Rattle.circuit.proofs.Parts.{circuit-words}
+use Rattle.circuit.proofs.judging.judge_index_contents.Statement.{statement}
+use Rattle.circuit.proofs.judging.judge_index_contents.Tie as tie
+
+check-three-values-requires : tie.Need-check-three-values-requires
+check-three-values-requires c κs = search needs
+
+is-fine-requires : tie.Need-is-fine-requires
+is-fine-requires c κs = search needs
+
+returns : tie.Need-returns
+unfolding indexContentsRefusal
+returns c q e k er ec matrices =
+    stops (c .before .before .check-three-values .result) (c .before .before .check-three-values .ensures k matrices ∙ circuit-words q k e) (entryRefusal k ∷ [])
+    (sym (c .before .is-fine .ensures) ∙ not-true _ (c .if1 .taken))
+
+check-three-entries-requires : tie.Need-check-three-entries-requires
+check-three-entries-requires c κs = search needs
+
+returns-2 : tie.Need-returns-2
+unfolding indexContentsRefusal
+returns-2 c q e k er ec matrices =
+    goes-on (c .before .before .before .check-three-values .result) (c .before .before .before .check-three-values .ensures k matrices ∙ circuit-words q k e) (entryRefusal k ∷ [])
+    (sym (c .before .before .is-fine .ensures) ∙ not-false _ (c .before .if1 .left)) (last-answer (c .check-three-entries .ensures k er ec matrices))
+
+pub judge-index-contents-spec : {M : Type 1} → statement M
+judge-index-contents-spec =
+    tie.close
+    (tie.spec
+    check-three-values-requires
+    is-fine-requires
+    returns
+    check-three-entries-requires
+    returns-2)

@@ -1,0 +1,98 @@
+// Rows of the table of refusals in its order, for calls with a circuit.
+ghost use mathlib.Core.Path.{_≡_};
+ghost use Prim.Native.Nat.{_<_, _≤_};
+ghost use lib.ListN.{length};
+ghost use Rattle.field.specs.Prime.{Prime};
+ghost use Rattle.domain.specs.Qualifies.{Qualifies};
+ghost use Rattle.protocol.specs.Circuit.{Circuit};
+ghost use Rattle.protocol.specs.Meanings.{faultRefusal};
+ghost use Rattle.circuit.specs.Given.{given, entryLists, ThreeLists, Shaped};
+ghost use Rattle.circuit.specs.Judgement.{indexShapeRefusal, shapeRefusal, indexContentsRefusal, contentsRefusal};
+use crate::checks;
+use crate::is_fine;
+use crate::matrices;
+use protocol::Fault;
+
+// 4 and 5 of a circuit: its sizes and its entry lists.
+pub fn judge_index_shape(r: u32, c: u32, x: u32, ea: &[u32], eb: &[u32], ec: &[u32]) -> Fault
+    ensures { λ f. ⌜ faultRefusal f ≡ indexShapeRefusal (given r c x (now (ea .entry)) (now (eb .entry)) (now (ec .entry))) ⌝ }
+{
+    let fault = checks::check_sizes(r, c, x);
+    if !is_fine(fault) {
+        return fault;
+    }
+    checks::check_entry_lists(ea.len(), eb.len(), ec.len())
+}
+
+// 4 and 5 of what every prover call begins with: sizes, entry lists, z and m.
+pub fn judge_shape(
+    r: u32,
+    c: u32,
+    x: u32,
+    ea: &[u32],
+    eb: &[u32],
+    ec: &[u32],
+    z: &[u32],
+    m: &[u32],
+) -> Fault
+    ensures { λ f. ⌜ faultRefusal f ≡ shapeRefusal (given r c x (now (ea .entry)) (now (eb .entry)) (now (ec .entry))) (now (z .entry)) (now (m .entry)) ⌝ }
+{
+    let fault = judge_index_shape(r, c, x, ea, eb, ec);
+    if !is_fine(fault) {
+        return fault;
+    }
+    checks::check_assignment_lists(c, z.len(), m.len())
+}
+
+// 6 and 7 of a circuit whose shape is fine.
+pub fn judge_index_contents(p: u32, r: u32, c: u32, ea: &[u32], eb: &[u32], ec: &[u32]) -> Fault
+    requires { ⌜ ThreeLists (now ea) (now eb) (now ec) ⌝ }
+    ensures { λ f. ⌜ ((q : Prime) → q .p ≡ p → (k : Circuit) → k .R ≡ r → k .C ≡ c
+        → k .matrices ≡ entryLists (now (ea .entry)) (now (eb .entry)) (now (ec .entry)) → faultRefusal f ≡ indexContentsRefusal q k) ⌝ }
+{
+    let fault = checks::check_three_values(p, ea, eb, ec);
+    if !is_fine(fault) {
+        return fault;
+    }
+    checks::check_three_entries(r, c, ea, eb, ec)
+}
+
+// 6 to 10 of a prover call whose shape is fine. The challenges are all its challenge words, the points those of α, β, γ that it has.
+pub fn judge_contents(
+    p: u32,
+    r: u32,
+    c: u32,
+    ea: &[u32],
+    eb: &[u32],
+    ec: &[u32],
+    z: &[u32],
+    mask: u32,
+    m: &[u32],
+    challenges: &[u32],
+    points: &[u32],
+) -> Fault
+    requires { ⌜ 1 < p ⌝ }
+    requires { ⌜ Shaped r c (now ea) (now eb) (now ec) (now z) (now m) ⌝ }
+    requires { ⌜ length (now points) ≤ 3 ⌝ }
+    ensures { λ f. ⌜ ((q : Prime) → Qualifies q → q .p ≡ p → (k : Circuit) → k .R ≡ r → k .C ≡ c
+        → k .matrices ≡ entryLists (now (ea .entry)) (now (eb .entry)) (now (ec .entry))
+        → faultRefusal f ≡ contentsRefusal q k (now (z .entry)) mask (now (m .entry)) (now (challenges .entry)) (now (points .entry))) ⌝ }
+{
+    let words = checks::check_call_words(p, ea, eb, ec, z, mask, m, challenges);
+    if !is_fine(words) {
+        return words;
+    }
+    let entries = checks::check_three_entries(r, c, ea, eb, ec);
+    if !is_fine(entries) {
+        return entries;
+    }
+    let sum = checks::check_mask(p, c, m);
+    if !is_fine(sum) {
+        return sum;
+    }
+    let rows = checks::check_assignment(p, r, ea, eb, ec, z);
+    if !is_fine(rows) {
+        return rows;
+    }
+    checks::check_points(p, r, c, matrices::largest_size(ea, eb, ec), points)
+}

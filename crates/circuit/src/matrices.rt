@@ -1,0 +1,55 @@
+// What is read off an entry list: |K_M|, |K|, and the sums M·z of the rows.
+ghost use mathlib.Core.Path.{_≡_};
+ghost use mathlib.Core.List.{map};
+ghost use Prim.Native.Nat.{_*_, _<_, _≤_, max};
+ghost use lib.ListN.{length};
+ghost use Rattle.algebra.specs.Lists.{tabulate};
+ghost use Rattle.algebra.specs.Counting.{All};
+ghost use Rattle.field.specs.Prime.{Prime};
+ghost use Rattle.field.specs.Element.{of, words};
+ghost use Rattle.domain.specs.Size.{maxSize, sizeFor};
+ghost use Rattle.protocol.specs.Three.{MatrixName, at};
+ghost use Rattle.protocol.specs.Circuit.{Circuit, sizesOf, largest, rowSum};
+ghost use Rattle.protocol.specs.Calls.{entriesOf};
+ghost use Rattle.circuit.specs.Given.{entryLists, Within};
+
+fn larger(m: u32, n: u32) -> u32
+    ensures { λ k. ⌜ k ≡ max m n ⌝ }
+{
+    if m <= n { n } else { m }
+}
+
+// |K_M|: the smallest size not below the entry count.
+pub fn size_of(entries: &[u32]) -> u32
+    requires { ⌜ length (now entries) ≤ 3 * maxSize ⌝ }
+    ensures { λ n. ⌜ n ≡ sizeFor (length (entriesOf (now (entries .entry)))) ⌝ }
+{
+    domain::size_for((entries.len() / 3) as u32)
+}
+
+// K: the largest |K_M|.
+pub fn largest_size(ea: &[u32], eb: &[u32], ec: &[u32]) -> u32
+    requires { ⌜ (length (now ea) ≤ 3 * maxSize) × ((length (now eb) ≤ 3 * maxSize) × (length (now ec) ≤ 3 * maxSize)) ⌝ }
+    ensures { λ n. ⌜ ((k : Circuit) → k .matrices ≡ entryLists (now (ea .entry)) (now (eb .entry)) (now (ec .entry)) → n ≡ largest (sizesOf k .K)) ⌝ }
+{
+    larger(size_of(ea), larger(size_of(eb), size_of(ec)))
+}
+
+// The sum of a matrix's values in each row, each times z at its column, into the slice: one pass over the entries.
+pub fn row_sums(p: u32, entries: &[u32], z: &[u32], out: &mut [u32])
+    requires { ⌜ 0 < p ⌝ }
+    requires { ⌜ All (Within (length (now out)) (length (now z))) (entriesOf (now entries)) ⌝ }
+    ensures { λ _. ⌜ ((q : Prime) → q .p ≡ p → (k : Circuit) (M : MatrixName) → at (k .matrices) M ≡ entriesOf (now (entries .entry))
+        → now (out .exit) ≡ words (tabulate (length (now (out .entry))) (rowSum {q = q} k M (map of (now (z .entry)))))) ⌝ }
+{
+    poly::clear(out);
+    let count = entries.len() / 3;
+    let mut i = 0;
+    while i < count {
+        let row = entries[3 * i] as usize;
+        let column = entries[3 * i + 1] as usize;
+        let product = field::multiply(p, entries[3 * i + 2], z[column]);
+        out[row] = field::add(p, out[row], product);
+        i += 1;
+    }
+}
