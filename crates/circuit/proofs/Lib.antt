@@ -4,3 +4,4 @@ pub mod Sums
 pub mod Mask
 pub mod Parts
 pub mod IndexValues
+pub mod Fitting

@@ -11,7 +11,8 @@ use Rattle.protocol.specs.declared.Fault.{Fault}
 use Rattle.protocol.specs.declared.Fault.the-variants as fault
 use Rattle.protocol.specs.Three.{Three}
 use Rattle.protocol.specs.Circuit.{Entry}
-use Rattle.protocol.specs.Calls.{CircuitWords, entriesOf}
+use Rattle.protocol.specs.Calls.{CircuitWords, ProverInput, entriesOf, circuitOf}
+use Rattle.protocol.proofs.AdmissionLaws.{WellFormed}
 
 -- the circuit of three sizes and the words of three entry lists
 abbrev pub given : ℕ → ℕ → ℕ → List ℕ → List ℕ → List ℕ → CircuitWords
@@ -54,6 +55,18 @@ pub record CircuitShaped (r c : ℕ) (ea eb ec : List ℕ) : Type 0 where
 
 pub record Shaped (r c : ℕ) (ea eb ec z m : List ℕ) : Type 0 where
   pub circuit : CircuitShaped r c ea eb ec
+  pub z-length : length z ≡ c
+  pub m-length : length m ≡ 2 * c
+
+-- what every prover call begins with
+abbrev pub proverInput : ℕ → ℕ → ℕ → List ℕ → List ℕ → List ℕ → List ℕ → ℕ → List ℕ → ProverInput
+proverInput r c x ea eb ec z mask m = record { circuit = given r c x ea eb ec; z = z; r = mask; m = m }
+
+-- what 4 to 7 leave of a call that is let through: a circuit that is well-formed, and lists of their lengths
+pub record Fits (p r c x : ℕ) (ea eb ec z m : List ℕ) : Type 0 where
+  pub well-formed : WellFormed p (circuitOf (given r c x ea eb ec))
+  pub lists : ThreeLists ea eb ec
+  pub within : EachWithin r c ea eb ec
   pub z-length : length z ≡ c
   pub m-length : length m ≡ 2 * c
 

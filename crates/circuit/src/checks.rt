@@ -12,7 +12,7 @@ ghost use Rattle.domain.specs.Size.{isSize, maxSize};
 ghost use Rattle.domain.specs.Qualifies.{Qualifies};
 ghost use Rattle.protocol.specs.Circuit.{Entry, Circuit};
 ghost use Rattle.protocol.specs.Meanings.{faultRefusal};
-ghost use Rattle.protocol.specs.Refusals.{refuse, sizeTests, sizeRefusal, rises, entryTests, wordRefusal, entryRefusal, maskRefusal, assignmentRefusal, challengeRefusal};
+ghost use Rattle.protocol.specs.Refusals.{refuse, pairs, sizeTests, sizeRefusal, rises, entryTests, wordRefusal, entryRefusal, maskRefusal, assignmentRefusal, challengeRefusal};
 ghost use Rattle.protocol.specs.Calls.{entriesOf};
 ghost use Rattle.protocol.specs.Admission.{entryValues};
 ghost use Rattle.circuit.specs.Given.{entryLists, EachWithin, ThreeLists};
@@ -85,6 +85,22 @@ pub fn check_assignment_lists(c: u32, z: usize, m: usize) -> Fault
     } else {
         Fault::Refused(5, 4)
     }
+}
+
+// 5: each lent slice has its length; the first of them is list `start` of the call.
+pub fn check_lent(start: usize, lent: &[usize], due: &[usize]) -> Fault
+    requires { ⌜ start < 4294967296 ⌝ }
+    requires { ⌜ length (now due) ≡ length (now lent) ⌝ }
+    ensures { λ f. ⌜ faultRefusal f ≡ refuse 5 start (pairs eqb (now (lent .entry)) (now (due .entry))) ⌝ }
+{
+    let mut i = 0;
+    while i < lent.len() {
+        if lent[i] != due[i] {
+            return Fault::Refused(5, start + i);
+        }
+        i += 1;
+    }
+    Fault::Fine
 }
 
 // 6: the words are below p; the first of them is word `start` of the call.

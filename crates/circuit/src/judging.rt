@@ -1,12 +1,18 @@
-// Rows of the table of refusals in its order, for calls with a circuit.
+// Rows of the table of refusals in its order, for calls with a circuit. Contents are judged only where lengths are right: sizes and
+// lists come first, then the lent slices, then the contents. Lent slices come as their lengths, beside the lengths that they must have.
 ghost use mathlib.Core.Path.{_≡_};
-ghost use Prim.Native.Nat.{_<_, _≤_};
+ghost use mathlib.Core.List.{[], _++_};
+ghost use Prim.Native.Nat.{_-_, _<_, _≤_};
+ghost use lib.Dec.{eqb};
 ghost use lib.ListN.{length};
 ghost use Rattle.field.specs.Prime.{Prime};
 ghost use Rattle.domain.specs.Qualifies.{Qualifies};
 ghost use Rattle.protocol.specs.Circuit.{Circuit};
 ghost use Rattle.protocol.specs.Meanings.{faultRefusal};
-ghost use Rattle.circuit.specs.Given.{given, entryLists, ThreeLists, Shaped};
+ghost use Rattle.protocol.specs.Refusals.{first, pairs};
+ghost use Rattle.protocol.specs.Admission.{circuitRefusals};
+ghost use Rattle.protocol.specs.Calls.{circuitOf, entryListTests, roundRefusal};
+ghost use Rattle.circuit.specs.Given.{given, proverInput, entryLists, ThreeLists, Shaped};
 ghost use Rattle.circuit.specs.Judgement.{indexShapeRefusal, shapeRefusal, indexContentsRefusal, contentsRefusal};
 use crate::checks;
 use crate::is_fine;
@@ -95,4 +101,77 @@ pub fn judge_contents(
         return rows;
     }
     checks::check_points(p, r, c, matrices::largest_size(ea, eb, ec), points)
+}
+
+// m - n, and 0 where n is larger: the length that a slice must have.
+pub fn less(m: u32, n: u32) -> usize
+    ensures { λ r. ⌜ r ≡ m - n ⌝ }
+{
+    if n <= m { (m - n) as usize } else { 0 }
+}
+
+// 4 to 7 of the indexer.
+pub fn judge_index(
+    p: u32,
+    r: u32,
+    c: u32,
+    x: u32,
+    ea: &[u32],
+    eb: &[u32],
+    ec: &[u32],
+    lent: &[usize],
+    due: &[usize],
+) -> Fault
+    requires { ⌜ length (now due) ≡ length (now lent) ⌝ }
+    ensures { λ f. ⌜ ((q : Prime) → q .p ≡ p
+        → faultRefusal f
+        ≡ first (circuitRefusals q (circuitOf (given r c x (now (ea .entry)) (now (eb .entry)) (now (ec .entry))))
+        (entryListTests (given r c x (now (ea .entry)) (now (eb .entry)) (now (ec .entry)))
+        ++ pairs eqb (now (lent .entry)) (now (due .entry))) [])) ⌝ }
+{
+    let shape = judge_index_shape(r, c, x, ea, eb, ec);
+    if !is_fine(shape) {
+        return shape;
+    }
+    let slices = checks::check_lent(3, lent, due);
+    if !is_fine(slices) {
+        return slices;
+    }
+    judge_index_contents(p, r, c, ea, eb, ec)
+}
+
+// 4 to 10 of a prover call. The challenges are all its challenge words, the points those of α, β, γ that it has.
+pub fn judge_round(
+    p: u32,
+    r: u32,
+    c: u32,
+    x: u32,
+    ea: &[u32],
+    eb: &[u32],
+    ec: &[u32],
+    z: &[u32],
+    mask: u32,
+    m: &[u32],
+    lent: &[usize],
+    due: &[usize],
+    challenges: &[u32],
+    points: &[u32],
+) -> Fault
+    requires { ⌜ 1 < p ⌝ }
+    requires { ⌜ length (now due) ≡ length (now lent) ⌝ }
+    requires { ⌜ length (now points) ≤ 3 ⌝ }
+    ensures { λ f. ⌜ ((q : Prime) → Qualifies q → q .p ≡ p
+        → faultRefusal f
+        ≡ roundRefusal q (proverInput r c x (now (ea .entry)) (now (eb .entry)) (now (ec .entry)) (now (z .entry)) mask (now (m .entry)))
+        (now (lent .entry)) (now (due .entry)) (now (challenges .entry)) (now (points .entry))) ⌝ }
+{
+    let shape = judge_shape(r, c, x, ea, eb, ec, z, m);
+    if !is_fine(shape) {
+        return shape;
+    }
+    let slices = checks::check_lent(5, lent, due);
+    if !is_fine(slices) {
+        return slices;
+    }
+    judge_contents(p, r, c, ea, eb, ec, z, mask, m, challenges, points)
 }

@@ -1,17 +1,19 @@
 // What is read off an entry list: |K_M|, |K|, and the sums M·z of the rows.
 ghost use mathlib.Core.Path.{_≡_};
 ghost use mathlib.Core.List.{map};
-ghost use Prim.Native.Nat.{_*_, _<_, _≤_, max};
+ghost use Prim.Native.Nat.{_<_, max};
 ghost use lib.ListN.{length};
 ghost use Rattle.algebra.specs.Lists.{tabulate};
 ghost use Rattle.algebra.specs.Counting.{All};
 ghost use Rattle.field.specs.Prime.{Prime};
 ghost use Rattle.field.specs.Element.{of, words};
-ghost use Rattle.domain.specs.Size.{maxSize, sizeFor};
+ghost use Rattle.domain.specs.Size.{sizeFor};
 ghost use Rattle.protocol.specs.Three.{MatrixName, at};
 ghost use Rattle.protocol.specs.Circuit.{Circuit, sizesOf, largest, rowSum};
 ghost use Rattle.protocol.specs.Calls.{entriesOf};
 ghost use Rattle.circuit.specs.Given.{entryLists, Within};
+
+const MAX_SIZE: u32 = 1024;
 
 fn larger(m: u32, n: u32) -> u32
     ensures { λ k. ⌜ k ≡ max m n ⌝ }
@@ -19,18 +21,21 @@ fn larger(m: u32, n: u32) -> u32
     if m <= n { n } else { m }
 }
 
-// |K_M|: the smallest size not below the entry count.
+// |K_M|: the smallest size not below the entry count, and the largest size where no size is.
 pub fn size_of(entries: &[u32]) -> u32
-    requires { ⌜ length (now entries) ≤ 3 * maxSize ⌝ }
     ensures { λ n. ⌜ n ≡ sizeFor (length (entriesOf (now (entries .entry)))) ⌝ }
 {
-    domain::size_for((entries.len() / 3) as u32)
+    let count = entries.len() / 3;
+    if count > MAX_SIZE as usize {
+        return MAX_SIZE;
+    }
+    domain::size_for(count as u32)
 }
 
 // K: the largest |K_M|.
 pub fn largest_size(ea: &[u32], eb: &[u32], ec: &[u32]) -> u32
-    requires { ⌜ (length (now ea) ≤ 3 * maxSize) × ((length (now eb) ≤ 3 * maxSize) × (length (now ec) ≤ 3 * maxSize)) ⌝ }
-    ensures { λ n. ⌜ ((k : Circuit) → k .matrices ≡ entryLists (now (ea .entry)) (now (eb .entry)) (now (ec .entry)) → n ≡ largest (sizesOf k .K)) ⌝ }
+    ensures { λ n. ⌜ ((k : Circuit) → k .matrices ≡ entryLists (now (ea .entry)) (now (eb .entry)) (now (ec .entry))
+        → n ≡ largest (sizesOf k .K)) ⌝ }
 {
     larger(size_of(ea), larger(size_of(eb), size_of(ec)))
 }

@@ -154,9 +154,7 @@ returns-4 c q Q e k er ec matrices =
     (sym (c .before .is-fine4 .ensures) ∙ not-true _ (c .if4 .taken)))
 
 largest-size-requires : tie.Need-largest-size-requires
-largest-size-requires c κs =
-    let h = c .before .before .before .before .before .before .before .before .before .before .before .before .before .before .before .before .before .before .before .pre .1 .0 .circuit .lists in
-    (h .list-a .few, (h .list-b .few, h .list-c .few))
+largest-size-requires c κs = search needs
 
 check-points-requires : tie.Need-check-points-requires
 unfolding circuitOf

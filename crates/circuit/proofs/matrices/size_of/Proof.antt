@@ -2,9 +2,18 @@
 use borrow.Author.Needs.{needs}
 use mathlib.Core.Path.{sym, ap, _∙_}
 use Rattle.domain.specs.Size.{sizeFor}
+use Rattle.domain.proofs.SizeLaws.{sizeFor-past}
 use Rattle.circuit.proofs.Entries.{length-entriesOf}
 use Rattle.circuit.proofs.matrices.size_of.Statement.{statement}
 use Rattle.circuit.proofs.matrices.size_of.Tie as tie
+
+cast-if1 : tie.Need-cast-if1
+cast-if1 c = search needs
+
+returns : tie.Need-returns
+returns c =
+    let l = c .before .before .args .entries .now in
+    sym (ap sizeFor (length-entriesOf l) ∙ sizeFor-past _ (c .if1 .taken))
 
 cast-size-for : tie.Need-cast-size-for
 cast-size-for c = search needs
@@ -12,8 +21,10 @@ cast-size-for c = search needs
 size-for-requires : tie.Need-size-for-requires
 size-for-requires c κs = search needs
 
-returns : tie.Need-returns
-returns c = c .size-for .ensures ∙ ap sizeFor (sym (length-entriesOf (c .before .before .args .entries .now)))
+returns-2 : tie.Need-returns-2
+returns-2 c =
+    let l = c .before .before .before .args .entries .now in
+    c .size-for .ensures ∙ ap sizeFor (sym (length-entriesOf l))
 
 pub size-of-spec : {M : Type 1} → statement M
-size-of-spec = tie.close (tie.spec cast-size-for size-for-requires returns)
+size-of-spec = tie.close (tie.spec cast-if1 returns cast-size-for size-for-requires returns-2)

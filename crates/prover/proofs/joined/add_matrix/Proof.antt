@@ -32,7 +32,7 @@ shorter : {n l z : ℕ} (m : ℕ) → n - 1 ≡ l → n ≡ sizeFor m → sizeFo
 shorter m long e le = omega arith
 
 size-of-requires : tie.Need-size-of-requires
-size-of-requires c κs = c .before .before .pre .1 .1 .0 .few
+size-of-requires c κs = search needs
 
 add-invert : tie.Need-add-invert
 add-invert c = search needs
