@@ -6,3 +6,4 @@ pub mod MatrixTerms
 pub mod MatrixLists
 pub mod MatrixForms
 pub mod JoinedForms
+pub mod CallLaws

@@ -1,2 +1,3 @@
 pub mod LineSums
 pub mod MatrixGiven
+pub mod CallGiven

@@ -2,5 +2,6 @@
 pub mod joined;
 pub mod line;
 pub mod matrix;
+pub mod openings;
 pub mod rows;
 pub mod witness;

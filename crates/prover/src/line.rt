@@ -22,8 +22,10 @@ ghost use Rattle.protocol.specs.Meanings.{three};
 ghost use Rattle.protocol.specs.Messages.{line as linePoly, lineRemainder, lineQuotient};
 ghost use Rattle.protocol.proofs.AdmissionLaws.{WellFormed};
 ghost use Rattle.protocol.proofs.ProverForms.{columnSum};
-ghost use Rattle.circuit.specs.Given.{Within, EachWithin, entryLists};
+ghost use Rattle.circuit.specs.Given.{proverInput, Fits, Within, EachWithin, entryLists};
 ghost use Rattle.prover.specs.LineSums.{columnTotal};
+ghost use Rattle.prover.specs.CallGiven.{lineIn};
+use crate::witness;
 use protocol::Triple;
 
 // L of each element of the domain of size n at alpha, in order.
@@ -138,6 +140,40 @@ pub fn line_into(
     weights_into(p, r, c, a, b, m, alpha, eta, &mut weights[..n]);
     poly::multiply_into(p, &weights[..n], assignment, out);
     poly::add_scaled(p, out, 1, mask);
+}
+
+// The line from what a call is given: ŵ, then ẑ, then the line.
+pub fn line_of(
+    p: u32,
+    r: u32,
+    c: u32,
+    x: u32,
+    ea: &[u32],
+    eb: &[u32],
+    ec: &[u32],
+    z: &[u32],
+    mask: u32,
+    m: &[u32],
+    alpha: u32,
+    eta: Triple,
+    out: &mut [u32],
+)
+    requires { ⌜ 1 < p ⌝ }
+    requires { ⌜ Fits p r c x (now ea) (now eb) (now ec) (now z) (now m) ⌝ }
+    requires { ⌜ length (now out) ≡ 2 * c ⌝ }
+    ensures { λ _. ⌜ ((q : Prime) → Known q p → Qualifies q
+        → now (out .exit)
+        ≡ words (lineIn q
+        (proverInput r c x (now (ea .entry)) (now (eb .entry)) (now (ec .entry)) (now (z .entry)) mask (now (m .entry)))
+        alpha (three eta))) ⌝ }
+{
+    let n = (c - x) as usize + 1;
+    let l = c as usize + 1;
+    let mut witness = [0u32; 1024];
+    witness::witness_into(p, c, x, z, mask, &mut witness[..n]);
+    let mut assignment = [0u32; 1025];
+    witness::assignment_into(p, c, x, z, &witness[..n], &mut assignment[..l]);
+    line_into(p, r, c, ea, eb, ec, &assignment[..l], m, alpha, eta, out);
 }
 
 // All words but the first.
