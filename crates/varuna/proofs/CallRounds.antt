@@ -1,131 +1,15 @@
--- Calls with a circuit that the table of refusals lets through: what is known of their inputs. Assumes nothing.
-use mathlib.Core.Path.{_≡_, refl, sym, ap, _∙_, subst⁻¹}
-use mathlib.Core.Bool.{Bool, true, not}
-use mathlib.Core.List.{List, [], _∷_, _++_, map}
-use mathlib.Core.Option.{none}
-use Prim.Native.Nat.{ℕ, _+_, _-_, _*_, _≤_, _<_, max}
+-- Slices that a round lends, one shorter than |K_M| and |K|; and the module's prime. Assumes nothing.
+use mathlib.Core.Path.{_≡_, refl}
+use mathlib.Core.Bool.{true}
+use Prim.Native.Nat.{ℕ, _+_, _-_, _<_, max}
 use native.Mathlib.Omega.{arith}
 use lib.Dec.{eqb}
-use lib.ListN.{length, length-map}
-use borrow.Author.Tests.{le-leb, eqb-true, not-true}
-use Rattle.algebra.specs.Counting.{All}
-use Rattle.algebra.proofs.Counting.{append-all}
-use Rattle.field.specs.Prime.{Prime}
-use Rattle.field.specs.Element.{Elem, of}
-use Rattle.domain.specs.Size.{maxSize, isSize, sizeFor}
-use Rattle.domain.specs.Domain.{inside}
-use Rattle.domain.specs.Polynomial.{valuesOn}
-use Rattle.domain.specs.Qualifies.{Qualifies}
+use borrow.Author.Tests.{eqb-true}
+use Rattle.domain.specs.Size.{sizeFor}
 use Rattle.domain.specs.Known.{Known}
 use Rattle.domain.specs.BabyBear.{babyBear}
-use Rattle.protocol.specs.Three.{MatrixName, A, B, C, at}
-use Rattle.protocol.specs.Circuit.{Circuit, sizesOf, largest}
-use Rattle.protocol.specs.Refusals.{first, refuse, pairs, sizeTests, sizeRefusal, listRefusal, wordRefusal, entryRefusal, maskRefusal, assignmentRefusal, challengeRefusal}
-use Rattle.protocol.specs.Admission.{Admitted, assignmentTests, countTests, entryValues, circuitRefusals}
-use Rattle.protocol.specs.Calls.{CircuitWords, entriesOf, circuitOf, entryListTests, roundRefusal}
-use Rattle.protocol.proofs.RefusalLaws.{first-none, none-first, refuse-none, none-refuse, wordRefusal-none, none-wordRefusal}
-use Rattle.protocol.proofs.AdmissionLaws.{admitted-well-formed}
-use Rattle.protocol.proofs.Witness.{assignment-values}
-use Rattle.circuit.specs.Given.{given, EntryWords, ThreeLists, CircuitShaped, Shaped, EachWithin}
-use Rattle.circuit.specs.Judgement.{indexShapeRefusal, shapeRefusal, indexContentsRefusal, contentsRefusal}
-use Rattle.circuit.proofs.Entries.{length-entriesOf}
-use Rattle.domain.proofs.SizeLaws.{size-positive, size-bound, sizeFor-is-size}
-use Rattle.circuit.proofs.Parts.{larger-is-size, index-in-parts, prover-in-parts, index-shape-fits, shape-fits, entries-within}
-use Rattle.prover.specs.MatrixGiven.{Given, Challenged, lists}
-use Rattle.varuna.specs.Inputs.{proverInput, Fits, assignmentIn}
-
--- 1,024 entries at most
-pub few-entries : (l : List ℕ) → EntryWords l → length (entriesOf l) ≤ maxSize
-few-entries l h = omega (arith, length-entriesOf l, h .few)
-
-module _ (r c x : ℕ) (ea eb ec : List ℕ) where
-  abbrev words : CircuitWords
-  words = given r c x ea eb ec
-
-  -- the sizes pass 4
-  shape-size : (z m : List ℕ) → shapeRefusal words z m ≡ none → sizeRefusal (sizeTests r c x []) ≡ none
-  unfolding shapeRefusal
-  shape-size z m free =
-      first-none (sizeRefusal (sizeTests r c x []) ∷ listRefusal (entryListTests words ++ assignmentTests (circuitOf words) z m) ∷ []) free .0
-
-  counts-pass : ThreeLists ea eb ec → All (λ t. t ≡ true) (countTests (circuitOf words))
-  unfolding countTests circuitOf
-  counts-pass h =
-      (le-leb _ _ (few-entries ea (h .list-a)), (le-leb _ _ (few-entries eb (h .list-b)), (le-leb _ _ (few-entries ec (h .list-c)), tt)))
-
-  append-nil : (l : List ℕ) → l ++ [] ≡ l
-  append-nil [] = refl
-  append-nil (w ∷ l) = ap (λ m. w ∷ m) (append-nil l)
-
-  -- a circuit that passes 4 to 7
-  admitted : (q : Prime) (ws : List ℕ) → sizeRefusal (sizeTests r c x []) ≡ none → ThreeLists ea eb ec
-      → wordRefusal q (entryValues (circuitOf words) ++ ws) ≡ none → entryRefusal (circuitOf words) ≡ none → Admitted q (circuitOf words)
-  unfolding circuitRefusals listRefusal circuitOf
-  admitted q ws size lists below entries =
-      let values : List ℕ = entryValues (circuitOf words) in
-      none-first (circuitRefusals q (circuitOf words) (countTests (circuitOf words)) []) (
-        size,
-        (
-          none-refuse 5 0 (countTests (circuitOf words)) (counts-pass lists),
-          (
-            ap (wordRefusal q) (append-nil values)
-                ∙ none-wordRefusal q values (append-all (λ w. w < q .p) values ws (wordRefusal-none q (values ++ ws) below) .0),
-            (entries, tt),
-          ),
-        ),
-      )
-
-  -- α, β, γ are outside R, C, K
-  abbrev pub pointTests : (q : Prime) → List ℕ → List Bool
-  pointTests q points = pairs (λ n (y : Elem q). not (inside n y)) (r ∷ c ∷ largest (sizesOf (circuitOf words) .K) ∷ []) (map of points)
-
-  module _ (q : Prime) (z m : List ℕ) (mask : ℕ) (lent due challenges points : List ℕ) where
-    -- what a round that is let through brings
-    pub record RoundFits : Type 0 where
-      pub fits : Fits q r c x ea eb ec z m
-      pub lent-fit : All (λ t. t ≡ true) (pairs eqb lent due)
-      pub outside : All (λ t. t ≡ true) (pointTests q points)
-
-    pub round-fits : roundRefusal q (proverInput r c x ea eb ec z mask m) lent due challenges points ≡ none → RoundFits
-    unfolding roundRefusal contentsRefusal challengeRefusal circuitOf
-    round-fits free =
-        let k : Circuit = circuitOf words in
-        let parts =
-        first-none (shapeRefusal words z m ∷ refuse 5 5 (pairs eqb lent due) ∷ contentsRefusal q k z mask m challenges points ∷ [])
-        (sym (prover-in-parts q words (pairs eqb lent due) z mask m challenges points) ∙ free) in
-        let shape : Shaped r c ea eb ec z m = shape-fits r c x ea eb ec z m (parts .0) in
-        let contents =
-        first-none
-        (wordRefusal q (entryValues k ++ (z ++ (mask ∷ (m ++ challenges)))) ∷ entryRefusal k ∷ maskRefusal {q = q} k (map of m)
-        ∷ assignmentRefusal {q = q} k (map of z) ∷ challengeRefusal {q = q} 0 (k .R ∷ k .C ∷ largest (sizesOf k .K) ∷ []) (map of points) ∷ [])
-        (parts .1 .1 .0) in
-        record {
-          fits =
-              record {
-                well-formed =
-                    admitted-well-formed q k
-                    (admitted q (z ++ (mask ∷ (m ++ challenges))) (shape-size z m (parts .0)) (shape .circuit .lists) (contents .0) (contents .1 .0));
-                lists = shape .circuit .lists;
-                within = entries-within r c x ea eb ec (contents .1 .0);
-                z-length = shape .z-length;
-                m-length = shape .m-length;
-              };
-          lent-fit = refuse-none 5 5 (pairs eqb lent due) (parts .1 .0);
-          outside =
-              refuse-none 10 0 (pointTests q points) (contents .1 .1 .1 .1 .0);
-        }
-
-  module _ (q : Prime) (lent due : List ℕ) where
-    pub record IndexFits : Type 0 where
-      pub shape : CircuitShaped r c ea eb ec
-      pub lent-fit : All (λ t. t ≡ true) (pairs eqb lent due)
-
-    pub index-fits : first (circuitRefusals q (circuitOf words) (entryListTests words ++ pairs eqb lent due) []) ≡ none → IndexFits
-    index-fits free =
-        let parts =
-        first-none (indexShapeRefusal words ∷ refuse 5 3 (pairs eqb lent due) ∷ indexContentsRefusal q (circuitOf words) ∷ [])
-        (sym (index-in-parts q words (pairs eqb lent due)) ∙ free) in
-        record { shape = index-shape-fits r c x ea eb ec (parts .0); lent-fit = refuse-none 5 3 (pairs eqb lent due) (parts .1 .0) }
+use Rattle.domain.proofs.SizeLaws.{size-positive, sizeFor-is-size}
+use Rattle.circuit.proofs.Parts.{larger-is-size}
 
 -- a slice that is one shorter than |K_M|, and than |K|
 pub one-below : (l n : ℕ) → eqb l (sizeFor n - 1) ≡ true → l + 1 ≡ sizeFor n
@@ -141,69 +25,6 @@ one-below-largest l a b c e =
   where
     shorter : (l n : ℕ) → 0 < n → l ≡ n - 1 → l + 1 ≡ n
     shorter l n positive same = omega arith
-
-pub circuit-columns : (r c x : ℕ) (ea eb ec : List ℕ) → circuitOf (given r c x ea eb ec) .C ≡ c
-unfolding circuitOf
-circuit-columns r c x ea eb ec = refl
-
--- the sizes of a call that is let through
-module _ {q : Prime} {r c x : ℕ} {ea eb ec z m : List ℕ} (F : Fits q r c x ea eb ec z m) where
-  pub R-fits : isSize r ≡ true
-  unfolding circuitOf
-  R-fits = F .well-formed .R-size
-
-  pub C-fits : isSize c ≡ true
-  unfolding circuitOf
-  C-fits = F .well-formed .C-size
-
-  pub X-fits : isSize x ≡ true
-  unfolding circuitOf
-  X-fits = F .well-formed .X-size
-
-  pub X-below : x ≤ c
-  unfolding circuitOf
-  X-below = F .well-formed .X-within
-
-  pub shaped : CircuitShaped r c ea eb ec
-  shaped = record { R-size = R-fits; C-size = C-fits; lists = F .lists }
-
-  pub shares : EachWithin r (length z) ea eb ec
-  shares = subst⁻¹ (λ (n : ℕ). EachWithin r n ea eb ec) (F .z-length) (F .within)
-
-  -- ẑ has the values z on C
-  pub assignment-on-C : Qualifies q → (mask : ℕ)
-      → valuesOn (circuitOf (given r c x ea eb ec) .C) (assignmentIn q (proverInput r c x ea eb ec z mask m)) ≡ map of z
-  assignment-on-C Q mask =
-      assignment-values Q (circuitOf (given r c x ea eb ec)) (F .well-formed) (map of z) (of mask) (length-map z of ∙ F .z-length ∙ sym (circuit-columns r c x ea eb ec))
-
-  -- arrays are long enough
-  pub witness-bound : c - x + 1 ≤ 1024
-  witness-bound = omega (arith, size-bound c C-fits, size-positive x X-fits, X-below)
-
-  pub assignment-bound : c + 1 ≤ 1025
-  assignment-bound = omega (arith, size-bound c C-fits)
-
-  pub line-bound : 2 * c ≤ 2048
-  line-bound = omega (arith, size-bound c C-fits)
-
-  -- challenges outside R and C
-  pub challenged : (α β : ℕ) (rest : List ℕ) → All (λ t. t ≡ true) (pointTests r c x ea eb ec q (α ∷ β ∷ rest))
-      → Challenged q (q .p) (circuitOf (given r c x ea eb ec)) α β
-  unfolding circuitOf
-  challenged α β rest outside =
-      record {
-        well-formed = F .well-formed;
-        α-outside = not-true (inside {q = q} r (of α)) (outside .0);
-        β-outside = not-true (inside {q = q} c (of β)) (outside .1 .0);
-      }
-
--- one matrix of the circuit
-pub matrix-given : {q : Prime} {p : ℕ} → Known q p → Qualifies q → (r c x : ℕ) (ea eb ec : List ℕ) (M : MatrixName)
-    → Given q p r c (at (lists ea eb ec) M) (circuitOf (given r c x ea eb ec)) M
-unfolding circuitOf
-matrix-given known Q r c x ea eb ec A = record { known = known; qualifies = Q; rows = refl; columns = refl; matrix = refl }
-matrix-given known Q r c x ea eb ec B = record { known = known; qualifies = Q; rows = refl; columns = refl; matrix = refl }
-matrix-given known Q r c x ea eb ec C = record { known = known; qualifies = Q; rows = refl; columns = refl; matrix = refl }
 
 pub known-prime : Known babyBear (babyBear .p)
 known-prime = record { is-module = refl; value = refl }

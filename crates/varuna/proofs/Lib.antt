@@ -2,6 +2,5 @@ pub mod AnswerLaws
 pub mod AnswerLent
 pub mod CallPolynomials
 pub mod CallRounds
-pub mod CallParts
 pub mod Padding
 pub mod Turns

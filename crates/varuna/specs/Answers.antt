@@ -1,17 +1,19 @@
 -- What the answers of public calls mean, and what a call leaves in its lent slices. Assumes nothing.
+use mathlib.Core.Path.{_≡_, refl}
 use mathlib.Core.List.{List, [], _∷_, _++_}
 use Prim.Native.Nat.{ℕ}
 use Rattle.protocol.specs.declared.Opened.{Opened}
-use Rattle.protocol.specs.Three.{Three, listed}
+use Rattle.protocol.specs.Three.{Three}
+use Rattle.protocol.specs.Checks.{listOpenings}
 use Rattle.protocol.specs.Refusals.{Outcome, Done, Refused}
-use Rattle.protocol.specs.Meanings.{three}
+use Rattle.protocol.specs.Meanings as meanings
+use Rattle.prover.specs.CallGiven.{messageList, indexList}
 use Rattle.varuna.specs.declared.answers.Word.{Word}
 use Rattle.varuna.specs.declared.answers.Word.the-variants as word
 use Rattle.varuna.specs.declared.answers.ThreeWords.{ThreeWords}
 use Rattle.varuna.specs.declared.answers.ThreeWords.the-variants as three-words
 use Rattle.varuna.specs.declared.answers.Filled.{Filled}
 use Rattle.varuna.specs.declared.answers.Filled.the-variants as filled
-use Rattle.varuna.specs.declared.answers.IndexOpened.{IndexOpened}
 use Rattle.varuna.specs.declared.answers.IndexesOpened.{IndexesOpened}
 use Rattle.varuna.specs.declared.answers.Openings as declared-openings
 use Rattle.varuna.specs.declared.answers.Openings.the-variants as openings
@@ -45,16 +47,16 @@ module _ {S : Type 0} where
   fillsThree (Done result) before = filling (threeAnswer (Done (result .0))) (result .1)
   fillsThree (Refused r) before = filling (three-words.Refused (r .number) (r .position)) before
 
--- the openings in order
-abbrev pub indexList : IndexOpened → List ℕ
-indexList i = i .row ∷ i .col ∷ i .rowcol ∷ i .rowcolval ∷ []
-
+-- the openings of the index polynomials in order, and as the session's last step takes them
 abbrev pub indexesList : IndexesOpened → List ℕ
 indexesList i = indexList (i .a) ++ (indexList (i .b) ++ indexList (i .c))
 
-abbrev pub messageList : Opened → List ℕ
-messageList o =
-    o .witness ∷ o .mask ∷ o .lineRemainder ∷ o .lineQuotient ∷ o .rowQuotient ∷ o .joinedQuotient ∷ listed (three (o .matrixRemainders))
+abbrev pub indexArrays : IndexesOpened → List (List ℕ)
+indexArrays i = indexList (i .a) ∷ indexList (i .b) ∷ indexList (i .c) ∷ []
+
+-- the 21 openings that a call answers are those that the last step hears, when it is given the answer
+pub handed-over : (o : Opened) (i : IndexesOpened) → listOpenings (meanings.openings o (indexArrays i)) ≡ messageList o ++ indexesList i
+handed-over o i = refl
 
 abbrev pub openingsMeaning : declared-openings.Openings → Outcome (List ℕ)
 openingsMeaning (openings.Value o i) = Done (messageList o ++ indexesList i)

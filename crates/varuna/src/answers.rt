@@ -1,6 +1,9 @@
 // What public calls answer. A refusal carries its number and position; specs/Answers.antt gives the meaning of each case.
+ghost use mathlib.Core.Path.{_≡_};
+ghost use Rattle.varuna.specs.Answers.{indexArrays};
 use protocol::Opened;
 use protocol::Triple;
+use prover::openings::IndexOpened;
 
 // One word.
 pub enum Word {
@@ -20,19 +23,27 @@ pub enum Filled {
     Refused(u32, usize),
 }
 
-// The openings of one matrix's index polynomials.
-pub struct IndexOpened {
-    pub row: u32,
-    pub col: u32,
-    pub rowcol: u32,
-    pub rowcolval: u32,
-}
-
 // The openings of all index polynomials.
 pub struct IndexesOpened {
     pub a: IndexOpened,
     pub b: IndexOpened,
     pub c: IndexOpened,
+}
+
+impl IndexesOpened {
+    // row, col, rowcol, rowcolval of A, then B, then C, as the session's last step takes them.
+    pub fn arrays(self) -> [[u32; 4]; 3]
+        ensures { λ r. ⌜ r ≡ indexArrays self ⌝ }
+    {
+        let a = self.a;
+        let b = self.b;
+        let c = self.c;
+        [
+            [a.row, a.col, a.rowcol, a.rowcolval],
+            [b.row, b.col, b.rowcol, b.rowcolval],
+            [c.row, c.col, c.rowcol, c.rowcolval],
+        ]
+    }
 }
 
 // The 21 openings.

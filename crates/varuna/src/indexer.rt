@@ -1,15 +1,19 @@
 // The indexer.
 ghost use mathlib.Core.Path.{_≡_};
+ghost use mathlib.Core.List.{List};
+ghost use Prim.Native.Nat.{ℕ};
 ghost use lib.ListN.{length};
 ghost use Rattle.domain.specs.BabyBear.{babyBear};
-ghost use Rattle.protocol.specs.Three.{mapThree};
-ghost use Rattle.protocol.specs.Index.{mapIndex};
+ghost use Rattle.protocol.specs.Three.{Three, mapThree};
+ghost use Rattle.protocol.specs.Index.{Index, mapIndex};
 ghost use Rattle.protocol.specs.Calls.{indexCall};
 ghost use Rattle.circuit.specs.Given.{given};
 ghost use Rattle.varuna.specs.Answers.{filling, fills};
 ghost use Rattle.varuna.specs.Inputs.{twelve};
 use crate::answers::Filled;
-use crate::judging;
+use circuit::indexer::index_matrix_into;
+use circuit::judging::judge_index;
+use circuit::matrices::size_of;
 use field::MODULE_PRIME;
 use protocol::Fault;
 
@@ -35,11 +39,18 @@ pub fn index(
     rowcolC: &mut [u32],
     rowcolvalC: &mut [u32],
 ) -> Filled
-    ensures { λ f. ⌜ filling f (twelve (now (rowA .exit)) (now (colA .exit)) (now (rowcolA .exit)) (now (rowcolvalA .exit)) (now (rowB .exit)) (now (colB .exit)) (now (rowcolB .exit)) (now (rowcolvalB .exit)) (now (rowC .exit)) (now (colC .exit)) (now (rowcolC .exit)) (now (rowcolvalC .exit)))
-        ≡ fills (indexCall babyBear (given r c x (now (ea .entry)) (now (eb .entry)) (now (ec .entry)))
-        (mapThree (mapIndex length) (twelve (now (rowA .entry)) (now (colA .entry)) (now (rowcolA .entry)) (now (rowcolvalA .entry)) (now (rowB .entry)) (now (colB .entry)) (now (rowcolB .entry)) (now (rowcolvalB .entry)) (now (rowC .entry)) (now (colC .entry)) (now (rowcolC .entry)) (now (rowcolvalC .entry)))))
-        (twelve (now (rowA .entry)) (now (colA .entry)) (now (rowcolA .entry)) (now (rowcolvalA .entry)) (now (rowB .entry)) (now (colB .entry)) (now (rowcolB .entry)) (now (rowcolvalB .entry)) (now (rowC .entry)) (now (colC .entry)) (now (rowcolC .entry)) (now (rowcolvalC .entry))) ⌝ }
+    ensures { λ f. ⌜ (let before : Three (Index (List ℕ)) =
+        twelve (now (rowA .entry)) (now (colA .entry)) (now (rowcolA .entry)) (now (rowcolvalA .entry))
+        (now (rowB .entry)) (now (colB .entry)) (now (rowcolB .entry)) (now (rowcolvalB .entry))
+        (now (rowC .entry)) (now (colC .entry)) (now (rowcolC .entry)) (now (rowcolvalC .entry)) in
+        filling f
+        (twelve (now (rowA .exit)) (now (colA .exit)) (now (rowcolA .exit)) (now (rowcolvalA .exit))
+        (now (rowB .exit)) (now (colB .exit)) (now (rowcolB .exit)) (now (rowcolvalB .exit))
+        (now (rowC .exit)) (now (colC .exit)) (now (rowcolC .exit)) (now (rowcolvalC .exit)))
+        ≡ fills
+        (indexCall babyBear (given r c x (now (ea .entry)) (now (eb .entry)) (now (ec .entry))) (mapThree (mapIndex length) before)) before) ⌝ }
 {
+    let p = MODULE_PRIME;
     let lent = [
         rowA.len(),
         colA.len(),
@@ -54,43 +65,16 @@ pub fn index(
         rowcolC.len(),
         rowcolvalC.len(),
     ];
-    let ka = judging::matrix_size(ea);
-    let kb = judging::matrix_size(eb);
-    let kc = judging::matrix_size(ec);
+    let ka = size_of(ea) as usize;
+    let kb = size_of(eb) as usize;
+    let kc = size_of(ec) as usize;
     let due = [ka, ka, ka, ka, kb, kb, kb, kb, kc, kc, kc, kc];
-    let fault = judging::judge_index(r, c, x, ea, eb, ec, &lent, &due);
+    let fault = judge_index(p, r, c, x, ea, eb, ec, &lent, &due);
     match fault {
         Fault::Fine => {
-            circuit::indexer::index_matrix_into(
-                MODULE_PRIME,
-                r,
-                c,
-                ea,
-                rowA,
-                colA,
-                rowcolA,
-                rowcolvalA,
-            );
-            circuit::indexer::index_matrix_into(
-                MODULE_PRIME,
-                r,
-                c,
-                eb,
-                rowB,
-                colB,
-                rowcolB,
-                rowcolvalB,
-            );
-            circuit::indexer::index_matrix_into(
-                MODULE_PRIME,
-                r,
-                c,
-                ec,
-                rowC,
-                colC,
-                rowcolC,
-                rowcolvalC,
-            );
+            index_matrix_into(p, r, c, ea, rowA, colA, rowcolA, rowcolvalA);
+            index_matrix_into(p, r, c, eb, rowB, colB, rowcolB, rowcolvalB);
+            index_matrix_into(p, r, c, ec, rowC, colC, rowcolC, rowcolvalC);
             Filled::Done
         }
         Fault::Refused(number, position) => Filled::Refused(number, position),

@@ -3,8 +3,6 @@
 pub mod answers;
 pub mod arithmetic;
 pub mod indexer;
-mod judging;
-mod parts;
 pub mod polynomials;
 pub mod records;
 pub mod rounds;

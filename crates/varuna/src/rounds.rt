@@ -7,15 +7,19 @@ ghost use Rattle.domain.specs.BabyBear.{babyBear};
 ghost use Rattle.protocol.specs.Meanings.{three};
 ghost use Rattle.protocol.specs.Calls.{firstRoundCall, secondRoundCall, thirdRoundCall, fourthRoundCall, fifthRoundCall, openingsCall};
 ghost use Rattle.varuna.specs.Answers.{threeAnswer, filling, fills, fillsThree, openingsMeaning};
-ghost use Rattle.varuna.specs.Inputs.{proverInput, threeOf};
+ghost use Rattle.circuit.specs.Given.{proverInput};
+ghost use Rattle.varuna.specs.Inputs.{threeOf};
 use crate::answers::Filled;
+use crate::answers::IndexesOpened;
 use crate::answers::Openings;
 use crate::answers::ThreeWords;
-use crate::judging;
-use crate::parts;
+use circuit::judging;
+use circuit::matrices;
 use field::MODULE_PRIME;
 use protocol::Fault;
 use protocol::Triple;
+use prover::openings::index_at;
+use prover::openings::messages_opened;
 
 // Round 1: ŵ, of |C| - |X| + 1 words, and h0, of |R| - 1, into slices.
 pub fn first_round(
@@ -32,19 +36,19 @@ pub fn first_round(
     rowQuotient: &mut [u32],
 ) -> Filled
     ensures { λ f. ⌜ filling f (now (witness .exit), now (rowQuotient .exit))
-        ≡ fills (firstRoundCall babyBear (proverInput r c x (now (ea .entry)) (now (eb .entry)) (now (ec .entry)) (now (z .entry)) mask (now (m .entry))) (length (now (witness .entry))) (length (now (rowQuotient .entry)))) (now (witness .entry), now (rowQuotient .entry)) ⌝ }
+        ≡ fills (firstRoundCall babyBear
+        (proverInput r c x (now (ea .entry)) (now (eb .entry)) (now (ec .entry)) (now (z .entry)) mask (now (m .entry)))
+        (length (now (witness .entry))) (length (now (rowQuotient .entry)))) (now (witness .entry), now (rowQuotient .entry)) ⌝ }
 {
+    let p = MODULE_PRIME;
     let lent = [witness.len(), rowQuotient.len()];
-    let due = [
-        judging::less(c as usize, x as usize) + 1,
-        judging::less(r as usize, 1),
-    ];
+    let due = [judging::less(c, x) + 1, judging::less(r, 1)];
     let none = &z[..0];
-    let fault = judging::judge_round(r, c, x, ea, eb, ec, z, mask, m, &lent, &due, none, none);
+    let fault = judging::judge_round(p, r, c, x, ea, eb, ec, z, mask, m, &lent, &due, none, none);
     match fault {
         Fault::Fine => {
-            prover::witness::witness_into(MODULE_PRIME, c, x, z, mask, witness);
-            prover::rows::row_quotient_into(MODULE_PRIME, r, ea, eb, ec, z, rowQuotient);
+            prover::witness::witness_into(p, c, x, z, mask, witness);
+            prover::rows::row_quotient_into(p, r, ea, eb, ec, z, rowQuotient);
             Filled::Done
         }
         Fault::Refused(number, position) => Filled::Refused(number, position),
@@ -64,31 +68,20 @@ pub fn second_round(
     m: &[u32],
     alpha: u32,
 ) -> ThreeWords
-    ensures { λ f. ⌜ f ≡ threeAnswer (secondRoundCall babyBear (proverInput r c x (now (ea .entry)) (now (eb .entry)) (now (ec .entry)) (now (z .entry)) mask (now (m .entry))) alpha) ⌝ }
+    ensures { λ f. ⌜ f
+        ≡ threeAnswer (secondRoundCall babyBear
+        (proverInput r c x (now (ea .entry)) (now (eb .entry)) (now (ec .entry)) (now (z .entry)) mask (now (m .entry))) alpha) ⌝ }
 {
+    let p = MODULE_PRIME;
     let lengths = [0usize; 1];
     let none = &lengths[..0];
-    let challenges = [alpha];
-    let fault = judging::judge_round(
-        r,
-        c,
-        x,
-        ea,
-        eb,
-        ec,
-        z,
-        mask,
-        m,
-        none,
-        none,
-        &challenges,
-        &challenges,
-    );
+    let at = [alpha];
+    let fault = judging::judge_round(p, r, c, x, ea, eb, ec, z, mask, m, none, none, &at, &at);
     match fault {
         Fault::Fine => ThreeWords::Value(Triple {
-            a: prover::rows::row_sum_value(MODULE_PRIME, r, ea, z, alpha),
-            b: prover::rows::row_sum_value(MODULE_PRIME, r, eb, z, alpha),
-            c: prover::rows::row_sum_value(MODULE_PRIME, r, ec, z, alpha),
+            a: prover::rows::row_sum_value(p, r, ea, z, alpha),
+            b: prover::rows::row_sum_value(p, r, eb, z, alpha),
+            c: prover::rows::row_sum_value(p, r, ec, z, alpha),
         }),
         Fault::Refused(number, position) => ThreeWords::Refused(number, position),
     }
@@ -111,34 +104,25 @@ pub fn third_round(
     quotient: &mut [u32],
 ) -> Filled
     ensures { λ f. ⌜ filling f (now (remainder .exit), now (quotient .exit))
-        ≡ fills (thirdRoundCall babyBear (proverInput r c x (now (ea .entry)) (now (eb .entry)) (now (ec .entry)) (now (z .entry)) mask (now (m .entry))) alpha (three eta) (length (now (remainder .entry))) (length (now (quotient .entry)))) (now (remainder .entry), now (quotient .entry)) ⌝ }
+        ≡ fills (thirdRoundCall babyBear
+        (proverInput r c x (now (ea .entry)) (now (eb .entry)) (now (ec .entry)) (now (z .entry)) mask (now (m .entry)))
+        alpha (three eta) (length (now (remainder .entry))) (length (now (quotient .entry))))
+        (now (remainder .entry), now (quotient .entry)) ⌝ }
 {
+    let p = MODULE_PRIME;
     let lent = [remainder.len(), quotient.len()];
-    let due = [judging::less(c as usize, 1), c as usize];
-    let challenges = [alpha, eta.a, eta.b, eta.c];
-    let points = [alpha];
-    let fault = judging::judge_round(
-        r,
-        c,
-        x,
-        ea,
-        eb,
-        ec,
-        z,
-        mask,
-        m,
-        &lent,
-        &due,
-        &challenges,
-        &points,
-    );
+    let due = [judging::less(c, 1), c as usize];
+    let words = [alpha, eta.a, eta.b, eta.c];
+    let at = [alpha];
+    let fault = judging::judge_round(p, r, c, x, ea, eb, ec, z, mask, m, &lent, &due, &words, &at);
     match fault {
         Fault::Fine => {
             let n = 2 * (c as usize);
-            let mut line = [0u32; 2048];
-            parts::line_of(r, c, x, ea, eb, ec, z, mask, m, alpha, eta, &mut line[..n]);
-            prover::line::line_remainder_into(MODULE_PRIME, c, &line[..n], remainder);
-            prover::line::line_quotient_into(MODULE_PRIME, c, &line[..n], quotient);
+            let mut sum = [0u32; 2048];
+            let line = &mut sum[..n];
+            prover::line::line_of(p, r, c, x, ea, eb, ec, z, mask, m, alpha, eta, line);
+            prover::line::line_remainder_into(p, c, &sum[..n], remainder);
+            prover::line::line_quotient_into(p, c, &sum[..n], quotient);
             Filled::Done
         }
         Fault::Refused(number, position) => Filled::Refused(number, position),
@@ -164,40 +148,30 @@ pub fn fourth_round(
     gc: &mut [u32],
 ) -> ThreeWords
     ensures { λ f. ⌜ filling f (threeOf (now (ga .exit)) (now (gb .exit)) (now (gc .exit)))
-        ≡ fillsThree (fourthRoundCall babyBear (proverInput r c x (now (ea .entry)) (now (eb .entry)) (now (ec .entry)) (now (z .entry)) mask (now (m .entry))) alpha (three eta) beta (threeOf (length (now (ga .entry))) (length (now (gb .entry))) (length (now (gc .entry))))) (threeOf (now (ga .entry)) (now (gb .entry)) (now (gc .entry))) ⌝ }
+        ≡ fillsThree (fourthRoundCall babyBear
+        (proverInput r c x (now (ea .entry)) (now (eb .entry)) (now (ec .entry)) (now (z .entry)) mask (now (m .entry)))
+        alpha (three eta) beta (threeOf (length (now (ga .entry))) (length (now (gb .entry))) (length (now (gc .entry)))))
+        (threeOf (now (ga .entry)) (now (gb .entry)) (now (gc .entry))) ⌝ }
 {
+    let p = MODULE_PRIME;
     let lent = [ga.len(), gb.len(), gc.len()];
     let due = [
-        judging::less(judging::matrix_size(ea), 1),
-        judging::less(judging::matrix_size(eb), 1),
-        judging::less(judging::matrix_size(ec), 1),
+        judging::less(matrices::size_of(ea), 1),
+        judging::less(matrices::size_of(eb), 1),
+        judging::less(matrices::size_of(ec), 1),
     ];
-    let challenges = [alpha, eta.a, eta.b, eta.c, beta];
-    let points = [alpha, beta];
-    let fault = judging::judge_round(
-        r,
-        c,
-        x,
-        ea,
-        eb,
-        ec,
-        z,
-        mask,
-        m,
-        &lent,
-        &due,
-        &challenges,
-        &points,
-    );
+    let words = [alpha, eta.a, eta.b, eta.c, beta];
+    let at = [alpha, beta];
+    let fault = judging::judge_round(p, r, c, x, ea, eb, ec, z, mask, m, &lent, &due, &words, &at);
     match fault {
         Fault::Fine => {
-            prover::matrix::matrix_remainder_into(MODULE_PRIME, r, c, ea, alpha, beta, ga);
-            prover::matrix::matrix_remainder_into(MODULE_PRIME, r, c, eb, alpha, beta, gb);
-            prover::matrix::matrix_remainder_into(MODULE_PRIME, r, c, ec, alpha, beta, gc);
+            prover::matrix::matrix_remainder_into(p, r, c, ea, alpha, beta, ga);
+            prover::matrix::matrix_remainder_into(p, r, c, eb, alpha, beta, gb);
+            prover::matrix::matrix_remainder_into(p, r, c, ec, alpha, beta, gc);
             ThreeWords::Value(Triple {
-                a: prover::matrix::matrix_value(MODULE_PRIME, r, c, ea, alpha, beta),
-                b: prover::matrix::matrix_value(MODULE_PRIME, r, c, eb, alpha, beta),
-                c: prover::matrix::matrix_value(MODULE_PRIME, r, c, ec, alpha, beta),
+                a: prover::matrix::matrix_value(p, r, c, ea, alpha, beta),
+                b: prover::matrix::matrix_value(p, r, c, eb, alpha, beta),
+                c: prover::matrix::matrix_value(p, r, c, ec, alpha, beta),
             })
         }
         Fault::Refused(number, position) => ThreeWords::Refused(number, position),
@@ -222,42 +196,19 @@ pub fn fifth_round(
     out: &mut [u32],
 ) -> Filled
     ensures { λ f. ⌜ filling f (now (out .exit))
-        ≡ fills (fifthRoundCall babyBear (proverInput r c x (now (ea .entry)) (now (eb .entry)) (now (ec .entry)) (now (z .entry)) mask (now (m .entry))) alpha (three eta) beta (three delta) (length (now (out .entry)))) (now (out .entry)) ⌝ }
+        ≡ fills (fifthRoundCall babyBear
+        (proverInput r c x (now (ea .entry)) (now (eb .entry)) (now (ec .entry)) (now (z .entry)) mask (now (m .entry)))
+        alpha (three eta) beta (three delta) (length (now (out .entry)))) (now (out .entry)) ⌝ }
 {
+    let p = MODULE_PRIME;
     let lent = [out.len()];
-    let rest = judging::larger(judging::matrix_size(eb), judging::matrix_size(ec));
-    let due = [judging::less(judging::larger(judging::matrix_size(ea), rest), 1)];
-    let challenges = [alpha, eta.a, eta.b, eta.c, beta, delta.a, delta.b, delta.c];
-    let points = [alpha, beta];
-    let fault = judging::judge_round(
-        r,
-        c,
-        x,
-        ea,
-        eb,
-        ec,
-        z,
-        mask,
-        m,
-        &lent,
-        &due,
-        &challenges,
-        &points,
-    );
+    let due = [judging::less(matrices::largest_size(ea, eb, ec), 1)];
+    let words = [alpha, eta.a, eta.b, eta.c, beta, delta.a, delta.b, delta.c];
+    let at = [alpha, beta];
+    let fault = judging::judge_round(p, r, c, x, ea, eb, ec, z, mask, m, &lent, &due, &words, &at);
     match fault {
         Fault::Fine => {
-            prover::joined::joined_quotient_into(
-                MODULE_PRIME,
-                r,
-                c,
-                ea,
-                eb,
-                ec,
-                alpha,
-                beta,
-                delta,
-                out,
-            );
+            prover::joined::joined_quotient_into(p, r, c, ea, eb, ec, alpha, beta, delta, out);
             Filled::Done
         }
         Fault::Refused(number, position) => Filled::Refused(number, position),
@@ -281,56 +232,27 @@ pub fn openings(
     delta: Triple,
     gamma: u32,
 ) -> Openings
-    ensures { λ f. ⌜ openingsMeaning f ≡ openingsCall babyBear (proverInput r c x (now (ea .entry)) (now (eb .entry)) (now (ec .entry)) (now (z .entry)) mask (now (m .entry))) alpha (three eta) beta (three delta) gamma ⌝ }
+    ensures { λ f. ⌜ openingsMeaning f
+        ≡ openingsCall babyBear
+        (proverInput r c x (now (ea .entry)) (now (eb .entry)) (now (ec .entry)) (now (z .entry)) mask (now (m .entry)))
+        alpha (three eta) beta (three delta) gamma ⌝ }
 {
+    let p = MODULE_PRIME;
     let lengths = [0usize; 1];
     let none = &lengths[..0];
-    let challenges = [
-        alpha,
-        eta.a,
-        eta.b,
-        eta.c,
-        beta,
-        delta.a,
-        delta.b,
-        delta.c,
-        gamma,
-    ];
-    let points = [alpha, beta, gamma];
-    let fault = judging::judge_round(
-        r,
-        c,
-        x,
-        ea,
-        eb,
-        ec,
-        z,
-        mask,
-        m,
-        none,
-        none,
-        &challenges,
-        &points,
-    );
+    let e = eta;
+    let d = delta;
+    let words = [alpha, e.a, e.b, e.c, beta, d.a, d.b, d.c, gamma];
+    let at = [alpha, beta, gamma];
+    let fault = judging::judge_round(p, r, c, x, ea, eb, ec, z, mask, m, none, none, &words, &at);
     match fault {
         Fault::Fine => Openings::Value(
-            parts::messages_opened(
-                r,
-                c,
-                x,
-                ea,
-                eb,
-                ec,
-                z,
-                mask,
-                m,
-                alpha,
-                eta,
-                beta,
-                delta,
-                gamma,
-            ),
-            parts::indexes_opened(r, c, ea, eb, ec, gamma),
+            messages_opened(p, r, c, x, ea, eb, ec, z, mask, m, alpha, e, beta, d, gamma),
+            IndexesOpened {
+                a: index_at(p, r, c, ea, gamma),
+                b: index_at(p, r, c, eb, gamma),
+                c: index_at(p, r, c, ec, gamma),
+            },
         ),
         Fault::Refused(number, position) => Openings::Refused(number, position),
     }

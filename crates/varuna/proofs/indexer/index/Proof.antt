@@ -1,7 +1,7 @@
 -- `varuna::indexer::index` meets its contract. Assumes nothing.
 use mathlib.Core.Path.{_≡_, refl, sym, ap, ap₂, _∙_}
 use mathlib.Core.List.{List, [], _∷_, _++_}
-use Prim.Native.Nat.{ℕ, _+_}
+use Prim.Native.Nat.{ℕ}
 use lib.Dec.{eqb, lit<}
 use lib.ListN.{length}
 use borrow.Author.Tests.{eqb-true}
@@ -18,7 +18,8 @@ use Rattle.protocol.specs.Calls.{CircuitWords, circuitOf, entriesOf, entryListT
 use Rattle.circuit.specs.Given.{given}
 use Rattle.varuna.specs.Inputs.{twelve}
 use Rattle.varuna.proofs.AnswerLaws.{free, fill-done, three-same}
-use Rattle.varuna.proofs.CallRounds.{IndexFits, index-fits, known-prime}
+use Rattle.circuit.proofs.Fitting.{IndexFits, index-fits}
+use Rattle.varuna.proofs.CallRounds.{known-prime}
 use mathlib.Core.Option.{Option}
 use borrow.Author.Needs.{needs}
 use Rattle.varuna.proofs.indexer.index.Statement.{statement}
@@ -40,9 +41,9 @@ refusal s due = first (circuitRefusals babyBear (circuitOf (circuit s)) (entryLi
 judgement : (c : tie.After-judge-index) → faultRefusal (c .judge-index .result) ≡ refusal (c .before .before .before .before .before .before .before .before .before .before .before .before .before .before .before .before .before .before .before .before .before) (due (c .before .before .before .before .before .before .before .before .before .before .before .before .before .before .before .before .before .before .before .before .before))
 judgement c =
     let s = c .before .before .before .before .before .before .before .before .before .before .before .before .before .before .before .before .before .before .before .before .before in
-    c .judge-index .ensures
-    ∙ ap (λ (n : ℕ). refusal s (n ∷ n ∷ n ∷ n ∷ c .before .before .before .before .matrix-size2 .result ∷ c .before .before .before .before .matrix-size2 .result ∷ c .before .before .before .before .matrix-size2 .result ∷ c .before .before .before .before .matrix-size2 .result ∷ c .before .before .before .matrix-size3 .result ∷ c .before .before .before .matrix-size3 .result ∷ c .before .before .before .matrix-size3 .result ∷ c .before .before .before .matrix-size3 .result ∷ [])) (c .before .before .before .before .before .matrix-size .ensures)
-    ∙ ap₂ (λ (m n : ℕ). refusal s (sizeFor (length (entriesOf (s .args .ea .now))) ∷ sizeFor (length (entriesOf (s .args .ea .now))) ∷ sizeFor (length (entriesOf (s .args .ea .now))) ∷ sizeFor (length (entriesOf (s .args .ea .now))) ∷ m ∷ m ∷ m ∷ m ∷ n ∷ n ∷ n ∷ n ∷ [])) (c .before .before .before .before .matrix-size2 .ensures) (c .before .before .before .matrix-size3 .ensures)
+    c .judge-index .ensures babyBear refl
+    ∙ ap (λ (n : ℕ). refusal s (n ∷ n ∷ n ∷ n ∷ c .before .before .before .before .size-of2 .result ∷ c .before .before .before .before .size-of2 .result ∷ c .before .before .before .before .size-of2 .result ∷ c .before .before .before .before .size-of2 .result ∷ c .before .before .before .size-of3 .result ∷ c .before .before .before .size-of3 .result ∷ c .before .before .before .size-of3 .result ∷ c .before .before .before .size-of3 .result ∷ [])) (c .before .before .before .before .before .size-of .ensures)
+    ∙ ap₂ (λ (m n : ℕ). refusal s (sizeFor (length (entriesOf (s .args .ea .now))) ∷ sizeFor (length (entriesOf (s .args .ea .now))) ∷ sizeFor (length (entriesOf (s .args .ea .now))) ∷ sizeFor (length (entriesOf (s .args .ea .now))) ∷ m ∷ m ∷ m ∷ m ∷ n ∷ n ∷ n ∷ n ∷ [])) (c .before .before .before .before .size-of2 .ensures) (c .before .before .before .size-of3 .ensures)
 
 -- nothing was refused
 fits : (c : tie.After-enum-told) → IndexFits (c .before .before .before .before .before .before .before .before .before .before .before .before .before .before .before .before .before .before .before .before .before .before .before .args .r) (c .before .before .before .before .before .before .before .before .before .before .before .before .before .before .before .before .before .before .before .before .before .before .before .args .c) (c .before .before .before .before .before .before .before .before .before .before .before .before .before .before .before .before .before .before .before .before .before .before .before .args .x) (c .before .before .before .before .before .before .before .before .before .before .before .before .before .before .before .before .before .before .before .before .before .before .before .args .ea .now) (c .before .before .before .before .before .before .before .before .before .before .before .before .before .before .before .before .before .before .before .before .before .before .before .args .eb .now) (c .before .before .before .before .before .before .before .before .before .before .before .before .before .before .before .before .before .before .before .before .before .before .before .args .ec .now) babyBear (lent (c .before .before .before .before .before .before .before .before .before .before .before .before .before .before .before .before .before .before .before .before .before .before .before)) (due (c .before .before .before .before .before .before .before .before .before .before .before .before .before .before .before .before .before .before .before .before .before .before .before))
@@ -50,14 +51,23 @@ fits c =
     let s = c .before .before .before .before .before .before .before .before .before .before .before .before .before .before .before .before .before .before .before .before .before .before .before in
     index-fits (s .args .r) (s .args .c) (s .args .x) (s .args .ea .now) (s .args .eb .now) (s .args .ec .now) babyBear (lent s) (due s) (free (sym (c .enum-told .given .1)) (judgement (c .before .before)))
 
-matrix-size-requires : tie.Need-matrix-size-requires
-matrix-size-requires c κs = search needs
+size-of-requires : tie.Need-size-of-requires
+size-of-requires c κs = search needs
 
-matrix-size-requires-2 : tie.Need-matrix-size-requires-2
-matrix-size-requires-2 c κs = search needs
+cast-ka : tie.Need-cast-ka
+cast-ka c = search needs
 
-matrix-size-requires-3 : tie.Need-matrix-size-requires-3
-matrix-size-requires-3 c κs = search needs
+size-of-requires-2 : tie.Need-size-of-requires-2
+size-of-requires-2 c κs = search needs
+
+cast-kb : tie.Need-cast-kb
+cast-kb c = search needs
+
+size-of-requires-3 : tie.Need-size-of-requires-3
+size-of-requires-3 c κs = search needs
+
+cast-kc : tie.Need-cast-kc
+cast-kc c = search needs
 
 slice-aggregate-judge-index : tie.Need-slice-aggregate-judge-index
 slice-aggregate-judge-index c = search needs
@@ -176,9 +186,12 @@ pub index-spec : {M : Type 1} → statement M
 index-spec =
     tie.close
     (tie.spec
-    matrix-size-requires
-    matrix-size-requires-2
-    matrix-size-requires-3
+    size-of-requires
+    cast-ka
+    size-of-requires-2
+    cast-kb
+    size-of-requires-3
+    cast-kc
     slice-aggregate-judge-index
     slice-aggregate-judge-index-2
     judge-index-requires

@@ -1,5 +1,5 @@
 -- `varuna::rounds::fifth_round` meets its contract. Assumes nothing.
-use mathlib.Core.Path.{_≡_, refl, sym, ap, ap₂, _∙_}
+use mathlib.Core.Path.{_≡_, refl, sym, ap, _∙_}
 use mathlib.Core.List.{List, [], _∷_}
 use Prim.Native.Nat.{ℕ, _-_, max}
 use lib.Dec.{lit<}
@@ -11,10 +11,12 @@ use Rattle.protocol.specs.Circuit.{Circuit, sizesOf, largest}
 use Rattle.protocol.specs.Messages.{lengths}
 use Rattle.protocol.specs.Meanings.{faultRefusal}
 use Rattle.protocol.specs.Calls.{ProverInput, circuitOf, entriesOf, roundRefusal, fifthRoundCall}
-use Rattle.circuit.specs.Given.{given}
-use Rattle.varuna.specs.Inputs.{proverInput}
+use Rattle.circuit.specs.Given.{given, proverInput}
+use Rattle.circuit.proofs.Parts.{largest-by-counts}
 use Rattle.varuna.proofs.AnswerLaws.{free, fill-done}
-use Rattle.varuna.proofs.CallRounds.{RoundFits, round-fits, one-below-largest, shaped, challenged, matrix-given, known-prime}
+use Rattle.circuit.proofs.Fitting.{RoundFits, round-fits, shaped}
+use Rattle.prover.proofs.CallLaws.{challenged, matrix-given}
+use Rattle.varuna.proofs.CallRounds.{one-below-largest, known-prime}
 use borrow.Author.Needs.{needs}
 use Rattle.varuna.proofs.rounds.fifth_round.Statement.{statement}
 use Rattle.varuna.proofs.rounds.fifth_round.Tie as tie
@@ -37,40 +39,29 @@ points s = s .args .alpha ∷ s .args .beta ∷ []
 
 judgement : (c : tie.After-judge-round)
     → faultRefusal (c .judge-round .result)
-    ≡ roundRefusal babyBear (input (c .before .before .before .before .before .before .before .before .before .before .before .before .before .before .before .before .before)) (lent (c .before .before .before .before .before .before .before .before .before .before .before .before .before .before .before .before .before)) (due (c .before .before .before .before .before .before .before .before .before .before .before .before .before .before .before .before .before)) (challenges (c .before .before .before .before .before .before .before .before .before .before .before .before .before .before .before .before .before)) (points (c .before .before .before .before .before .before .before .before .before .before .before .before .before .before .before .before .before))
+    ≡ roundRefusal babyBear (input (c .before .before .before .before .before .before .before .before .before .before .before .before .before)) (lent (c .before .before .before .before .before .before .before .before .before .before .before .before .before)) (due (c .before .before .before .before .before .before .before .before .before .before .before .before .before)) (challenges (c .before .before .before .before .before .before .before .before .before .before .before .before .before)) (points (c .before .before .before .before .before .before .before .before .before .before .before .before .before))
+unfolding circuitOf
 judgement c =
-    let s = c .before .before .before .before .before .before .before .before .before .before .before .before .before .before .before .before .before in
-    c .judge-round .ensures
+    let s = c .before .before .before .before .before .before .before .before .before .before .before .before .before in
+    let k : Circuit = circuitOf (input s .circuit) in
+    c .judge-round .ensures babyBear babyBear-qualifies refl
     ∙ ap (λ (n : ℕ). roundRefusal babyBear (input s) (lent s) (n ∷ []) (challenges s) (points s))
     (c .before .before .before .before .before .less .ensures
     ∙ ap (λ (n : ℕ). n - 1)
-    (c .before .before .before .before .before .before .larger2 .ensures
-    ∙ ap₂ max (c .before .before .before .before .before .before .before .matrix-size3 .ensures) (c .before .before .before .before .before .before .before .before .larger .ensures ∙ ap₂ max (c .before .before .before .before .before .before .before .before .before .before .matrix-size .ensures) (c .before .before .before .before .before .before .before .before .before .matrix-size2 .ensures))))
+    (c .before .before .before .before .before .before .largest-size .ensures k refl ∙ largest-by-counts k (s .args .ea .now) (s .args .eb .now) (s .args .ec .now) refl))
 
 -- nothing was refused
 abbrev Fitting : tie.Start → Type 0
 Fitting s = RoundFits (s .args .r) (s .args .c) (s .args .x) (s .args .ea .now) (s .args .eb .now) (s .args .ec .now) babyBear (s .args .z .now) (s .args .m .now) (s .args .mask) (lent s) (due s) (challenges s) (points s)
 
-fits : (c : tie.After-enum-told) → Fitting (c .before .before .before .before .before .before .before .before .before .before .before .before .before .before .before .before .before .before .before)
+fits : (c : tie.After-enum-told) → Fitting (c .before .before .before .before .before .before .before .before .before .before .before .before .before .before .before)
 fits c =
-    let s = c .before .before .before .before .before .before .before .before .before .before .before .before .before .before .before .before .before .before .before in
+    let s = c .before .before .before .before .before .before .before .before .before .before .before .before .before .before .before in
     round-fits (s .args .r) (s .args .c) (s .args .x) (s .args .ea .now) (s .args .eb .now) (s .args .ec .now) babyBear (s .args .z .now) (s .args .m .now) (s .args .mask) (lent s) (due s) (challenges s) (points s)
     (free (sym (c .enum-told .given .1)) (judgement (c .before .before)))
 
-matrix-size-requires : tie.Need-matrix-size-requires
-matrix-size-requires c κs = search needs
-
-matrix-size-requires-2 : tie.Need-matrix-size-requires-2
-matrix-size-requires-2 c κs = search needs
-
-larger-requires : tie.Need-larger-requires
-larger-requires c κs = search needs
-
-matrix-size-requires-3 : tie.Need-matrix-size-requires-3
-matrix-size-requires-3 c κs = search needs
-
-larger-requires-2 : tie.Need-larger-requires-2
-larger-requires-2 c κs = search needs
+largest-size-requires : tie.Need-largest-size-requires
+largest-size-requires c κs = search needs
 
 less-requires : tie.Need-less-requires
 less-requires c κs = search needs
@@ -109,7 +100,7 @@ returns : tie.Need-returns
 unfolding fifthRoundCall lengths sizesOf circuitOf largest
 returns c =
     let d = c .before .before .before .before in
-    let s = d .before .before .before .before .before .before .before .before .before .before .before .before .before .before .before .before .before .before .before in
+    let s = d .before .before .before .before .before .before .before .before .before .before .before .before .before .before .before in
     let F = fits d in
     let k : Circuit = circuitOf (given (s .args .r) (s .args .c) (s .args .x) (s .args .ea .now) (s .args .eb .now) (s .args .ec .now)) in
     fill-done (s .args .out .now) (free (sym (d .enum-told .given .1)) (judgement (d .before .before)))
@@ -124,11 +115,7 @@ pub fifth-round-spec : {M : Type 1} → statement M
 fifth-round-spec =
     tie.close
     (tie.spec
-    matrix-size-requires
-    matrix-size-requires-2
-    larger-requires
-    matrix-size-requires-3
-    larger-requires-2
+    largest-size-requires
     less-requires
     slice-aggregate-judge-round
     slice-aggregate-judge-round-2

@@ -11,10 +11,12 @@ use Rattle.protocol.specs.Circuit.{Circuit, sizesOf}
 use Rattle.protocol.specs.Messages.{lengths, witness, rowQuotient}
 use Rattle.protocol.specs.Meanings.{faultRefusal}
 use Rattle.protocol.specs.Calls.{ProverInput, circuitOf, roundRefusal, firstRoundCall}
-use Rattle.circuit.specs.Given.{given}
-use Rattle.varuna.specs.Inputs.{proverInput, assignmentIn}
+use Rattle.circuit.specs.Given.{given, proverInput}
+use Rattle.prover.specs.CallGiven.{assignmentIn}
 use Rattle.varuna.proofs.AnswerLaws.{free, fill-done}
-use Rattle.varuna.proofs.CallRounds.{RoundFits, round-fits, R-fits, C-fits, X-fits, X-below, shares, assignment-on-C, known-prime}
+use Rattle.circuit.proofs.Fitting.{RoundFits, round-fits, R-fits, C-fits, X-fits, X-below, shares}
+use Rattle.prover.proofs.CallLaws.{assignment-on-C}
+use Rattle.varuna.proofs.CallRounds.{known-prime}
 use borrow.Author.Needs.{needs}
 use Rattle.varuna.proofs.rounds.first_round.Statement.{statement}
 use Rattle.varuna.proofs.rounds.first_round.Tie as tie
@@ -40,7 +42,7 @@ judgement : (c : tie.After-judge-round)
     ≡ roundRefusal babyBear (input (c .before .before .before .before .before .before .before .before .before .before .before .before .before)) (lent (c .before .before .before .before .before .before .before .before .before .before .before .before .before)) (due (c .before .before .before .before .before .before .before .before .before .before .before .before .before)) (challenges (c .before .before .before .before .before .before .before .before .before .before .before .before .before)) (points (c .before .before .before .before .before .before .before .before .before .before .before .before .before))
 judgement c =
     let s = c .before .before .before .before .before .before .before .before .before .before .before .before .before in
-    c .judge-round .ensures
+    c .judge-round .ensures babyBear babyBear-qualifies refl
     ∙ ap₂ (λ (m n : ℕ). roundRefusal babyBear (input s) (lent s) ((m + 1) ∷ n ∷ []) [] []) (c .before .before .before .before .before .less .ensures) (c .before .before .before .before .less2 .ensures)
 
 -- nothing was refused
@@ -56,8 +58,8 @@ fits c =
 less-requires : tie.Need-less-requires
 less-requires c κs = search needs
 
-add-t21 : tie.Need-add-t21
-add-t21 c = search needs
+add-t20 : tie.Need-add-t20
+add-t20 c = search needs
 
 less-requires-2 : tie.Need-less-requires-2
 less-requires-2 c κs = search needs
@@ -106,7 +108,7 @@ returns c =
     fill-done (s .args .witness .now, s .args .rowQuotient .now) (free (sym (d .enum-told .given .1)) (judgement (d .before .before)))
     (ap₂ (λ (l m : List ℕ). (l, m)) (c .before .before .before .before .before .before .witness-into .ensures babyBear known-prime k refl refl)
     (c .before .before .row-quotient-into .ensures babyBear known-prime babyBear-qualifies k (F .fits .well-formed) refl refl (assignmentIn babyBear (input s))
-    (assignment-on-C (F .fits) babyBear-qualifies (s .args .mask))))
+    (assignment-on-C (F .fits) refl babyBear-qualifies (s .args .mask))))
 
 returns-2 : tie.Need-returns-2
 unfolding firstRoundCall lengths sizesOf circuitOf
@@ -117,7 +119,7 @@ first-round-spec =
     tie.close
     (tie.spec
     less-requires
-    add-t21
+    add-t20
     less-requires-2
     slice-aggregate-none
     slice-aggregate-judge-round

@@ -13,10 +13,12 @@ use Rattle.protocol.specs.Circuit.{Circuit, sizesOf}
 use Rattle.protocol.specs.Messages.{lengths, values, matrixRemainder}
 use Rattle.protocol.specs.Meanings.{faultRefusal}
 use Rattle.protocol.specs.Calls.{ProverInput, circuitOf, entriesOf, roundRefusal, fourthRoundCall}
-use Rattle.circuit.specs.Given.{given}
-use Rattle.varuna.specs.Inputs.{proverInput, threeOf}
+use Rattle.circuit.specs.Given.{given, proverInput}
+use Rattle.varuna.specs.Inputs.{threeOf}
 use Rattle.varuna.proofs.AnswerLaws.{free, fill-three-done, three-same}
-use Rattle.varuna.proofs.CallRounds.{RoundFits, round-fits, one-below, R-fits, C-fits, challenged, matrix-given, known-prime}
+use Rattle.circuit.proofs.Fitting.{RoundFits, round-fits, R-fits, C-fits}
+use Rattle.prover.proofs.CallLaws.{challenged, matrix-given}
+use Rattle.varuna.proofs.CallRounds.{one-below, known-prime}
 use borrow.Author.Needs.{needs}
 use Rattle.varuna.proofs.rounds.fourth_round.Statement.{statement}
 use Rattle.varuna.proofs.rounds.fourth_round.Tie as tie
@@ -42,13 +44,13 @@ judgement : (c : tie.After-judge-round)
     ≡ roundRefusal babyBear (input (c .before .before .before .before .before .before .before .before .before .before .before .before .before .before .before .before .before .before .before)) (lent (c .before .before .before .before .before .before .before .before .before .before .before .before .before .before .before .before .before .before .before)) (due (c .before .before .before .before .before .before .before .before .before .before .before .before .before .before .before .before .before .before .before)) (challenges (c .before .before .before .before .before .before .before .before .before .before .before .before .before .before .before .before .before .before .before)) (points (c .before .before .before .before .before .before .before .before .before .before .before .before .before .before .before .before .before .before .before))
 judgement c =
     let s = c .before .before .before .before .before .before .before .before .before .before .before .before .before .before .before .before .before .before .before in
-    c .judge-round .ensures
+    c .judge-round .ensures babyBear babyBear-qualifies refl
     ∙ ap
     (λ (n : ℕ). roundRefusal babyBear (input s) (lent s) (n ∷ c .before .before .before .before .before .before .before .less2 .result ∷ c .before .before .before .before .before .less3 .result ∷ []) (challenges s) (points s))
-    (c .before .before .before .before .before .before .before .before .before .less .ensures ∙ ap (λ (n : ℕ). n - 1) (c .before .before .before .before .before .before .before .before .before .before .matrix-size .ensures))
+    (c .before .before .before .before .before .before .before .before .before .less .ensures ∙ ap (λ (n : ℕ). n - 1) (c .before .before .before .before .before .before .before .before .before .before .size-of .ensures))
     ∙ ap₂
     (λ (m n : ℕ). roundRefusal babyBear (input s) (lent s) ((sizeFor (length (entriesOf (s .args .ea .now))) - 1) ∷ m ∷ n ∷ []) (challenges s) (points s))
-    (c .before .before .before .before .before .before .before .less2 .ensures ∙ ap (λ (n : ℕ). n - 1) (c .before .before .before .before .before .before .before .before .matrix-size2 .ensures)) (c .before .before .before .before .before .less3 .ensures ∙ ap (λ (n : ℕ). n - 1) (c .before .before .before .before .before .before .matrix-size3 .ensures))
+    (c .before .before .before .before .before .before .before .less2 .ensures ∙ ap (λ (n : ℕ). n - 1) (c .before .before .before .before .before .before .before .before .size-of2 .ensures)) (c .before .before .before .before .before .less3 .ensures ∙ ap (λ (n : ℕ). n - 1) (c .before .before .before .before .before .before .size-of3 .ensures))
 
 -- nothing was refused
 abbrev Fitting : tie.Start → Type 0
@@ -60,20 +62,20 @@ fits c =
     round-fits (s .args .r) (s .args .c) (s .args .x) (s .args .ea .now) (s .args .eb .now) (s .args .ec .now) babyBear (s .args .z .now) (s .args .m .now) (s .args .mask) (lent s) (due s) (challenges s) (points s)
     (free (sym (c .enum-told .given .1)) (judgement (c .before .before)))
 
-matrix-size-requires : tie.Need-matrix-size-requires
-matrix-size-requires c κs = search needs
+size-of-requires : tie.Need-size-of-requires
+size-of-requires c κs = search needs
 
 less-requires : tie.Need-less-requires
 less-requires c κs = search needs
 
-matrix-size-requires-2 : tie.Need-matrix-size-requires-2
-matrix-size-requires-2 c κs = search needs
+size-of-requires-2 : tie.Need-size-of-requires-2
+size-of-requires-2 c κs = search needs
 
 less-requires-2 : tie.Need-less-requires-2
 less-requires-2 c κs = search needs
 
-matrix-size-requires-3 : tie.Need-matrix-size-requires-3
-matrix-size-requires-3 c κs = search needs
+size-of-requires-3 : tie.Need-size-of-requires-3
+size-of-requires-3 c κs = search needs
 
 less-requires-3 : tie.Need-less-requires-3
 less-requires-3 c κs = search needs
@@ -165,11 +167,11 @@ pub fourth-round-spec : {M : Type 1} → statement M
 fourth-round-spec =
     tie.close
     (tie.spec
-    matrix-size-requires
+    size-of-requires
     less-requires
-    matrix-size-requires-2
+    size-of-requires-2
     less-requires-2
-    matrix-size-requires-3
+    size-of-requires-3
     less-requires-3
     slice-aggregate-judge-round
     slice-aggregate-judge-round-2

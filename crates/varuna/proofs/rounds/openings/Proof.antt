@@ -1,20 +1,26 @@
 -- `varuna::rounds::openings` meets its contract. Assumes nothing.
 use mathlib.Core.Path.{_≡_, refl, sym, ap, ap₂, _∙_}
 use mathlib.Core.List.{List, [], _∷_, _++_}
-use Prim.Native.Nat.{ℕ, _+_}
+use Prim.Native.Nat.{ℕ}
+use lib.Dec.{lit<}
 use Rattle.domain.specs.BabyBear.{babyBear}
+use Rattle.domain.proofs.Qualification.{babyBear-qualifies}
 use Rattle.protocol.specs.Three.{A, B, C}
 use Rattle.protocol.specs.Circuit.{Circuit}
 use Rattle.protocol.specs.Messages.{openings}
 use Rattle.protocol.specs.Meanings.{faultRefusal}
 use Rattle.protocol.specs.Calls.{ProverInput, circuitOf, roundRefusal, openingsCall}
-use Rattle.circuit.specs.Given.{given}
-use Rattle.varuna.specs.Inputs.{proverInput}
+use Rattle.circuit.specs.Given.{given, proverInput}
 use Rattle.varuna.proofs.AnswerLaws.{free, done}
-use Rattle.varuna.proofs.CallRounds.{RoundFits, round-fits, shaped, challenged}
+use Rattle.circuit.proofs.Fitting.{RoundFits, round-fits, R-fits, C-fits}
+use Rattle.prover.proofs.CallLaws.{challenged}
+use Rattle.varuna.proofs.CallRounds.{known-prime}
 use borrow.Author.Needs.{needs}
 use Rattle.varuna.proofs.rounds.openings.Statement.{statement}
 use Rattle.varuna.proofs.rounds.openings.Tie as tie
+
+append : {a b c d : List ℕ} → a ≡ b → c ≡ d → a ++ c ≡ b ++ d
+append = ap₂ (λ (l m : List ℕ). l ++ m)
 
 -- what the call is given, the lengths of its lent slices, the lengths that they must have, its challenge words and its points
 abbrev input : tie.Start → ProverInput
@@ -35,7 +41,7 @@ points s = s .args .alpha ∷ s .args .beta ∷ s .args .gamma ∷ []
 judgement : (c : tie.After-judge-round)
     → faultRefusal (c .judge-round .result)
     ≡ roundRefusal babyBear (input (c .before .before .before .before .before .before .before .before .before)) (lent (c .before .before .before .before .before .before .before .before .before)) (due (c .before .before .before .before .before .before .before .before .before)) (challenges (c .before .before .before .before .before .before .before .before .before)) (points (c .before .before .before .before .before .before .before .before .before))
-judgement c = c .judge-round .ensures
+judgement c = c .judge-round .ensures babyBear babyBear-qualifies refl
 
 -- nothing was refused
 abbrev Fitting : tie.Start → Type 0
@@ -66,13 +72,22 @@ enum-told : tie.Need-enum-told
 enum-told c = search needs
 
 messages-opened-requires : tie.Need-messages-opened-requires
-messages-opened-requires c κs =
-    let s = c .before .before .before .before .before .before .before .before .before .before .before in
-    let F = fits c in
-    (F .fits, challenged (F .fits) (s .args .alpha) (s .args .beta) (s .args .gamma ∷ []) (F .outside))
+messages-opened-requires c κs = (lit< tt, fits c .fits)
 
-indexes-opened-requires : tie.Need-indexes-opened-requires
-indexes-opened-requires c κs = shaped (fits (c .before) .fits)
+index-at-requires : tie.Need-index-at-requires
+index-at-requires c κs =
+    let F = fits (c .before) .fits in
+    (lit< tt, ((R-fits F, C-fits F), F .lists .list-a))
+
+index-at-requires-2 : tie.Need-index-at-requires-2
+index-at-requires-2 c κs =
+    let F = fits (c .before .before) .fits in
+    (lit< tt, ((R-fits F, C-fits F), F .lists .list-b))
+
+index-at-requires-3 : tie.Need-index-at-requires-3
+index-at-requires-3 c κs =
+    let F = fits (c .before .before .before) .fits in
+    (lit< tt, ((R-fits F, C-fits F), F .lists .list-c))
 
 enum-known-fault : tie.Need-enum-known-fault
 enum-known-fault c = search needs
@@ -80,11 +95,16 @@ enum-known-fault c = search needs
 returns : tie.Need-returns
 unfolding openingsCall circuitOf openings
 returns c =
-    let d = c .before .before in
+    let d = c .before .before .before .before in
     let s = d .before .before .before .before .before .before .before .before .before .before .before in
     let k : Circuit = circuitOf (given (s .args .r) (s .args .c) (s .args .x) (s .args .ea .now) (s .args .eb .now) (s .args .ec .now)) in
     done _ (free (sym (d .enum-told .given .1)) (judgement (d .before .before)))
-    (ap₂ (λ (l m : List ℕ). l ++ m) (c .before .messages-opened .ensures) (c .indexes-opened .ensures k refl refl (elim [ A ↦ refl | B ↦ refl | C ↦ refl ])))
+    (append
+    (c .before .before .before .messages-opened .ensures babyBear known-prime babyBear-qualifies
+    (challenged (fits d .fits) (s .args .alpha) (s .args .beta) (s .args .gamma ∷ []) (fits d .outside)))
+    (append (c .before .before .index-at .ensures babyBear known-prime k A refl refl refl)
+    (append (c .before .index-at2 .ensures babyBear known-prime k B refl refl refl)
+    (c .index-at3 .ensures babyBear known-prime k C refl refl refl))))
 
 returns-2 : tie.Need-returns-2
 unfolding openingsCall
@@ -101,7 +121,9 @@ openings-spec =
     judge-round-requires
     enum-told
     messages-opened-requires
-    indexes-opened-requires
+    index-at-requires
+    index-at-requires-2
+    index-at-requires-3
     enum-known-fault
     returns
     returns-2)

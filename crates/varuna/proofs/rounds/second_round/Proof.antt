@@ -11,10 +11,12 @@ use Rattle.protocol.specs.Circuit.{Circuit}
 use Rattle.protocol.specs.Messages.{sums}
 use Rattle.protocol.specs.Meanings.{faultRefusal}
 use Rattle.protocol.specs.Calls.{ProverInput, circuitOf, roundRefusal, secondRoundCall}
-use Rattle.circuit.specs.Given.{given}
-use Rattle.varuna.specs.Inputs.{proverInput, assignmentIn}
+use Rattle.circuit.specs.Given.{given, proverInput}
+use Rattle.prover.specs.CallGiven.{assignmentIn}
 use Rattle.varuna.proofs.AnswerLaws.{free, three-done}
-use Rattle.varuna.proofs.CallRounds.{RoundFits, round-fits, R-fits, shares, assignment-on-C, known-prime}
+use Rattle.circuit.proofs.Fitting.{RoundFits, round-fits, R-fits, shares}
+use Rattle.prover.proofs.CallLaws.{assignment-on-C}
+use Rattle.varuna.proofs.CallRounds.{known-prime}
 use borrow.Author.Needs.{needs}
 use Rattle.varuna.proofs.rounds.second_round.Statement.{statement}
 use Rattle.varuna.proofs.rounds.second_round.Tie as tie
@@ -38,7 +40,7 @@ points s = s .args .alpha ∷ []
 judgement : (c : tie.After-judge-round)
     → faultRefusal (c .judge-round .result)
     ≡ roundRefusal babyBear (input (c .before .before .before .before .before .before .before .before .before)) (lent (c .before .before .before .before .before .before .before .before .before)) (due (c .before .before .before .before .before .before .before .before .before)) (challenges (c .before .before .before .before .before .before .before .before .before)) (points (c .before .before .before .before .before .before .before .before .before))
-judgement c = c .judge-round .ensures
+judgement c = c .judge-round .ensures babyBear babyBear-qualifies refl
 
 -- nothing was refused
 abbrev Fitting : tie.Start → Type 0
@@ -93,7 +95,7 @@ returns c =
     let s = d .before .before .before .before .before .before .before .before .before .before .before in
     let F = fits d in
     let k : Circuit = circuitOf (given (s .args .r) (s .args .c) (s .args .x) (s .args .ea .now) (s .args .eb .now) (s .args .ec .now)) in
-    let on = assignment-on-C (F .fits) babyBear-qualifies (s .args .mask) in
+    let on = assignment-on-C (F .fits) refl babyBear-qualifies (s .args .mask) in
     three-done (mapThree (λ (a : Elem babyBear). a .word) (sums k (assignmentIn babyBear (input s)) (of (s .args .alpha))))
     (free (sym (d .enum-told .given .1)) (judgement (d .before .before)))
     (c .before .before .row-sum-value .ensures babyBear known-prime babyBear-qualifies k (F .fits .well-formed) refl A refl (assignmentIn babyBear (input s)) on)

@@ -8,15 +8,18 @@ use borrow.Author.Tests.{eqb-true}
 use Rattle.field.specs.Element.{words}
 use Rattle.domain.specs.Polynomial.{Poly}
 use Rattle.domain.specs.BabyBear.{babyBear}
+use Rattle.domain.proofs.Qualification.{babyBear-qualifies}
 use Rattle.protocol.specs.Circuit.{Circuit, sizesOf}
 use Rattle.protocol.specs.Messages.{lengths, lineRemainder, lineQuotient}
 use Rattle.protocol.specs.Meanings.{faultRefusal, three}
 use Rattle.protocol.specs.Calls.{ProverInput, circuitOf, roundRefusal, thirdRoundCall}
-use Rattle.circuit.specs.Given.{given}
+use Rattle.circuit.specs.Given.{given, proverInput}
 use Rattle.prover.proofs.WitnessParts.{part-length, filled-within, filled-length, of-filled}
-use Rattle.varuna.specs.Inputs.{proverInput, lineIn}
+use Rattle.prover.specs.CallGiven.{lineIn}
 use Rattle.varuna.proofs.AnswerLaws.{free, fill-done}
-use Rattle.varuna.proofs.CallRounds.{RoundFits, round-fits, C-fits, line-bound}
+use Rattle.circuit.proofs.Fitting.{RoundFits, round-fits, C-fits}
+use Rattle.prover.proofs.CallLaws.{line-bound}
+use Rattle.varuna.proofs.CallRounds.{known-prime}
 use borrow.Author.Needs.{needs}
 use Rattle.varuna.proofs.rounds.third_round.Statement.{statement}
 use Rattle.varuna.proofs.rounds.third_round.Tie as tie
@@ -42,7 +45,7 @@ judgement : (c : tie.After-judge-round)
     ≡ roundRefusal babyBear (input (c .before .before .before .before .before .before .before .before .before .before .before .before .before)) (lent (c .before .before .before .before .before .before .before .before .before .before .before .before .before)) (due (c .before .before .before .before .before .before .before .before .before .before .before .before .before)) (challenges (c .before .before .before .before .before .before .before .before .before .before .before .before .before)) (points (c .before .before .before .before .before .before .before .before .before .before .before .before .before))
 judgement c =
     let s = c .before .before .before .before .before .before .before .before .before .before .before .before .before in
-    c .judge-round .ensures
+    c .judge-round .ensures babyBear babyBear-qualifies refl
     ∙ ap (λ (n : ℕ). roundRefusal babyBear (input s) (lent s) (n ∷ s .args .c ∷ []) (challenges s) (points s)) (c .before .before .before .before .before .less .ensures)
 
 -- nothing was refused
@@ -79,36 +82,38 @@ enum-told c = search needs
 mul-n : tie.Need-mul-n
 mul-n c = search needs
 
-array-borrow-prefix-line : tie.Need-array-borrow-prefix-line
-array-borrow-prefix-line c = line-bound (fits c .fits)
+array-borrow-prefix-sum : tie.Need-array-borrow-prefix-sum
+array-borrow-prefix-sum c = line-bound (fits c .fits)
 
-slice-aggregate-line-of : tie.Need-slice-aggregate-line-of
-slice-aggregate-line-of c = part-length _ _ (line-bound (fits (c .before) .fits))
+slice-aggregate-line : tie.Need-slice-aggregate-line
+slice-aggregate-line c = part-length _ _ (line-bound (fits (c .before) .fits))
 
 line-of-requires : tie.Need-line-of-requires
-line-of-requires c κs = (fits (c .before) .fits, sym (part-length _ _ (line-bound (fits (c .before) .fits))))
+line-of-requires c κs =
+    let F = fits (c .before) in
+    (lit< tt, (F .fits, sym (part-length _ _ (line-bound (F .fits)))))
 
-array-share-prefix-line : tie.Need-array-share-prefix-line
-array-share-prefix-line c = filled-within _ _ (line-bound (fits (c .before .before .before) .fits)) (c .before .line-of .last .1 .1 .1 .1 .1 .1 .1 .1 .1 .1 .1 .0) (c .before .line-of .kept .1 .1 .1 .1 .1 .1 .1 .1 .1 .1 .1 .0)
+array-share-prefix-sum : tie.Need-array-share-prefix-sum
+array-share-prefix-sum c = filled-within _ _ (line-bound (fits (c .before .before .before) .fits)) (c .before .line-of .last .1 .1 .1 .1 .1 .1 .1 .1 .1 .1 .1 .1 .0) (c .before .line-of .kept .1 .1 .1 .1 .1 .1 .1 .1 .1 .1 .1 .1 .0)
 
 slice-aggregate-line-remainder-into : tie.Need-slice-aggregate-line-remainder-into
-slice-aggregate-line-remainder-into c = filled-length _ _ (line-bound (fits (c .before .before .before .before) .fits)) (c .before .before .line-of .last .1 .1 .1 .1 .1 .1 .1 .1 .1 .1 .1 .0) (c .before .before .line-of .kept .1 .1 .1 .1 .1 .1 .1 .1 .1 .1 .1 .0)
+slice-aggregate-line-remainder-into c = filled-length _ _ (line-bound (fits (c .before .before .before .before) .fits)) (c .before .before .line-of .last .1 .1 .1 .1 .1 .1 .1 .1 .1 .1 .1 .1 .0) (c .before .before .line-of .kept .1 .1 .1 .1 .1 .1 .1 .1 .1 .1 .1 .1 .0)
 
 line-remainder-into-requires : tie.Need-line-remainder-into-requires
 line-remainder-into-requires c κs =
     let F = fits (c .before .before .before .before .before) in
     (lit< tt, (C-fits (F .fits), eqb-true _ _ (F .lent-fit .0)))
 
-array-share-prefix-line-2 : tie.Need-array-share-prefix-line-2
-array-share-prefix-line-2 c = filled-within _ _ (line-bound (fits (c .before .before .before .before .before .before .before .before) .fits)) (c .before .before .before .before .before .before .line-of .last .1 .1 .1 .1 .1 .1 .1 .1 .1 .1 .1 .0) (c .before .before .before .before .before .before .line-of .kept .1 .1 .1 .1 .1 .1 .1 .1 .1 .1 .1 .0)
+array-share-prefix-sum-2 : tie.Need-array-share-prefix-sum-2
+array-share-prefix-sum-2 c = filled-within _ _ (line-bound (fits (c .before .before .before .before .before .before .before .before) .fits)) (c .before .before .before .before .before .before .line-of .last .1 .1 .1 .1 .1 .1 .1 .1 .1 .1 .1 .1 .0) (c .before .before .before .before .before .before .line-of .kept .1 .1 .1 .1 .1 .1 .1 .1 .1 .1 .1 .1 .0)
 
 slice-aggregate-line-quotient-into : tie.Need-slice-aggregate-line-quotient-into
-slice-aggregate-line-quotient-into c = filled-length _ _ (line-bound (fits (c .before .before .before .before .before .before .before .before .before) .fits)) (c .before .before .before .before .before .before .before .line-of .last .1 .1 .1 .1 .1 .1 .1 .1 .1 .1 .1 .0) (c .before .before .before .before .before .before .before .line-of .kept .1 .1 .1 .1 .1 .1 .1 .1 .1 .1 .1 .0)
+slice-aggregate-line-quotient-into c = filled-length _ _ (line-bound (fits (c .before .before .before .before .before .before .before .before .before) .fits)) (c .before .before .before .before .before .before .before .line-of .last .1 .1 .1 .1 .1 .1 .1 .1 .1 .1 .1 .1 .0) (c .before .before .before .before .before .before .before .line-of .kept .1 .1 .1 .1 .1 .1 .1 .1 .1 .1 .1 .1 .0)
 
 line-quotient-into-requires : tie.Need-line-quotient-into-requires
 line-quotient-into-requires c κs =
     let F = fits (c .before .before .before .before .before .before .before .before .before .before) in
-    (lit< tt, (C-fits (F .fits), (sym (filled-length _ _ (line-bound (fits (c .before .before .before .before .before .before .before .before .before .before) .fits)) (c .before .before .before .before .before .before .before .before .line-of .last .1 .1 .1 .1 .1 .1 .1 .1 .1 .1 .1 .0) (c .before .before .before .before .before .before .before .before .line-of .kept .1 .1 .1 .1 .1 .1 .1 .1 .1 .1 .1 .0)), eqb-true _ _ (F .lent-fit .1 .0))))
+    (lit< tt, (C-fits (F .fits), (sym (filled-length _ _ (line-bound (fits (c .before .before .before .before .before .before .before .before .before .before) .fits)) (c .before .before .before .before .before .before .before .before .line-of .last .1 .1 .1 .1 .1 .1 .1 .1 .1 .1 .1 .1 .0) (c .before .before .before .before .before .before .before .before .line-of .kept .1 .1 .1 .1 .1 .1 .1 .1 .1 .1 .1 .1 .0)), eqb-true _ _ (F .lent-fit .1 .0))))
 
 enum-known-fault : tie.Need-enum-known-fault
 enum-known-fault c = search needs
@@ -125,7 +130,7 @@ returns c =
     let d = c .before .before .before .before .before .before .before .before .before .before .before .before .before in
     let s = d .before .before .before .before .before .before .before .before .before .before .before .before .before .before .before in
     let k : Circuit = circuitOf (given (s .args .r) (s .args .c) (s .args .x) (s .args .ea .now) (s .args .eb .now) (s .args .ec .now)) in
-    let made = (of-filled _ _ (line-bound (fits (c .before .before .before .before .before .before .before .before .before .before .before .before .before) .fits)) (c .before .before .before .before .before .before .before .before .before .before .before .line-of .last .1 .1 .1 .1 .1 .1 .1 .1 .1 .1 .1 .0) (c .before .before .before .before .before .before .before .before .before .before .before .line-of .kept .1 .1 .1 .1 .1 .1 .1 .1 .1 .1 .1 .0) (lineIn babyBear (input s) (s .args .alpha) (three (s .args .eta))) (c .before .before .before .before .before .before .before .before .before .before .before .line-of .ensures)) in
+    let made = (of-filled _ _ (line-bound (fits (c .before .before .before .before .before .before .before .before .before .before .before .before .before) .fits)) (c .before .before .before .before .before .before .before .before .before .before .before .line-of .last .1 .1 .1 .1 .1 .1 .1 .1 .1 .1 .1 .1 .0) (c .before .before .before .before .before .before .before .before .before .before .before .line-of .kept .1 .1 .1 .1 .1 .1 .1 .1 .1 .1 .1 .1 .0) (lineIn babyBear (input s) (s .args .alpha) (three (s .args .eta))) (c .before .before .before .before .before .before .before .before .before .before .before .line-of .ensures babyBear known-prime babyBear-qualifies)) in
     fill-done (s .args .remainder .now, s .args .quotient .now) (free (sym (d .enum-told .given .1)) (judgement (d .before .before)))
     (ap₂ (λ (l m : List ℕ). (l, m))
     (c .before .before .before .before .before .before .before .line-remainder-into .ensures babyBear refl k refl ∙ ap (λ (f : Poly babyBear). words (lineRemainder k f)) made)
@@ -147,13 +152,13 @@ third-round-spec =
     judge-round-requires
     enum-told
     mul-n
-    array-borrow-prefix-line
-    slice-aggregate-line-of
+    array-borrow-prefix-sum
+    slice-aggregate-line
     line-of-requires
-    array-share-prefix-line
+    array-share-prefix-sum
     slice-aggregate-line-remainder-into
     line-remainder-into-requires
-    array-share-prefix-line-2
+    array-share-prefix-sum-2
     slice-aggregate-line-quotient-into
     line-quotient-into-requires
     enum-known-fault
