@@ -121,7 +121,8 @@ pub fn check_words(p: u32, start: usize, words: &[u32]) -> Fault
 // 6: the entries' values are below p; the first of them is word `start` of the call.
 pub fn check_values(p: u32, start: usize, entries: &[u32]) -> Fault
     requires { ⌜ start < 4294967296 ⌝ }
-    ensures { λ f. ⌜ faultRefusal f ≡ refuse 6 start (map (λ w. ltb w p) (map (λ (e : Entry). e .value) (entriesOf (now (entries .entry))))) ⌝ }
+    ensures { λ f. ⌜ faultRefusal f
+        ≡ refuse 6 start (map (λ w. ltb w p) (map (λ (e : Entry). e .value) (entriesOf (now (entries .entry))))) ⌝ }
 {
     let count = entries.len() / 3;
     let mut i = 0;
@@ -162,7 +163,8 @@ fn check_prover_words(
     challenges: &[u32],
 ) -> Fault
     requires { ⌜ (start ≤ 4096) × ((length (now z) ≤ 4096) × (length (now m) ≤ 4096)) ⌝ }
-    ensures { λ f. ⌜ faultRefusal f ≡ refuse 6 start (map (λ w. ltb w p) (now (z .entry) ++ (mask ∷ (now (m .entry) ++ now (challenges .entry))))) ⌝ }
+    ensures { λ f. ⌜ faultRefusal f
+        ≡ refuse 6 start (map (λ w. ltb w p) (now (z .entry) ++ (mask ∷ (now (m .entry) ++ now (challenges .entry))))) ⌝ }
 {
     let fault = check_words(p, start, z);
     if !is_fine(fault) {
@@ -192,7 +194,8 @@ pub fn check_call_words(
 ) -> Fault
     requires { ⌜ ThreeLists (now ea) (now eb) (now ec) ⌝ }
     requires { ⌜ (length (now z) ≤ 4096) × (length (now m) ≤ 4096) ⌝ }
-    ensures { λ f. ⌜ ((q : Prime) → q .p ≡ p → (k : Circuit) → k .matrices ≡ entryLists (now (ea .entry)) (now (eb .entry)) (now (ec .entry))
+    ensures { λ f. ⌜ ((q : Prime) → q .p ≡ p → (k : Circuit)
+        → k .matrices ≡ entryLists (now (ea .entry)) (now (eb .entry)) (now (ec .entry))
         → faultRefusal f ≡ wordRefusal q (entryValues k ++ (now (z .entry) ++ (mask ∷ (now (m .entry) ++ now (challenges .entry)))))) ⌝ }
 {
     let fault = check_three_values(p, ea, eb, ec);
@@ -246,7 +249,8 @@ fn entry_passes(r: u32, c: u32, entries: &[u32], i: usize) -> bool
 // 7: each entry fits, and they rise by row and then column; the first of them is entry `start` of the call.
 pub fn check_entries(r: u32, c: u32, start: usize, entries: &[u32]) -> Fault
     requires { ⌜ start < 4294967296 ⌝ }
-    ensures { λ f. ⌜ ((k : Circuit) → k .R ≡ r → k .C ≡ c → faultRefusal f ≡ refuse 7 start (entryTests k (entriesOf (now (entries .entry))))) ⌝ }
+    ensures { λ f. ⌜ ((k : Circuit) → k .R ≡ r → k .C ≡ c
+        → faultRefusal f ≡ refuse 7 start (entryTests k (entriesOf (now (entries .entry))))) ⌝ }
 {
     let count = entries.len() / 3;
     let mut i = 0;
@@ -281,7 +285,8 @@ pub fn check_three_entries(r: u32, c: u32, ea: &[u32], eb: &[u32], ec: &[u32]) -
 pub fn check_mask(p: u32, c: u32, m: &[u32]) -> Fault
     requires { ⌜ 0 < p ⌝ }
     requires { ⌜ (isSize c ≡ true) × (length (now m) ≡ 2 * c) ⌝ }
-    ensures { λ f. ⌜ ((q : Prime) → Qualifies q → q .p ≡ p → (k : Circuit) → k .C ≡ c → faultRefusal f ≡ maskRefusal {q = q} k (map of (now (m .entry)))) ⌝ }
+    ensures { λ f. ⌜ ((q : Prime) → Qualifies q → q .p ≡ p → (k : Circuit) → k .C ≡ c
+        → faultRefusal f ≡ maskRefusal {q = q} k (map of (now (m .entry)))) ⌝ }
 {
     let half = c as usize;
     if field::add(p, m[0], m[half]) == 0 {
@@ -295,7 +300,8 @@ pub fn check_mask(p: u32, c: u32, m: &[u32]) -> Fault
 fn check_rows(p: u32, a: &[u32], b: &[u32], c: &[u32]) -> Fault
     requires { ⌜ 0 < p ⌝ }
     requires { ⌜ (length (now b) ≡ length (now a)) × (length (now c) ≡ length (now a)) ⌝ }
-    ensures { λ f. ⌜ ((q : Prime) → q .p ≡ p → (n : ℕ) (s t u : ℕ → Elem q) → now (a .entry) ≡ words (tabulate n s) → now (b .entry) ≡ words (tabulate n t)
+    ensures { λ f. ⌜ ((q : Prime) → q .p ≡ p → (n : ℕ) (s t u : ℕ → Elem q)
+        → now (a .entry) ≡ words (tabulate n s) → now (b .entry) ≡ words (tabulate n t)
         → now (c .entry) ≡ words (tabulate n u) → faultRefusal f ≡ refuse 9 0 (tabulate n (λ i. equal (s i ⊗ t i) (u i)))) ⌝ }
 {
     let mut i = 0;
@@ -362,7 +368,8 @@ pub fn check_points(p: u32, r: u32, c: u32, k: u32, points: &[u32]) -> Fault
     requires { ⌜ 1 < p ⌝ }
     requires { ⌜ (isSize r ≡ true) × ((isSize c ≡ true) × (isSize k ≡ true)) ⌝ }
     requires { ⌜ length (now points) ≤ 3 ⌝ }
-    ensures { λ f. ⌜ ((q : Prime) → Qualifies q → q .p ≡ p → faultRefusal f ≡ challengeRefusal {q = q} 0 (r ∷ c ∷ k ∷ []) (map of (now (points .entry)))) ⌝ }
+    ensures { λ f. ⌜ ((q : Prime) → Qualifies q → q .p ≡ p
+        → faultRefusal f ≡ challengeRefusal {q = q} 0 (r ∷ c ∷ k ∷ []) (map of (now (points .entry)))) ⌝ }
 {
     let sizes = [r, c, k];
     let mut i = 0;

@@ -62,7 +62,9 @@ fn fill_index_values(p: u32, gr: u32, gc: u32, which: u32, entries: &[u32], out:
     requires { ⌜ 1 < p ⌝ }
     requires { ⌜ (which < 4) × (length (now out) ≤ maxSize) ⌝ }
     ensures { λ _. ⌜ ((q : Prime) → q .p ≡ p → (k : Circuit) → gr ≡ (root {q = q} (k .R)) .word → gc ≡ (root {q = q} (k .C)) .word
-        → now (out .exit) ≡ words (tabulate (length (now (out .entry))) (λ i. indexPart (entryIndex {q = q} k (entryWords (now (entries .entry)) i)) which))) ⌝ }
+        → now (out .exit)
+        ≡ words (tabulate (length (now (out .entry)))
+        (λ i. indexPart (entryIndex {q = q} k (entryWords (now (entries .entry)) i)) which))) ⌝ }
 {
     let mut i = 0;
     while i < out.len() {
@@ -84,8 +86,10 @@ fn index_polynomial(
     requires { ⌜ 1 < p ⌝ }
     requires { ⌜ (isSize r ≡ true) × (isSize c ≡ true) ⌝ }
     requires { ⌜ (which < 4) × EntryWords (now entries) ⌝ }
-    requires { ⌜ (length (now values) ≡ sizeFor (length (entriesOf (now entries)))) × (length (now out) ≡ sizeFor (length (entriesOf (now entries)))) ⌝ }
-    ensures { λ _. ⌜ ((q : Prime) → Known q p → (k : Circuit) (M : MatrixName) → k .R ≡ r → k .C ≡ c → at (k .matrices) M ≡ entriesOf (now (entries .entry))
+    requires { ⌜ (length (now values) ≡ sizeFor (length (entriesOf (now entries))))
+        × (length (now out) ≡ sizeFor (length (entriesOf (now entries)))) ⌝ }
+    ensures { λ _. ⌜ ((q : Prime) → Known q p → (k : Circuit) (M : MatrixName) → k .R ≡ r → k .C ≡ c
+        → at (k .matrices) M ≡ entriesOf (now (entries .entry))
         → now (out .exit) ≡ words (indexPart (index {q = q} k M) which)) ⌝ }
 {
     fill_index_values(
@@ -115,8 +119,10 @@ fn index_with(
     requires { ⌜ (isSize r ≡ true) × ((isSize c ≡ true) × EntryWords (now entries)) ⌝ }
     requires { ⌜ length (now values) ≡ sizeFor (length (entriesOf (now entries))) ⌝ }
     requires { ⌜ IndexLengths (sizeFor (length (entriesOf (now entries)))) (now row) (now col) (now rowcol) (now rowcolval) ⌝ }
-    ensures { λ _. ⌜ ((q : Prime) → Known q p → (k : Circuit) (M : MatrixName) → k .R ≡ r → k .C ≡ c → at (k .matrices) M ≡ entriesOf (now (entries .entry))
-        → indexLists (now (row .exit)) (now (col .exit)) (now (rowcol .exit)) (now (rowcolval .exit)) ≡ mapIndex words (index {q = q} k M)) ⌝ }
+    ensures { λ _. ⌜ ((q : Prime) → Known q p → (k : Circuit) (M : MatrixName) → k .R ≡ r → k .C ≡ c
+        → at (k .matrices) M ≡ entriesOf (now (entries .entry))
+        → indexLists (now (row .exit)) (now (col .exit)) (now (rowcol .exit)) (now (rowcolval .exit))
+        ≡ mapIndex words (index {q = q} k M)) ⌝ }
 {
     index_polynomial(p, r, c, ROW, entries, values, row);
     index_polynomial(p, r, c, COL, entries, values, col);
@@ -138,8 +144,10 @@ pub fn index_matrix_into(
     requires { ⌜ 1 < p ⌝ }
     requires { ⌜ (isSize r ≡ true) × ((isSize c ≡ true) × EntryWords (now entries)) ⌝ }
     requires { ⌜ IndexLengths (sizeFor (length (entriesOf (now entries)))) (now row) (now col) (now rowcol) (now rowcolval) ⌝ }
-    ensures { λ _. ⌜ ((q : Prime) → Known q p → (k : Circuit) (M : MatrixName) → k .R ≡ r → k .C ≡ c → at (k .matrices) M ≡ entriesOf (now (entries .entry))
-        → indexLists (now (row .exit)) (now (col .exit)) (now (rowcol .exit)) (now (rowcolval .exit)) ≡ mapIndex words (index {q = q} k M)) ⌝ }
+    ensures { λ _. ⌜ ((q : Prime) → Known q p → (k : Circuit) (M : MatrixName) → k .R ≡ r → k .C ≡ c
+        → at (k .matrices) M ≡ entriesOf (now (entries .entry))
+        → indexLists (now (row .exit)) (now (col .exit)) (now (rowcol .exit)) (now (rowcolval .exit))
+        ≡ mapIndex words (index {q = q} k M)) ⌝ }
 {
     let n = row.len();
     let mut values = [0u32; 1024];

@@ -41,7 +41,8 @@ pub fn judge_shape(
     z: &[u32],
     m: &[u32],
 ) -> Fault
-    ensures { λ f. ⌜ faultRefusal f ≡ shapeRefusal (given r c x (now (ea .entry)) (now (eb .entry)) (now (ec .entry))) (now (z .entry)) (now (m .entry)) ⌝ }
+    ensures { λ f. ⌜ faultRefusal f
+        ≡ shapeRefusal (given r c x (now (ea .entry)) (now (eb .entry)) (now (ec .entry))) (now (z .entry)) (now (m .entry)) ⌝ }
 {
     let fault = judge_index_shape(r, c, x, ea, eb, ec);
     if !is_fine(fault) {

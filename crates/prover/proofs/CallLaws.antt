@@ -15,7 +15,7 @@ use Rattle.domain.specs.Domain.{inside}
 use Rattle.domain.specs.Polynomial.{valuesOn}
 use Rattle.domain.specs.Qualifies.{Qualifies}
 use Rattle.domain.specs.Known.{Known}
-use Rattle.domain.proofs.SizeLaws.{size-positive, size-bound, sizeFor-is-size}
+use Rattle.domain.proofs.SizeLaws.{size-positive, size-bound}
 use Rattle.protocol.specs.Three.{MatrixName, A, B, C, at}
 use Rattle.protocol.specs.Calls.{circuitOf}
 use Rattle.protocol.proofs.AdmissionLaws.{WellFormed}
@@ -67,17 +67,7 @@ matrix-given known Q r c x ea eb ec A = record { known = known; qualifies = Q; r
 matrix-given known Q r c x ea eb ec B = record { known = known; qualifies = Q; rows = refl; columns = refl; matrix = refl }
 matrix-given known Q r c x ea eb ec C = record { known = known; qualifies = Q; rows = refl; columns = refl; matrix = refl }
 
--- |K_M| and |K| words, and one less
-module _ (k n : ℕ) (e : k ≡ sizeFor n) where
-  pub size-holds : k ≤ 1024
-  size-holds = omega (arith, size-bound (sizeFor n) (sizeFor-is-size n))
-
-  pub size-bounded : k - 1 ≤ 1024
-  size-bounded = omega (arith, size-bound (sizeFor n) (sizeFor-is-size n))
-
-  pub below-size : 1 ≤ k
-  below-size = omega (arith, size-positive (sizeFor n) (sizeFor-is-size n))
-
+-- |K| words, and one less
 module _ (k a b c : ℕ) (e : k ≡ max (sizeFor a) (max (sizeFor b) (sizeFor c))) where
   abbrev largest : ℕ
   largest = max (sizeFor a) (max (sizeFor b) (sizeFor c))

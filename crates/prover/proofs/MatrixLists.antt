@@ -2,12 +2,12 @@
 use mathlib.Core.Path.{_≡_, refl, sym, ap, ap₂, _∙_}
 use mathlib.Core.Bool.{true}
 use mathlib.Core.List.{List, [], _∷_, _++_, map, tail}
-use Prim.Native.Nat.{ℕ, zero, suc, _-_, _≤_, _<_}
+use Prim.Native.Nat.{ℕ, zero, suc, _+_, _-_, _≤_, _<_}
 use native.Mathlib.Omega.{arith}
 use lib.Seq.{take-at}
 use lib.ListN.{length, getD, take, drop, replicate, length-append, length-replicate, length-take}
 use Rattle.domain.specs.Size.{maxSize, isSize, sizeFor}
-use Rattle.domain.proofs.SizeLaws.{size-bound, sizeFor-is-size, sizeFor-holds}
+use Rattle.domain.proofs.SizeLaws.{size-positive, size-bound, sizeFor-is-size, sizeFor-holds}
 use Rattle.field.specs.Prime.{Prime}
 use Rattle.field.specs.Element.{Elem, of, 𝟘, words}
 use Rattle.field.proofs.ElementLaws.{of-word}
@@ -65,6 +65,16 @@ module _ {n : ℕ} (m : ℕ) (e : n ≡ sizeFor m) where
 
   pub size-holds : m ≤ maxSize → m ≤ n
   size-holds le = omega (arith, sizeFor-holds m le)
+
+  -- and one less
+  pub sized-positive : 1 ≤ n
+  sized-positive = size-positive n size-is
+
+  pub sized-fits : n - 1 ≤ 1024
+  sized-fits = omega (arith, size-fits)
+
+  pub sized-next : n - 1 + 1 ≡ sizeFor m
+  sized-next = omega (arith, sized-positive)
 
 -- an array of s zeros, as it is made; and after its first n words were lent and came back as l
 abbrev pub array : ℕ → List ℕ

@@ -10,23 +10,11 @@ use Rattle.field.specs.Power.{_⊘_}
 use Rattle.field.proofs.Words.{of-result}
 use Rattle.domain.specs.Size.{sizeFor}
 use Rattle.domain.specs.Polynomial.{Poly, plus, scale}
-use Rattle.domain.proofs.SizeLaws.{size-positive}
 use Rattle.protocol.specs.Messages.{matrixQuotient}
 use Rattle.protocol.specs.Calls.{entriesOf}
-use Rattle.prover.proofs.MatrixLists.{size-is, size-fits, lent-length, back-holds, back-length, back-list}
+use Rattle.prover.proofs.MatrixLists.{sized-positive, sized-fits, sized-next, lent-length, back-holds, back-length, back-list}
 use Rattle.prover.proofs.joined.add_matrix.Statement.{statement}
 use Rattle.prover.proofs.joined.add_matrix.Tie as tie
-
--- the size for m, and one less
-module _ {n : ℕ} (m : ℕ) (e : n ≡ sizeFor m) where
-  sized-positive : 1 ≤ n
-  sized-positive = size-positive n (size-is m e)
-
-  sized-fits : n - 1 ≤ 1024
-  sized-fits = omega (arith, size-fits m e)
-
-  sized-next : n - 1 + 1 ≡ sizeFor m
-  sized-next = omega (arith, sized-positive)
 
 shorter : {n l z : ℕ} (m : ℕ) → n - 1 ≡ l → n ≡ sizeFor m → sizeFor m ≤ z + 1 → l ≤ z
 shorter m long e le = omega arith

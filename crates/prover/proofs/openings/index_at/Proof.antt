@@ -6,13 +6,14 @@ use Rattle.field.specs.Element.{of}
 use Rattle.domain.specs.Polynomial.{Poly, eval}
 use Rattle.protocol.specs.Index.{Index, index}
 use Rattle.prover.proofs.WitnessParts.{part-length, filled-within, filled-length, of-filled}
-use Rattle.prover.proofs.CallLaws.{size-holds, four-same}
+use Rattle.prover.proofs.CallLaws.{four-same}
+use Rattle.prover.proofs.MatrixLists.{size-fits}
 use borrow.Author.Needs.{needs}
 use Rattle.prover.proofs.openings.index_at.Statement.{statement}
 use Rattle.prover.proofs.openings.index_at.Tie as tie
 
 room : (c : tie.After-size-of) → c .size-of .result ≤ 1024
-room c = size-holds _ _ (c .size-of .ensures)
+room c = size-fits _ (c .size-of .ensures)
 
 size-of-requires : tie.Need-size-of-requires
 size-of-requires c κs = search needs

@@ -5,19 +5,20 @@ use Rattle.field.specs.Element.{of}
 use Rattle.domain.specs.Polynomial.{Poly, eval}
 use Rattle.protocol.specs.Messages.{matrixRemainder}
 use Rattle.prover.proofs.WitnessParts.{part-length, filled-within, filled-length, of-filled}
-use Rattle.prover.proofs.CallLaws.{size-bounded, below-size, lent-below}
+use Rattle.prover.proofs.CallLaws.{lent-below}
+use Rattle.prover.proofs.MatrixLists.{sized-positive, sized-fits}
 use borrow.Author.Needs.{needs}
 use Rattle.prover.proofs.openings.remainder_at.Statement.{statement}
 use Rattle.prover.proofs.openings.remainder_at.Tie as tie
 
 room : (c : tie.After-size-of) → c .size-of .result - 1 ≤ 1024
-room c = size-bounded _ _ (c .size-of .ensures)
+room c = sized-fits _ (c .size-of .ensures)
 
 size-of-requires : tie.Need-size-of-requires
 size-of-requires c κs = search needs
 
 sub-n : tie.Need-sub-n
-sub-n c = below-size _ _ (c .size-of .ensures)
+sub-n c = sized-positive _ (c .size-of .ensures)
 
 cast-n : tie.Need-cast-n
 cast-n c = search needs
@@ -31,7 +32,7 @@ slice-aggregate-matrix-remainder-into c = part-length _ _ (room (c .before))
 matrix-remainder-into-requires : tie.Need-matrix-remainder-into-requires
 matrix-remainder-into-requires c κs =
     let s = c .before .before .before in
-    (s .pre .0, (s .pre .1 .0, (s .pre .1 .1, lent-below _ _ (part-length _ _ (room (c .before))) (below-size _ _ (c .before .size-of .ensures)) ∙ c .before .size-of .ensures)))
+    (s .pre .0, (s .pre .1 .0, (s .pre .1 .1, lent-below _ _ (part-length _ _ (room (c .before))) (sized-positive _ (c .before .size-of .ensures)) ∙ c .before .size-of .ensures)))
 
 array-share-prefix-remainder : tie.Need-array-share-prefix-remainder
 array-share-prefix-remainder c = filled-within _ _ (room (c .before .before .before)) (c .before .matrix-remainder-into .last .1 .1 .1 .1 .1 .1 .0) (c .before .matrix-remainder-into .kept .1 .1 .1 .1 .1 .1 .0)
