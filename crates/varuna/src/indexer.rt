@@ -48,7 +48,8 @@ pub fn index(
         (now (rowB .exit)) (now (colB .exit)) (now (rowcolB .exit)) (now (rowcolvalB .exit))
         (now (rowC .exit)) (now (colC .exit)) (now (rowcolC .exit)) (now (rowcolvalC .exit)))
         ≡ fills
-        (indexCall babyBear (given r c x (now (ea .entry)) (now (eb .entry)) (now (ec .entry))) (mapThree (mapIndex length) before)) before) ⌝ }
+        (indexCall babyBear (given r c x (now (ea .entry)) (now (eb .entry)) (now (ec .entry)))
+        (mapThree (mapIndex length) before)) before) ⌝ }
 {
     let p = MODULE_PRIME;
     let lent = [

@@ -33,7 +33,8 @@ pub fn list_domain(n: u32, out: &mut [u32]) -> Filled
 
 // 5 for the coefficients, then 6 for a coefficient, then 6 for the point.
 fn judge_evaluation(f: &[u32], y: u32) -> Fault
-    ensures { λ r. ⌜ faultRefusal r ≡ first (listRefusal (leb (length (now (f .entry))) maxWords ∷ []) ∷ wordRefusal babyBear (now (f .entry) ++ (y ∷ [])) ∷ []) ⌝ }
+    ensures { λ r. ⌜ faultRefusal r
+        ≡ first (listRefusal (leb (length (now (f .entry))) maxWords ∷ []) ∷ wordRefusal babyBear (now (f .entry) ++ (y ∷ [])) ∷ []) ⌝ }
 {
     if f.len() > MAX_WORDS {
         return Fault::Refused(5, 0);
@@ -63,7 +64,8 @@ pub fn evaluate(f: &[u32], y: u32) -> Word
 // 4 for n, 5 for the values and the lent slice, 6 for a value.
 fn judge_interpolation(n: u32, values: &[u32], lent: usize) -> Fault
     ensures { λ r. ⌜ faultRefusal r
-        ≡ first (sizeRefusal (isSize n ∷ []) ∷ listRefusal (eqb (length (now (values .entry))) n ∷ eqb lent n ∷ []) ∷ wordRefusal babyBear (now (values .entry)) ∷ []) ⌝ }
+        ≡ first (sizeRefusal (isSize n ∷ []) ∷ listRefusal (eqb (length (now (values .entry))) n ∷ eqb lent n ∷ [])
+        ∷ wordRefusal babyBear (now (values .entry)) ∷ []) ⌝ }
 {
     if !domain::is_size(n) {
         return Fault::Refused(4, 0);
@@ -80,7 +82,8 @@ fn judge_interpolation(n: u32, values: &[u32], lent: usize) -> Fault
 // The n coefficients of the polynomial with the given values on the domain of size n into a slice. Refusals: 4 for n, 5 for the
 // values and the slice, 6 for a value.
 pub fn interpolate(n: u32, values: &[u32], out: &mut [u32]) -> Filled
-    ensures { λ r. ⌜ filling r (now (out .exit)) ≡ fills (interpolateCall babyBear n (now (values .entry)) (length (now (out .entry)))) (now (out .entry)) ⌝ }
+    ensures { λ r. ⌜ filling r (now (out .exit))
+        ≡ fills (interpolateCall babyBear n (now (values .entry)) (length (now (out .entry)))) (now (out .entry)) ⌝ }
 {
     let fault = judge_interpolation(n, values, out.len());
     match fault {

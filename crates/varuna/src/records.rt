@@ -31,7 +31,10 @@ pub fn write_record(
     out: &mut [u8],
 ) -> Filled
     ensures { λ r. ⌜ filling r (now (out .exit))
-        ≡ fills (writeCall babyBear (sizesMeaning sizes) (eachSection (now (w .entry)) (now (m .entry)) (now (h0 .entry)) (now (s .entry)) (now (g1 .entry)) (now (h1 .entry)) (now (o .entry)) (now (ga .entry)) (now (gb .entry)) (now (gc .entry)) (now (h2 .entry))) (length (now (out .entry)))) (now (out .entry)) ⌝ }
+        ≡ fills (writeCall babyBear (sizesMeaning sizes)
+        (eachSection (now (w .entry)) (now (m .entry)) (now (h0 .entry)) (now (s .entry)) (now (g1 .entry))
+        (now (h1 .entry)) (now (o .entry)) (now (ga .entry)) (now (gb .entry)) (now (gc .entry)) (now (h2 .entry)))
+        (length (now (out .entry)))) (now (out .entry)) ⌝ }
 {
     let fault = record::write(
         MODULE_PRIME,

@@ -240,6 +240,7 @@ pub fn openings(
     let p = MODULE_PRIME;
     let lengths = [0usize; 1];
     let none = &lengths[..0];
+    // Short names, for the words' list and the call below.
     let e = eta;
     let d = delta;
     let words = [alpha, e.a, e.b, e.c, beta, d.a, d.b, d.c, gamma];
