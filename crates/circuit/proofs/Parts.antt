@@ -251,24 +251,3 @@ module _ (q : Prime) (c : CircuitWords) (lent : List Bool) where
       wordRefusal q (entryValues k ++ (z ++ (mask ∷ (m ++ challenges)))) ∷ entryRefusal k ∷ maskRefusal {q = q} k (map of m)
       ∷ assignmentRefusal {q = q} k (map of z) ∷ challengeRefusal {q = q} 0 (k .R ∷ k .C ∷ largest (sizesOf k .K) ∷ []) (map of points) ∷ [] in
       ap (λ (o : Option Refusal). first (size ∷ o ∷ rest)) (refuse-append 5 0 lists lent) ∙ regroup size (refuse 5 0 lists) (refuse 5 5 lent) rest
-
--- the entries of a call whose contents are not refused are within their matrices
-module _ (q : Prime) (r c x : ℕ) (ea eb ec : List ℕ) where
-  abbrev circuit : Circuit
-  circuit = circuitOf (given r c x ea eb ec)
-
-  pub index-contents-within : indexContentsRefusal q circuit ≡ none → EachWithin r c ea eb ec
-  unfolding indexContentsRefusal
-  index-contents-within free =
-      entries-within r c x ea eb ec (first-none (wordRefusal q (entryValues circuit ++ []) ∷ entryRefusal circuit ∷ []) free .1 .0)
-
-  pub contents-within : (z : List ℕ) (mask : ℕ) (m challenges points : List ℕ) → contentsRefusal q circuit z mask m challenges points ≡ none
-      → EachWithin r c ea eb ec
-  unfolding contentsRefusal
-  contents-within z mask m challenges points free =
-      let k : Circuit = circuit in
-      entries-within r c x ea eb ec
-      (first-none
-      (wordRefusal q (entryValues k ++ (z ++ (mask ∷ (m ++ challenges)))) ∷ entryRefusal k ∷ maskRefusal {q = q} k (map of m)
-      ∷ assignmentRefusal {q = q} k (map of z) ∷ challengeRefusal {q = q} 0 (k .R ∷ k .C ∷ largest (sizesOf k .K) ∷ []) (map of points) ∷ [])
-      free .1 .0)
