@@ -3,4 +3,5 @@ pub mod AnswerLent
 pub mod CallPolynomials
 pub mod CallRounds
 pub mod Padding
+pub mod SessionWords
 pub mod Turns

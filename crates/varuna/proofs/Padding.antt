@@ -1,6 +1,6 @@
 -- Words with zeros after them, filled in one by one. Assumes nothing.
 use mathlib.Core.Path.{_≡_, sym, ap, _∙_}
-use mathlib.Core.List.{List, _++_}
+use mathlib.Core.List.{List, _++_, append-nil}
 use Prim.Native.Nat.{ℕ, zero, suc, _+_, _-_, _<_}
 use native.Mathlib.Omega.{arith}
 use native.Mathlib.Numerals.{add-one}
@@ -29,3 +29,7 @@ module _ (m : ℕ) (words : List ℕ) where
       ap (λ l. set l i (getD words i 0)) (sym (padded-paste i)) ∙ ap (λ k. set (paste (replicate m 0) 0 words i) k (getD words i 0)) e
       ∙ paste-suc (replicate m 0) 0 words i 0 (omega (arith, length-replicate {A = ℕ} m 0)) in-words ∙ ap (paste (replicate m 0) 0 words) (sym (add-one i))
       ∙ padded-paste (i + 1)
+
+-- a list that is full takes no zeros
+pub padded-full : (m : ℕ) (l : List ℕ) → length l ≡ m → l ++ replicate (m - length l) 0 ≡ l
+padded-full m l full = let e : m - length l ≡ 0 = omega arith in ap (λ k. l ++ replicate k 0) e ∙ append-nil l

@@ -2,15 +2,16 @@
 // the step is refused.
 ghost use mathlib.Core.Path.{_≡_};
 ghost use mathlib.Core.List.{_++_};
-ghost use Prim.Native.Nat.{suc, _-_, _≤_};
+ghost use Prim.Native.Nat.{suc, _+_, _-_, _≤_};
 ghost use lib.ListN.{length, replicate};
+ghost use lib.Seq.{paste};
 ghost use Rattle.domain.specs.Size.{maxSize};
 ghost use Rattle.domain.specs.BabyBear.{babyBear};
 ghost use Rattle.protocol.specs.Session.{unopened, silence, onward, openStep, alphaStep, etaStep, betaStep, deltaStep, gammaStep, openingsStep};
 ghost use Rattle.protocol.specs.Session as steps;
 ghost use Rattle.protocol.specs.Meanings.{three, sizes, heard};
 ghost use Rattle.protocol.specs.Meanings as meanings;
-ghost use Rattle.varuna.specs.Session.{sessionMeaning, steppedMeaning, finishedMeaning};
+ghost use Rattle.varuna.specs.Session.{sessionMeaning, steppedMeaning, finishedMeaning, sessionOf, sessionWords, heardOf, heardWords, threeAt};
 use field::MODULE_PRIME;
 use protocol::Fault;
 use protocol::Heard;
@@ -49,6 +50,13 @@ pub struct Finished {
     pub answer: LastAnswer,
 }
 
+// A session as words: the stage, the six sizes, the words of x, and what was heard.
+const SESSION_WORDS: usize = 1046;
+
+const X_START: usize = 7;
+
+const HEARD_START: usize = 1031;
+
 // Nothing heard yet.
 fn nothing() -> Heard
     ensures { λ r. ⌜ heard r ≡ silence ⌝ }
@@ -79,7 +87,101 @@ fn padded(words: &[u32]) -> [u32; 1024]
     x
 }
 
+// The source's words from a place on.
+fn put_words(out: &mut [u32], at: usize, source: &[u32])
+    requires { ⌜ at + length (now source) ≤ length (now out) ⌝ }
+    ensures { λ _. ⌜ now (out .exit) ≡ paste (now (out .entry)) at (now (source .entry)) (length (now (source .entry))) ⌝ }
+{
+    let mut i = 0;
+    while i < source.len() {
+        out[at + i] = source[i];
+        i += 1;
+    }
+}
+
+// Three words from a place on.
+fn triple_at(words: &[u32; SESSION_WORDS], at: usize) -> Triple
+    requires { ⌜ at + 3 ≤ 1046 ⌝ }
+    ensures { λ r. ⌜ three r ≡ threeAt (now (words .entry)) at ⌝ }
+{
+    Triple {
+        a: words[at],
+        b: words[at + 1],
+        c: words[at + 2],
+    }
+}
+
+// What was heard, from a session's words.
+fn heard_in(words: &[u32; SESSION_WORDS]) -> Heard
+    ensures { λ r. ⌜ heard r ≡ heardOf (now (words .entry)) ⌝ }
+{
+    Heard {
+        alpha: words[HEARD_START],
+        sums: triple_at(words, HEARD_START + 1),
+        eta: triple_at(words, HEARD_START + 4),
+        beta: words[HEARD_START + 7],
+        values: triple_at(words, HEARD_START + 8),
+        delta: triple_at(words, HEARD_START + 11),
+        gamma: words[HEARD_START + 14],
+    }
+}
+
+// The words of what was heard.
+fn heard_words(h: Heard) -> [u32; SESSION_WORDS - HEARD_START]
+    ensures { λ r. ⌜ r ≡ heardWords (heard h) ⌝ }
+{
+    [
+        h.alpha,
+        h.sums.a,
+        h.sums.b,
+        h.sums.c,
+        h.eta.a,
+        h.eta.b,
+        h.eta.c,
+        h.beta,
+        h.values.a,
+        h.values.b,
+        h.values.c,
+        h.delta.a,
+        h.delta.b,
+        h.delta.c,
+        h.gamma,
+    ]
+}
+
 impl Session {
+    // The session with these words, also one that no step made.
+    pub fn from_words(words: &[u32; SESSION_WORDS]) -> Session
+        ensures { λ r. ⌜ sessionMeaning r ≡ sessionOf (now (words .entry)) ⌝ }
+    {
+        let all = &words[..];
+        let x = padded(&all[X_START..HEARD_START]);
+        Session {
+            stage: words[0],
+            sizes: Sizes {
+                r: words[1],
+                c: words[2],
+                x: words[3],
+                k: triple_at(words, 4),
+            },
+            x: x,
+            heard: heard_in(words),
+        }
+    }
+
+    // The words of the session.
+    pub fn into_words(self, out: &mut [u32; SESSION_WORDS])
+        ensures { λ _. ⌜ now (out .exit) ≡ sessionWords (sessionMeaning self) ⌝ }
+    {
+        let s = self.sizes;
+        let first = [self.stage, s.r, s.c, s.x, s.k.a, s.k.b, s.k.c];
+        let x = self.x;
+        let last = heard_words(self.heard);
+        put_words(out, 0, &first);
+        put_words(out, X_START, &x);
+        put_words(out, HEARD_START, &last);
+    }
+
     // A session before it is opened.
     pub fn new() -> Session
         ensures { λ r. ⌜ sessionMeaning r ≡ unopened ⌝ }
