@@ -1,0 +1,72 @@
+-- What an exported function hands over: the number that it returns, the position, and what its results hold when it returns.
+-- Assumes nothing.
+use mathlib.Core.List.{List, _∷_}
+use Prim.Native.Nat.{ℕ}
+use lib.ListN.{getD}
+use Rattle.field.specs.Prime.{Prime}
+use Rattle.protocol.specs.Three.{Three, listed}
+use Rattle.protocol.specs.Circuit.{Sizes}
+use Rattle.protocol.specs.Checks.{Row, Line, Matrix, Verdict, Accept, Fails}
+use Rattle.protocol.specs.Refusals.{Outcome, Done, Refused}
+use Rattle.protocol.specs.Record.{sectionLengths, startsFrom, readRecord}
+use Rattle.protocol.specs.Session as steps
+use Rattle.varuna.specs.Session.{sessionWords}
+
+pub record Answered (T : Type 0) : Type 0 where
+  pub number : ℕ
+  pub position : ℕ
+  pub result : T
+
+module _ {T : Type 0} where
+  abbrev pub told : ℕ → ℕ → T → Answered T
+  told number position result = record { number = number; position = position; result = result }
+
+  -- 0 with the result, or the refusal with what was there before
+  abbrev pub answered : Outcome T → T → Answered T
+  answered (Done result) before = told 0 0 result
+  answered (Refused r) before = told (r .number) (r .position) before
+
+abbrev pub mapOutcome : {S T : Type 0} → (S → T) → Outcome S → Outcome T
+mapOutcome f (Done result) = Done (f result)
+mapOutcome f (Refused r) = Refused r
+
+-- one word for each matrix, and beside them slices
+abbrev pub threeListed : Outcome (Three ℕ) → Outcome (List ℕ)
+threeListed = mapOutcome listed
+
+abbrev pub threeListedWith : {S : Type 0} → Outcome (Three ℕ × S) → Outcome (List ℕ × S)
+threeListedWith = mapOutcome (λ t. (listed (t .0), t .1))
+
+-- the six sizes in trailer order
+abbrev pub sizesListed : Outcome Sizes → Outcome (List ℕ)
+sizesListed = mapOutcome (λ s. s .R ∷ s .C ∷ s .X ∷ listed (s .K))
+
+-- a step: the words of the next session, or those before
+abbrev pub stepWords : steps.Answer → List ℕ → List ℕ → Answered (List ℕ)
+stepWords steps.Taken next before = told 0 0 next
+stepWords (steps.Judged v) next before = told 0 0 next
+stepWords (steps.Refused r) next before = told (r .number) (r .position) before
+
+abbrev pub stepAnswered : steps.Stepped → List ℕ → Answered (List ℕ)
+stepAnswered s before = stepWords (s .answer) (sessionWords (s .session)) before
+
+-- the verdicts by number
+abbrev pub verdictNumber : Verdict → ℕ
+verdictNumber Accept = 0
+verdictNumber (Fails Row) = 1
+verdictNumber (Fails Line) = 2
+verdictNumber (Fails Matrix) = 3
+
+-- the last step: the session's words and the verdict's number, or both as they were; it never answers Taken
+abbrev pub lastWords : steps.Answer → List ℕ → List ℕ × ℕ → Answered (List ℕ × ℕ)
+lastWords steps.Taken next before = told 0 0 (next, before .1)
+lastWords (steps.Judged v) next before = told 0 0 (next, verdictNumber v)
+lastWords (steps.Refused r) next before = told (r .number) (r .position) before
+
+abbrev pub lastAnswered : steps.Stepped → List ℕ × ℕ → Answered (List ℕ × ℕ)
+lastAnswered s before = lastWords (s .answer) (sessionWords (s .session)) before
+
+-- where section k of a record begins: 0 where the record is refused or has no such section
+unfoldable pub sectionStart : Prime → List ℕ → ℕ → ℕ
+sectionStart q bytes k =
+    elim (readRecord bytes q) as (λ o. ℕ) [ Done found ↦ getD (startsFrom 0 (sectionLengths (found .sizes))) k 0 | Refused r ↦ 0 ]

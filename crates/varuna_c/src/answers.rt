@@ -1,0 +1,176 @@
+// The answers of the public calls, handed over in numbers.
+use protocol::Check;
+use protocol::Triple;
+use protocol::Verdict;
+use record::Reading;
+use varuna::answers::Filled;
+use varuna::answers::IndexOpened;
+use varuna::answers::Openings;
+use varuna::answers::ThreeWords;
+use varuna::answers::Word;
+use varuna::session::Answer;
+use varuna::session::Finished;
+use varuna::session::LastAnswer;
+use varuna::session::Stepped;
+
+// The three words of an array.
+pub fn triple(words: &[u32; 3]) -> Triple {
+    Triple {
+        a: words[0],
+        b: words[1],
+        c: words[2],
+    }
+}
+
+// One word.
+pub fn give_word(answer: Word, result: &mut u32, position: &mut usize) -> u32 {
+    match answer {
+        Word::Value(word) => {
+            *result = word;
+            *position = 0;
+            0
+        }
+        Word::Refused(number, at) => {
+            *position = at;
+            number
+        }
+    }
+}
+
+// One word for each matrix.
+pub fn give_three(answer: ThreeWords, result: &mut [u32; 3], position: &mut usize) -> u32 {
+    match answer {
+        ThreeWords::Value(t) => {
+            *result = [t.a, t.b, t.c];
+            *position = 0;
+            0
+        }
+        ThreeWords::Refused(number, at) => {
+            *position = at;
+            number
+        }
+    }
+}
+
+// Slices that were filled already, or left as they were.
+pub fn give_filled(answer: Filled, position: &mut usize) -> u32 {
+    match answer {
+        Filled::Done => {
+            *position = 0;
+            0
+        }
+        Filled::Refused(number, at) => {
+            *position = at;
+            number
+        }
+    }
+}
+
+// The 21 openings.
+pub fn give_openings(answer: Openings, result: &mut [u32; 21], position: &mut usize) -> u32 {
+    match answer {
+        Openings::Value(o, i) => {
+            let g = o.matrixRemainders;
+            let a = i.a;
+            let b = i.b;
+            let c = i.c;
+            *result = [
+                o.witness,
+                o.mask,
+                o.lineRemainder,
+                o.lineQuotient,
+                o.rowQuotient,
+                o.joinedQuotient,
+                g.a,
+                g.b,
+                g.c,
+                a.row,
+                a.col,
+                a.rowcol,
+                a.rowcolval,
+                b.row,
+                b.col,
+                b.rowcol,
+                b.rowcolval,
+                c.row,
+                c.col,
+                c.rowcol,
+                c.rowcolval,
+            ];
+            *position = 0;
+            0
+        }
+        Openings::Refused(number, at) => {
+            *position = at;
+            number
+        }
+    }
+}
+
+// The next session.
+pub fn give_step(next: Stepped, session: &mut [u32; 1046], position: &mut usize) -> u32 {
+    let answer = next.answer;
+    match answer {
+        Answer::Taken => {
+            let s = next.session;
+            s.into_words(session);
+            *position = 0;
+            0
+        }
+        Answer::Refused(number, at) => {
+            *position = at;
+            number
+        }
+    }
+}
+
+// The number of a verdict: 0 Accept, 1 Fails Row, 2 Fails Line, 3 Fails Matrix.
+fn verdict_number(verdict: Verdict) -> u32 {
+    match verdict {
+        Verdict::Accept => 0,
+        Verdict::Fails(check) => match check {
+            Check::Row => 1,
+            Check::Line => 2,
+            Check::Matrix => 3,
+        },
+    }
+}
+
+// The last session and the verdict.
+pub fn give_verdict(
+    next: Finished,
+    session: &mut [u32; 1046],
+    verdict: &mut u32,
+    position: &mut usize,
+) -> u32 {
+    let answer = next.answer;
+    match answer {
+        LastAnswer::Judged(v) => {
+            let s = next.session;
+            s.into_words(session);
+            *verdict = verdict_number(v);
+            *position = 0;
+            0
+        }
+        LastAnswer::Refused(number, at) => {
+            *position = at;
+            number
+        }
+    }
+}
+
+// The six sizes of a record.
+pub fn give_sizes(answer: Reading, sizes: &mut [u32; 6], position: &mut usize) -> u32 {
+    match answer {
+        Reading::Whole(s) => {
+            let k = s.k;
+            *sizes = [s.r, s.c, s.x, k.a, k.b, k.c];
+            *position = 0;
+            0
+        }
+        Reading::Refused(number, at) => {
+            *position = at;
+            number
+        }
+    }
+}
