@@ -1,10 +1,16 @@
 // The answers of the public calls, handed over in numbers.
+ghost use mathlib.Core.Path.{_≡_};
+ghost use Rattle.protocol.specs.Meanings.{three, verdictMeaning};
+ghost use Rattle.record.specs.Answers.{readingMeaning};
+ghost use Rattle.varuna.specs.Answers.{openingsMeaning};
+ghost use Rattle.varuna.specs.Session.{threeAt, steppedMeaning, finishedMeaning};
+ghost use Rattle.varuna_c.specs.Answers.{told, answered, wordMeaning, threeMeaning, filledMeaning, threeListed, sizesListed};
+ghost use Rattle.varuna_c.specs.Answers.{stepAnswered, lastAnswered, verdictNumber};
 use protocol::Check;
 use protocol::Triple;
 use protocol::Verdict;
 use record::Reading;
 use varuna::answers::Filled;
-use varuna::answers::IndexOpened;
 use varuna::answers::Openings;
 use varuna::answers::ThreeWords;
 use varuna::answers::Word;
@@ -14,7 +20,9 @@ use varuna::session::LastAnswer;
 use varuna::session::Stepped;
 
 // The three words of an array.
-pub fn triple(words: &[u32; 3]) -> Triple {
+pub fn triple(words: &[u32; 3]) -> Triple
+    ensures { λ r. ⌜ three r ≡ threeAt (now (words .entry)) 0 ⌝ }
+{
     Triple {
         a: words[0],
         b: words[1],
@@ -23,7 +31,9 @@ pub fn triple(words: &[u32; 3]) -> Triple {
 }
 
 // One word.
-pub fn give_word(answer: Word, result: &mut u32, position: &mut usize) -> u32 {
+pub fn give_word(answer: Word, result: &mut u32, position: &mut usize) -> u32
+    ensures { λ n. ⌜ told n (now (position .exit)) (now (result .exit)) ≡ answered (wordMeaning answer) (now (result .entry)) ⌝ }
+{
     match answer {
         Word::Value(word) => {
             *result = word;
@@ -38,7 +48,10 @@ pub fn give_word(answer: Word, result: &mut u32, position: &mut usize) -> u32 {
 }
 
 // One word for each matrix.
-pub fn give_three(answer: ThreeWords, result: &mut [u32; 3], position: &mut usize) -> u32 {
+pub fn give_three(answer: ThreeWords, result: &mut [u32; 3], position: &mut usize) -> u32
+    ensures { λ n. ⌜ told n (now (position .exit)) (now (result .exit))
+        ≡ answered (threeListed (threeMeaning answer)) (now (result .entry)) ⌝ }
+{
     match answer {
         ThreeWords::Value(t) => {
             *result = [t.a, t.b, t.c];
@@ -53,7 +66,9 @@ pub fn give_three(answer: ThreeWords, result: &mut [u32; 3], position: &mut usiz
 }
 
 // Slices that were filled already, or left as they were.
-pub fn give_filled(answer: Filled, position: &mut usize) -> u32 {
+pub fn give_filled(answer: Filled, position: &mut usize) -> u32
+    ensures { λ n. ⌜ told n (now (position .exit)) tt ≡ answered (filledMeaning answer) tt ⌝ }
+{
     match answer {
         Filled::Done => {
             *position = 0;
@@ -67,7 +82,9 @@ pub fn give_filled(answer: Filled, position: &mut usize) -> u32 {
 }
 
 // The 21 openings.
-pub fn give_openings(answer: Openings, result: &mut [u32; 21], position: &mut usize) -> u32 {
+pub fn give_openings(answer: Openings, result: &mut [u32; 21], position: &mut usize) -> u32
+    ensures { λ n. ⌜ told n (now (position .exit)) (now (result .exit)) ≡ answered (openingsMeaning answer) (now (result .entry)) ⌝ }
+{
     match answer {
         Openings::Value(o, i) => {
             let g = o.matrixRemainders;
@@ -108,7 +125,9 @@ pub fn give_openings(answer: Openings, result: &mut [u32; 21], position: &mut us
 }
 
 // The next session.
-pub fn give_step(next: Stepped, session: &mut [u32; 1046], position: &mut usize) -> u32 {
+pub fn give_step(next: Stepped, session: &mut [u32; 1046], position: &mut usize) -> u32
+    ensures { λ n. ⌜ told n (now (position .exit)) (now (session .exit)) ≡ stepAnswered (steppedMeaning next) (now (session .entry)) ⌝ }
+{
     let answer = next.answer;
     match answer {
         Answer::Taken => {
@@ -125,7 +144,9 @@ pub fn give_step(next: Stepped, session: &mut [u32; 1046], position: &mut usize)
 }
 
 // The number of a verdict: 0 Accept, 1 Fails Row, 2 Fails Line, 3 Fails Matrix.
-fn verdict_number(verdict: Verdict) -> u32 {
+fn verdict_number(verdict: Verdict) -> u32
+    ensures { λ n. ⌜ n ≡ verdictNumber (verdictMeaning verdict) ⌝ }
+{
     match verdict {
         Verdict::Accept => 0,
         Verdict::Fails(check) => match check {
@@ -142,7 +163,10 @@ pub fn give_verdict(
     session: &mut [u32; 1046],
     verdict: &mut u32,
     position: &mut usize,
-) -> u32 {
+) -> u32
+    ensures { λ n. ⌜ told n (now (position .exit)) (now (session .exit), now (verdict .exit))
+        ≡ lastAnswered (finishedMeaning next) (now (session .entry), now (verdict .entry)) ⌝ }
+{
     let answer = next.answer;
     match answer {
         LastAnswer::Judged(v) => {
@@ -160,7 +184,10 @@ pub fn give_verdict(
 }
 
 // The six sizes of a record.
-pub fn give_sizes(answer: Reading, sizes: &mut [u32; 6], position: &mut usize) -> u32 {
+pub fn give_sizes(answer: Reading, sizes: &mut [u32; 6], position: &mut usize) -> u32
+    ensures { λ n. ⌜ told n (now (position .exit)) (now (sizes .exit))
+        ≡ answered (sizesListed (readingMeaning answer)) (now (sizes .entry)) ⌝ }
+{
     match answer {
         Reading::Whole(s) => {
             let k = s.k;

@@ -1,9 +1,17 @@
 // Calls on domains and polynomials.
+ghost use mathlib.Core.Path.{_≡_};
+ghost use lib.ListN.{length};
+ghost use Rattle.domain.specs.BabyBear.{babyBear};
+ghost use Rattle.protocol.specs.Calls.{domainCall, evaluateCall, interpolateCall};
+ghost use Rattle.varuna_c.specs.Answers.{told, answered};
 use crate::answers::give_filled;
 use crate::answers::give_word;
 
 #[no_mangle]
-pub extern "C" fn varuna_list_domain(n: u32, elements: &mut [u32], position: &mut usize) -> u32 {
+pub extern "C" fn varuna_list_domain(n: u32, elements: &mut [u32], position: &mut usize) -> u32
+    ensures { λ number. ⌜ told number (now (position .exit)) (now (elements .exit))
+        ≡ answered (domainCall babyBear n (length (now (elements .entry)))) (now (elements .entry)) ⌝ }
+{
     give_filled(varuna::polynomials::list_domain(n, elements), position)
 }
 
@@ -13,7 +21,10 @@ pub extern "C" fn varuna_evaluate(
     point: u32,
     result: &mut u32,
     position: &mut usize,
-) -> u32 {
+) -> u32
+    ensures { λ number. ⌜ told number (now (position .exit)) (now (result .exit))
+        ≡ answered (evaluateCall babyBear (now (coefficients .entry)) point) (now (result .entry)) ⌝ }
+{
     give_word(
         varuna::polynomials::evaluate(coefficients, point),
         result,
@@ -27,7 +38,10 @@ pub extern "C" fn varuna_interpolate(
     values: &[u32],
     coefficients: &mut [u32],
     position: &mut usize,
-) -> u32 {
+) -> u32
+    ensures { λ number. ⌜ told number (now (position .exit)) (now (coefficients .exit))
+        ≡ answered (interpolateCall babyBear n (now (values .entry)) (length (now (coefficients .entry)))) (now (coefficients .entry)) ⌝ }
+{
     give_filled(
         varuna::polynomials::interpolate(n, values, coefficients),
         position,

@@ -1,0 +1,23 @@
+-- `varuna_c::answers::triple` meets its contract. Assumes nothing.
+use mathlib.Core.Path.{refl}
+use Rattle.varuna.specs.Session.{threeAt}
+use borrow.Author.Needs.{needs}
+use Rattle.varuna_c.proofs.answers.triple.Statement.{statement}
+use Rattle.varuna_c.proofs.answers.triple.Tie as tie
+
+element-copy-out-t4 : tie.Need-element-copy-out-t4
+element-copy-out-t4 c = search needs
+
+element-copy-out-t7 : tie.Need-element-copy-out-t7
+element-copy-out-t7 c = search needs
+
+element-copy-out-t10 : tie.Need-element-copy-out-t10
+element-copy-out-t10 c = search needs
+
+returns : tie.Need-returns
+unfolding threeAt
+returns c = refl
+
+pub triple-spec : {M : Type 1} → statement M
+triple-spec =
+    tie.close (tie.spec element-copy-out-t4 element-copy-out-t7 element-copy-out-t10 returns)

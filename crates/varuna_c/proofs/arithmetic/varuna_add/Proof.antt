@@ -1,0 +1,21 @@
+-- `varuna_c::arithmetic::varuna_add` meets its contract. Assumes nothing.
+use Rattle.domain.specs.BabyBear.{babyBear}
+use Rattle.protocol.specs.Calls.{addCall}
+use Rattle.varuna_c.proofs.AnswerLaws.{word-told}
+use borrow.Author.Needs.{needs}
+use Rattle.varuna_c.proofs.arithmetic.varuna_add.Statement.{statement}
+use Rattle.varuna_c.proofs.arithmetic.varuna_add.Tie as tie
+
+add-requires : tie.Need-add-requires
+add-requires c κs = search needs
+
+give-word-requires : tie.Need-give-word-requires
+give-word-requires c κs = search needs
+
+returns : tie.Need-returns
+returns c =
+    let a = c .before .before .before .before .args in
+    word-told (addCall babyBear (a .a) (a .b)) (a .result .now) (c .give-word .ensures) (c .before .before .before .add .ensures)
+
+pub varuna-add-spec : {M : Type 1} → statement M
+varuna-add-spec = tie.close (tie.spec add-requires give-word-requires returns)

@@ -1,0 +1,21 @@
+-- `varuna_c::arithmetic::varuna_inverse` meets its contract. Assumes nothing.
+use Rattle.domain.specs.BabyBear.{babyBear}
+use Rattle.protocol.specs.Calls.{inverseCall}
+use Rattle.varuna_c.proofs.AnswerLaws.{word-told}
+use borrow.Author.Needs.{needs}
+use Rattle.varuna_c.proofs.arithmetic.varuna_inverse.Statement.{statement}
+use Rattle.varuna_c.proofs.arithmetic.varuna_inverse.Tie as tie
+
+inverse-requires : tie.Need-inverse-requires
+inverse-requires c κs = search needs
+
+give-word-requires : tie.Need-give-word-requires
+give-word-requires c κs = search needs
+
+returns : tie.Need-returns
+returns c =
+    let a = c .before .before .before .before .args in
+    word-told (inverseCall babyBear (a .a)) (a .result .now) (c .give-word .ensures) (c .before .before .before .inverse .ensures)
+
+pub varuna-inverse-spec : {M : Type 1} → statement M
+varuna-inverse-spec = tie.close (tie.spec inverse-requires give-word-requires returns)

@@ -1,0 +1,21 @@
+-- `varuna_c::arithmetic::varuna_multiply` meets its contract. Assumes nothing.
+use Rattle.domain.specs.BabyBear.{babyBear}
+use Rattle.protocol.specs.Calls.{multiplyCall}
+use Rattle.varuna_c.proofs.AnswerLaws.{word-told}
+use borrow.Author.Needs.{needs}
+use Rattle.varuna_c.proofs.arithmetic.varuna_multiply.Statement.{statement}
+use Rattle.varuna_c.proofs.arithmetic.varuna_multiply.Tie as tie
+
+multiply-requires : tie.Need-multiply-requires
+multiply-requires c κs = search needs
+
+give-word-requires : tie.Need-give-word-requires
+give-word-requires c κs = search needs
+
+returns : tie.Need-returns
+returns c =
+    let a = c .before .before .before .before .args in
+    word-told (multiplyCall babyBear (a .a) (a .b)) (a .result .now) (c .give-word .ensures) (c .before .before .before .multiply .ensures)
+
+pub varuna-multiply-spec : {M : Type 1} → statement M
+varuna-multiply-spec = tie.close (tie.spec multiply-requires give-word-requires returns)

@@ -1,0 +1,21 @@
+-- `varuna_c::arithmetic::varuna_power` meets its contract. Assumes nothing.
+use Rattle.domain.specs.BabyBear.{babyBear}
+use Rattle.protocol.specs.Calls.{powerCall}
+use Rattle.varuna_c.proofs.AnswerLaws.{word-told}
+use borrow.Author.Needs.{needs}
+use Rattle.varuna_c.proofs.arithmetic.varuna_power.Statement.{statement}
+use Rattle.varuna_c.proofs.arithmetic.varuna_power.Tie as tie
+
+power-requires : tie.Need-power-requires
+power-requires c κs = search needs
+
+give-word-requires : tie.Need-give-word-requires
+give-word-requires c κs = search needs
+
+returns : tie.Need-returns
+returns c =
+    let a = c .before .before .before .before .args in
+    word-told (powerCall babyBear (a .a) (a .n)) (a .result .now) (c .give-word .ensures) (c .before .before .before .power .ensures)
+
+pub varuna-power-spec : {M : Type 1} → statement M
+varuna-power-spec = tie.close (tie.spec power-requires give-word-requires returns)

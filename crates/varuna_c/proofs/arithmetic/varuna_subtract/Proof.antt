@@ -1,0 +1,21 @@
+-- `varuna_c::arithmetic::varuna_subtract` meets its contract. Assumes nothing.
+use Rattle.domain.specs.BabyBear.{babyBear}
+use Rattle.protocol.specs.Calls.{subtractCall}
+use Rattle.varuna_c.proofs.AnswerLaws.{word-told}
+use borrow.Author.Needs.{needs}
+use Rattle.varuna_c.proofs.arithmetic.varuna_subtract.Statement.{statement}
+use Rattle.varuna_c.proofs.arithmetic.varuna_subtract.Tie as tie
+
+subtract-requires : tie.Need-subtract-requires
+subtract-requires c κs = search needs
+
+give-word-requires : tie.Need-give-word-requires
+give-word-requires c κs = search needs
+
+returns : tie.Need-returns
+returns c =
+    let a = c .before .before .before .before .args in
+    word-told (subtractCall babyBear (a .a) (a .b)) (a .result .now) (c .give-word .ensures) (c .before .before .before .subtract .ensures)
+
+pub varuna-subtract-spec : {M : Type 1} → statement M
+varuna-subtract-spec = tie.close (tie.spec subtract-requires give-word-requires returns)
