@@ -1,4 +1,13 @@
 // The indexer.
+ghost use mathlib.Core.Path.{_≡_};
+ghost use lib.ListN.{length};
+ghost use Rattle.domain.specs.BabyBear.{babyBear};
+ghost use Rattle.protocol.specs.Three.{mapThree};
+ghost use Rattle.protocol.specs.Index.{mapIndex};
+ghost use Rattle.protocol.specs.Calls.{indexCall};
+ghost use Rattle.circuit.specs.Given.{given};
+ghost use Rattle.varuna.specs.Inputs.{twelve};
+ghost use Rattle.varuna_c.specs.Answers.{told, answered};
 use crate::answers::give_filled;
 
 #[no_mangle]
@@ -22,7 +31,20 @@ pub extern "C" fn varuna_index(
     rowcolC: &mut [u32],
     rowcolvalC: &mut [u32],
     position: &mut usize,
-) -> u32 {
+) -> u32
+    ensures { λ number. ⌜ told number (now (position .exit))
+        (twelve (now (rowA .exit)) (now (colA .exit)) (now (rowcolA .exit)) (now (rowcolvalA .exit))
+        (now (rowB .exit)) (now (colB .exit)) (now (rowcolB .exit)) (now (rowcolvalB .exit))
+        (now (rowC .exit)) (now (colC .exit)) (now (rowcolC .exit)) (now (rowcolvalC .exit)))
+        ≡ answered (indexCall babyBear (given r c x (now (ea .entry)) (now (eb .entry)) (now (ec .entry)))
+        (mapThree (mapIndex length)
+        (twelve (now (rowA .entry)) (now (colA .entry)) (now (rowcolA .entry)) (now (rowcolvalA .entry))
+        (now (rowB .entry)) (now (colB .entry)) (now (rowcolB .entry)) (now (rowcolvalB .entry))
+        (now (rowC .entry)) (now (colC .entry)) (now (rowcolC .entry)) (now (rowcolvalC .entry)))))
+        (twelve (now (rowA .entry)) (now (colA .entry)) (now (rowcolA .entry)) (now (rowcolvalA .entry))
+        (now (rowB .entry)) (now (colB .entry)) (now (rowcolB .entry)) (now (rowcolvalB .entry))
+        (now (rowC .entry)) (now (colC .entry)) (now (rowcolC .entry)) (now (rowcolvalC .entry))) ⌝ }
+{
     let answer = varuna::indexer::index(
         r,
         c,

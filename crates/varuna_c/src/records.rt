@@ -1,7 +1,13 @@
 // Calls on proof records.
 ghost use mathlib.Core.Path.{_≡_};
+ghost use lib.ListN.{length};
 ghost use Rattle.domain.specs.BabyBear.{babyBear};
-ghost use Rattle.varuna_c.specs.Answers.{sectionStart};
+ghost use Rattle.protocol.specs.Record.{readRecord};
+ghost use Rattle.protocol.specs.Calls.{writeCall, sectionCall};
+ghost use Rattle.record.specs.Answers.{sizesFound};
+ghost use Rattle.record.specs.Layout.{eachSection};
+ghost use Rattle.varuna_c.specs.Answers.{told, answered, sizesListed, sectionStart};
+ghost use Rattle.varuna_c.specs.Inputs.{sizesIn};
 use crate::answers::give_filled;
 use crate::answers::give_sizes;
 use crate::session::sizes_in;
@@ -29,7 +35,13 @@ pub extern "C" fn varuna_write_record(
     h2: &[u32],
     bytes: &mut [u8],
     position: &mut usize,
-) -> u32 {
+) -> u32
+    ensures { λ number. ⌜ told number (now (position .exit)) (now (bytes .exit))
+        ≡ answered (writeCall babyBear (sizesIn (now (sizes .entry)))
+        (eachSection (now (w .entry)) (now (m .entry)) (now (h0 .entry)) (now (s .entry)) (now (g1 .entry)) (now (h1 .entry))
+        (now (o .entry)) (now (ga .entry)) (now (gb .entry)) (now (gc .entry)) (now (h2 .entry)))
+        (length (now (bytes .entry)))) (now (bytes .entry)) ⌝ }
+{
     let answer = varuna::records::write_record(
         sizes_in(sizes),
         w,
@@ -53,7 +65,10 @@ pub extern "C" fn varuna_read_record(
     bytes: &[u8],
     sizes: &mut [u32; 6],
     position: &mut usize,
-) -> u32 {
+) -> u32
+    ensures { λ number. ⌜ told number (now (position .exit)) (now (sizes .exit))
+        ≡ answered (sizesListed (sizesFound (readRecord (now (bytes .entry)) babyBear))) (now (sizes .entry)) ⌝ }
+{
     give_sizes(varuna::records::read_record(bytes), sizes, position)
 }
 
@@ -75,7 +90,10 @@ fn section_start(bytes: &[u8], k: usize) -> usize
 }
 
 #[no_mangle]
-pub extern "C" fn varuna_section(bytes: &[u8], k: usize, start: &mut usize) -> usize {
+pub extern "C" fn varuna_section(bytes: &[u8], k: usize, start: &mut usize) -> usize
+    ensures { λ r. ⌜ r ≡ length (sectionCall babyBear (now (bytes .entry)) k) ⌝ }
+    ensures { λ r. ⌜ now (start .exit) ≡ sectionStart babyBear (now (bytes .entry)) k ⌝ }
+{
     let part = varuna::records::section(bytes, k);
     *start = section_start(bytes, k);
     part.len()

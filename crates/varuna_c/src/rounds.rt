@@ -1,4 +1,11 @@
 // The prover's rounds.
+ghost use mathlib.Core.Path.{_≡_};
+ghost use lib.ListN.{length};
+ghost use Rattle.domain.specs.BabyBear.{babyBear};
+ghost use Rattle.protocol.specs.Calls.{firstRoundCall, secondRoundCall, thirdRoundCall, fourthRoundCall, fifthRoundCall, openingsCall};
+ghost use Rattle.varuna.specs.Inputs.{proverInput, threeOf};
+ghost use Rattle.varuna.specs.Session.{threeAt};
+ghost use Rattle.varuna_c.specs.Answers.{told, answered, threeListed, threeListedWith};
 use crate::answers::give_filled;
 use crate::answers::give_openings;
 use crate::answers::give_three;
@@ -19,7 +26,12 @@ pub extern "C" fn varuna_first_round(
     witness: &mut [u32],
     rowQuotient: &mut [u32],
     position: &mut usize,
-) -> u32 {
+) -> u32
+    ensures { λ number. ⌜ told number (now (position .exit)) (now (witness .exit), now (rowQuotient .exit))
+        ≡ answered (firstRoundCall babyBear
+        (proverInput r c x (now (ea .entry)) (now (eb .entry)) (now (ec .entry)) (now (z .entry)) mask (now (m .entry)))
+        (length (now (witness .entry))) (length (now (rowQuotient .entry)))) (now (witness .entry), now (rowQuotient .entry)) ⌝ }
+{
     let answer = varuna::rounds::first_round(r, c, x, ea, eb, ec, z, mask, m, witness, rowQuotient);
     give_filled(answer, position)
 }
@@ -39,7 +51,12 @@ pub extern "C" fn varuna_second_round(
     alpha: u32,
     sums: &mut [u32; 3],
     position: &mut usize,
-) -> u32 {
+) -> u32
+    ensures { λ number. ⌜ told number (now (position .exit)) (now (sums .exit))
+        ≡ answered (threeListed (secondRoundCall babyBear
+        (proverInput r c x (now (ea .entry)) (now (eb .entry)) (now (ec .entry)) (now (z .entry)) mask (now (m .entry)))
+        alpha)) (now (sums .entry)) ⌝ }
+{
     let answer = varuna::rounds::second_round(r, c, x, ea, eb, ec, z, mask, m, alpha);
     give_three(answer, sums, position)
 }
@@ -61,7 +78,12 @@ pub extern "C" fn varuna_third_round(
     remainder: &mut [u32],
     quotient: &mut [u32],
     position: &mut usize,
-) -> u32 {
+) -> u32
+    ensures { λ number. ⌜ told number (now (position .exit)) (now (remainder .exit), now (quotient .exit))
+        ≡ answered (thirdRoundCall babyBear
+        (proverInput r c x (now (ea .entry)) (now (eb .entry)) (now (ec .entry)) (now (z .entry)) mask (now (m .entry)))
+        alpha (threeAt (now (eta .entry)) 0) (length (now (remainder .entry))) (length (now (quotient .entry)))) (now (remainder .entry), now (quotient .entry)) ⌝ }
+{
     let answer = varuna::rounds::third_round(
         r,
         c,
@@ -100,7 +122,13 @@ pub extern "C" fn varuna_fourth_round(
     gc: &mut [u32],
     values: &mut [u32; 3],
     position: &mut usize,
-) -> u32 {
+) -> u32
+    ensures { λ number. ⌜ told number (now (position .exit)) (now (values .exit), threeOf (now (ga .exit)) (now (gb .exit)) (now (gc .exit)))
+        ≡ answered (threeListedWith (fourthRoundCall babyBear
+        (proverInput r c x (now (ea .entry)) (now (eb .entry)) (now (ec .entry)) (now (z .entry)) mask (now (m .entry)))
+        alpha (threeAt (now (eta .entry)) 0) beta (threeOf (length (now (ga .entry))) (length (now (gb .entry))) (length (now (gc .entry))))))
+        (now (values .entry), threeOf (now (ga .entry)) (now (gb .entry)) (now (gc .entry))) ⌝ }
+{
     let answer = varuna::rounds::fourth_round(
         r,
         c,
@@ -139,7 +167,12 @@ pub extern "C" fn varuna_fifth_round(
     delta: &[u32; 3],
     quotient: &mut [u32],
     position: &mut usize,
-) -> u32 {
+) -> u32
+    ensures { λ number. ⌜ told number (now (position .exit)) (now (quotient .exit))
+        ≡ answered (fifthRoundCall babyBear
+        (proverInput r c x (now (ea .entry)) (now (eb .entry)) (now (ec .entry)) (now (z .entry)) mask (now (m .entry)))
+        alpha (threeAt (now (eta .entry)) 0) beta (threeAt (now (delta .entry)) 0) (length (now (quotient .entry)))) (now (quotient .entry)) ⌝ }
+{
     let answer = varuna::rounds::fifth_round(
         r,
         c,
@@ -178,7 +211,12 @@ pub extern "C" fn varuna_openings(
     gamma: u32,
     openings: &mut [u32; 21],
     position: &mut usize,
-) -> u32 {
+) -> u32
+    ensures { λ number. ⌜ told number (now (position .exit)) (now (openings .exit))
+        ≡ answered (openingsCall babyBear
+        (proverInput r c x (now (ea .entry)) (now (eb .entry)) (now (ec .entry)) (now (z .entry)) mask (now (m .entry)))
+        alpha (threeAt (now (eta .entry)) 0) beta (threeAt (now (delta .entry)) 0) gamma) (now (openings .entry)) ⌝ }
+{
     let answer = varuna::rounds::openings(
         r,
         c,

@@ -1,4 +1,11 @@
 // The verifier's session, kept by the caller as 1,046 words.
+ghost use mathlib.Core.Path.{_≡_};
+ghost use Rattle.domain.specs.BabyBear.{babyBear};
+ghost use Rattle.protocol.specs.Meanings.{sizes as sizesMeaning};
+ghost use Rattle.protocol.specs.Session.{unopened, openStep, alphaStep, etaStep, betaStep, deltaStep, gammaStep, openingsStep};
+ghost use Rattle.varuna.specs.Session.{threeAt, sessionOf, sessionWords};
+ghost use Rattle.varuna_c.specs.Answers.{told, stepAnswered, lastAnswered};
+ghost use Rattle.varuna_c.specs.Inputs.{sizesIn, openingsIn, messagesIn, indexesIn};
 use crate::answers::give_step;
 use crate::answers::give_verdict;
 use crate::answers::triple;
@@ -11,7 +18,9 @@ use varuna::session::Session;
 const SESSION_WORDS: usize = 1046;
 
 // Six sizes in trailer order.
-pub fn sizes_in(words: &[u32; 6]) -> Sizes {
+pub fn sizes_in(words: &[u32; 6]) -> Sizes
+    ensures { λ r. ⌜ sizesMeaning r ≡ sizesIn (now (words .entry)) ⌝ }
+{
     Sizes {
         r: words[0],
         c: words[1],
@@ -25,7 +34,9 @@ pub fn sizes_in(words: &[u32; 6]) -> Sizes {
 }
 
 // The openings of the messages, the first nine of 21.
-fn messages_in(o: &[u32; 21]) -> Opened {
+fn messages_in(o: &[u32; 21]) -> Opened
+    ensures { λ r. ⌜ r ≡ messagesIn (now (o .entry)) ⌝ }
+{
     Opened {
         witness: o[0],
         mask: o[1],
@@ -42,7 +53,9 @@ fn messages_in(o: &[u32; 21]) -> Opened {
 }
 
 // The openings of the index polynomials, the last twelve of 21.
-fn indexes_in(o: &[u32; 21]) -> [[u32; 4]; 3] {
+fn indexes_in(o: &[u32; 21]) -> [[u32; 4]; 3]
+    ensures { λ r. ⌜ r ≡ indexesIn (now (o .entry)) ⌝ }
+{
     [
         [o[9], o[10], o[11], o[12]],
         [o[13], o[14], o[15], o[16]],
@@ -51,7 +64,9 @@ fn indexes_in(o: &[u32; 21]) -> [[u32; 4]; 3] {
 }
 
 #[no_mangle]
-pub extern "C" fn varuna_session_new(session: &mut [u32; SESSION_WORDS]) {
+pub extern "C" fn varuna_session_new(session: &mut [u32; SESSION_WORDS])
+    ensures { λ _. ⌜ now (session .exit) ≡ sessionWords unopened ⌝ }
+{
     let s = Session::new();
     s.into_words(session);
 }
@@ -62,7 +77,10 @@ pub extern "C" fn varuna_session_open(
     sizes: &[u32; 6],
     x: &[u32],
     position: &mut usize,
-) -> u32 {
+) -> u32
+    ensures { λ number. ⌜ told number (now (position .exit)) (now (session .exit))
+        ≡ stepAnswered (openStep babyBear (sessionOf (now (session .entry))) (sizesIn (now (sizes .entry))) (now (x .entry))) (now (session .entry)) ⌝ }
+{
     let s = Session::from_words(session);
     give_step(s.open(sizes_in(sizes), x), session, position)
 }
@@ -75,7 +93,10 @@ pub extern "C" fn varuna_session_alpha(
     rowQuotient: u32,
     alpha: u32,
     position: &mut usize,
-) -> u32 {
+) -> u32
+    ensures { λ number. ⌜ told number (now (position .exit)) (now (session .exit))
+        ≡ stepAnswered (alphaStep babyBear (sessionOf (now (session .entry))) witness mask rowQuotient alpha) (now (session .entry)) ⌝ }
+{
     let s = Session::from_words(session);
     give_step(
         s.alpha(witness, mask, rowQuotient, alpha),
@@ -90,7 +111,10 @@ pub extern "C" fn varuna_session_eta(
     sums: &[u32; 3],
     eta: &[u32; 3],
     position: &mut usize,
-) -> u32 {
+) -> u32
+    ensures { λ number. ⌜ told number (now (position .exit)) (now (session .exit))
+        ≡ stepAnswered (etaStep babyBear (sessionOf (now (session .entry))) (threeAt (now (sums .entry)) 0) (threeAt (now (eta .entry)) 0)) (now (session .entry)) ⌝ }
+{
     let s = Session::from_words(session);
     give_step(s.eta(triple(sums), triple(eta)), session, position)
 }
@@ -102,7 +126,10 @@ pub extern "C" fn varuna_session_beta(
     quotient: u32,
     beta: u32,
     position: &mut usize,
-) -> u32 {
+) -> u32
+    ensures { λ number. ⌜ told number (now (position .exit)) (now (session .exit))
+        ≡ stepAnswered (betaStep babyBear (sessionOf (now (session .entry))) remainder quotient beta) (now (session .entry)) ⌝ }
+{
     let s = Session::from_words(session);
     give_step(s.beta(remainder, quotient, beta), session, position)
 }
@@ -114,7 +141,11 @@ pub extern "C" fn varuna_session_delta(
     remainders: &[u32; 3],
     delta: &[u32; 3],
     position: &mut usize,
-) -> u32 {
+) -> u32
+    ensures { λ number. ⌜ told number (now (position .exit)) (now (session .exit))
+        ≡ stepAnswered (deltaStep babyBear (sessionOf (now (session .entry)))
+        (threeAt (now (values .entry)) 0) (threeAt (now (remainders .entry)) 0) (threeAt (now (delta .entry)) 0)) (now (session .entry)) ⌝ }
+{
     let s = Session::from_words(session);
     give_step(
         s.delta(triple(values), triple(remainders), triple(delta)),
@@ -129,7 +160,10 @@ pub extern "C" fn varuna_session_gamma(
     quotient: u32,
     gamma: u32,
     position: &mut usize,
-) -> u32 {
+) -> u32
+    ensures { λ number. ⌜ told number (now (position .exit)) (now (session .exit))
+        ≡ stepAnswered (gammaStep babyBear (sessionOf (now (session .entry))) quotient gamma) (now (session .entry)) ⌝ }
+{
     let s = Session::from_words(session);
     give_step(s.gamma(quotient, gamma), session, position)
 }
@@ -140,7 +174,11 @@ pub extern "C" fn varuna_session_openings(
     openings: &[u32; 21],
     verdict: &mut u32,
     position: &mut usize,
-) -> u32 {
+) -> u32
+    ensures { λ number. ⌜ told number (now (position .exit)) (now (session .exit), now (verdict .exit))
+        ≡ lastAnswered (openingsStep babyBear (sessionOf (now (session .entry))) (openingsIn (now (openings .entry))))
+        (now (session .entry), now (verdict .entry)) ⌝ }
+{
     let s = Session::from_words(session);
     give_verdict(
         s.openings(messages_in(openings), indexes_in(openings)),

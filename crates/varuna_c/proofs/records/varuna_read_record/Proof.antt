@@ -1,0 +1,20 @@
+-- `varuna_c::records::varuna_read_record` meets its contract. Assumes nothing.
+use mathlib.Core.Path.{ap, _∙_}
+use Rattle.varuna_c.specs.Answers.{answered, sizesListed}
+use borrow.Author.Needs.{needs}
+use Rattle.varuna_c.proofs.records.varuna_read_record.Statement.{statement}
+use Rattle.varuna_c.proofs.records.varuna_read_record.Tie as tie
+
+read-record-requires : tie.Need-read-record-requires
+read-record-requires c κs = search needs
+
+give-sizes-requires : tie.Need-give-sizes-requires
+give-sizes-requires c κs = search needs
+
+returns : tie.Need-returns
+returns c =
+    let a = c .before .before .before .before .before .args in
+    c .give-sizes .ensures ∙ ap (λ o. answered (sizesListed o) (a .sizes .now)) (c .before .before .before .read-record .ensures)
+
+pub varuna-read-record-spec : {M : Type 1} → statement M
+varuna-read-record-spec = tie.close (tie.spec read-record-requires give-sizes-requires returns)

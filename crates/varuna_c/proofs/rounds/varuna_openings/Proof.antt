@@ -1,0 +1,39 @@
+-- `varuna_c::rounds::varuna_openings` meets its contract. Assumes nothing.
+use mathlib.Core.Path.{ap, ap₂, _∙_}
+use Rattle.domain.specs.BabyBear.{babyBear}
+use Rattle.protocol.specs.Three.{Three}
+use Prim.Native.Nat.{ℕ}
+use Rattle.varuna.specs.Inputs.{proverInput}
+use Rattle.protocol.specs.Refusals.{Outcome}
+use mathlib.Core.List.{List}
+use Rattle.protocol.specs.Calls.{openingsCall}
+use Rattle.varuna_c.specs.Answers.{answered}
+use borrow.Author.Needs.{needs}
+use Rattle.varuna_c.proofs.rounds.varuna_openings.Statement.{statement}
+use Rattle.varuna_c.proofs.rounds.varuna_openings.Tie as tie
+
+triple-requires : tie.Need-triple-requires
+triple-requires c κs = search needs
+
+triple-requires-2 : tie.Need-triple-requires-2
+triple-requires-2 c κs = search needs
+
+openings-requires : tie.Need-openings-requires
+openings-requires c κs = search needs
+
+give-openings-requires : tie.Need-give-openings-requires
+give-openings-requires c κs = search needs
+
+returns : tie.Need-returns
+returns c =
+    let a = c .before .before .before .before .before .before .before .before .before .before .before .args in
+    let i = proverInput (a .r) (a .c) (a .x) (a .ea .now) (a .eb .now) (a .ec .now) (a .z .now) (a .mask) (a .m .now) in
+    let before = a .openings .now in
+    let call : Three ℕ → Three ℕ → Outcome (List ℕ) = λ η δ. openingsCall babyBear i (a .alpha) η (a .beta) δ (a .gamma) in
+    c .give-openings .ensures
+    ∙ ap (λ o. answered o before) (c .before .before .before .openings .ensures ∙ ap₂ call (c .before .before .before .before .before .triple .ensures) (c .before .before .before .before .triple2 .ensures))
+
+pub varuna-openings-spec : {M : Type 1} → statement M
+varuna-openings-spec =
+    tie.close
+    (tie.spec triple-requires triple-requires-2 openings-requires give-openings-requires returns)

@@ -1,0 +1,47 @@
+-- `varuna_c::session::varuna_session_openings` meets its contract. Assumes nothing.
+use mathlib.Core.Path.{ap, ap₂, _∙_}
+use Rattle.domain.specs.BabyBear.{babyBear}
+use Rattle.protocol.specs.Session as steps
+use Rattle.varuna.specs.Session.{threeAt}
+use Rattle.varuna_c.specs.Answers.{lastAnswered}
+use Rattle.varuna_c.specs.Inputs.{openingsIn}
+use Rattle.protocol.specs.Meanings.{openings}
+use Rattle.protocol.specs.Session.{openingsStep}
+use borrow.Author.Needs.{needs}
+use Rattle.varuna_c.proofs.session.varuna_session_openings.Statement.{statement}
+use Rattle.varuna_c.proofs.session.varuna_session_openings.Tie as tie
+
+from-words-requires : tie.Need-from-words-requires
+from-words-requires c κs = search needs
+
+messages-in-requires : tie.Need-messages-in-requires
+messages-in-requires c κs = search needs
+
+indexes-in-requires : tie.Need-indexes-in-requires
+indexes-in-requires c κs = search needs
+
+openings-requires : tie.Need-openings-requires
+openings-requires c κs = search needs
+
+give-verdict-requires : tie.Need-give-verdict-requires
+give-verdict-requires c κs = search needs
+
+returns : tie.Need-returns
+unfolding openingsIn threeAt
+returns c =
+    let a = c .before .before .before .before .before .before .before .before .before .args in
+    let heard = ap₂ openings (c .before .before .before .before .before .before .messages-in .ensures) (c .before .before .before .before .before .indexes-in .ensures) in
+    c .give-verdict .ensures
+    ∙ ap (λ s. lastAnswered s (a .session .now, a .verdict .now))
+    (c .before .before .before .before .openings .ensures ∙ ap₂ (openingsStep babyBear) (c .before .before .before .before .before .before .before .from-words .ensures) heard)
+
+pub varuna-session-openings-spec : {M : Type 1} → statement M
+varuna-session-openings-spec =
+    tie.close
+    (tie.spec
+    from-words-requires
+    messages-in-requires
+    indexes-in-requires
+    openings-requires
+    give-verdict-requires
+    returns)
