@@ -37,8 +37,10 @@ module _ {S : Type 0} (before : S) where
 
   pub filled-told : (o : Outcome S) {a : Answered (Unit {0})} {f : Filled} {after : S} → a ≡ answered (filledMeaning f) tt
       → filling f after ≡ fills o before → slices-alone a after ≡ answered o before
-  filled-told (Done result) {a} {f} {after} given same = ap (λ (a : Answered (Unit {0})). slices-alone a after) given ∙ ap filled-answered same
-  filled-told (Refused r) {a} {f} {after} given same = ap (λ (a : Answered (Unit {0})). slices-alone a after) given ∙ ap filled-answered same
+  filled-told (Done result) {a} {f} {after} given same =
+      ap (λ (a : Answered (Unit {0})). slices-alone a after) given ∙ ap filled-answered same
+  filled-told (Refused r) {a} {f} {after} given same =
+      ap (λ (a : Answered (Unit {0})). slices-alone a after) given ∙ ap filled-answered same
 
   module _ (words : List ℕ) where
     abbrev three-filled-answered : Filling ThreeWords S → Answered (List ℕ × S)

@@ -37,7 +37,8 @@ module _ (q : Prime) (bytes : List ℕ) where
 
   pub layout-free : recordRefusal bytes q ≡ none → layoutRefusal bytes ≡ none
   layout-free free =
-      first-none (layoutRefusal bytes ∷ wordRefusal q (wordsIn (take (length bytes - trailerBytes) bytes)) ∷ []) (sym (record-rows bytes q) ∙ free) .0
+      first-none (layoutRefusal bytes ∷ wordRefusal q (wordsIn (take (length bytes - trailerBytes) bytes)) ∷ [])
+      (sym (record-rows bytes q) ∙ free) .0
 
   start-none : (r : Refusal) (k : ℕ) → recordRefusal bytes q ≡ some r → sectionStart q bytes k ≡ 0
   unfolding sectionStart readRecord
@@ -82,7 +83,8 @@ module _ (q : Prime) (bytes : List ℕ) where
       let lasts = first-none (startsRow bytes s ∷ totalRow bytes s ∷ []) (trails .1 .0) in
       let all = refuse-none 3 0 tests (lasts .0) in
       let fits : length given ≤ length found = omega (arith, eleven-starts, length-tabulate 11 (trailerWord bytes)) in
-      let same : getD tests k true ≡ true = all-at (λ t. t ≡ true) tests all k true (omega (arith, length-pairs eqb found given fits, eleven-starts)) in
+      let same : getD tests k true ≡ true =
+      all-at (λ t. t ≡ true) tests all k true (omega (arith, length-pairs eqb found given fits, eleven-starts)) in
       sym (getD-tabulate 11 k (trailerWord bytes) 0 below)
       ∙ eqb-true (getD found k 0) (getD given k 0) (sym (pairs-at eqb found given k 0 0 fits (omega (arith, eleven-starts))) ∙ same)
 

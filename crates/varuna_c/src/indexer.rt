@@ -10,6 +10,7 @@ ghost use Rattle.varuna.specs.Inputs.{twelve};
 ghost use Rattle.varuna_c.specs.Answers.{told, answered};
 use crate::answers::give_filled;
 
+// The twelve index polynomials of a circuit. Refusals 4 to 7.
 #[no_mangle]
 pub extern "C" fn varuna_index(
     r: u32,

@@ -7,6 +7,7 @@ ghost use Rattle.varuna_c.specs.Answers.{told, answered};
 use crate::answers::give_filled;
 use crate::answers::give_word;
 
+// The n elements of the domain of size n. Refusals 4, 5.
 #[no_mangle]
 pub extern "C" fn varuna_list_domain(n: u32, elements: &mut [u32], position: &mut usize) -> u32
     ensures { λ number. ⌜ told number (now (position .exit)) (now (elements .exit))
@@ -15,6 +16,7 @@ pub extern "C" fn varuna_list_domain(n: u32, elements: &mut [u32], position: &mu
     give_filled(varuna::polynomials::list_domain(n, elements), position)
 }
 
+// The value at the point of the polynomial with these coefficients, the constant first. Refusals 5, 6.
 #[no_mangle]
 pub extern "C" fn varuna_evaluate(
     coefficients: &[u32],
@@ -32,6 +34,7 @@ pub extern "C" fn varuna_evaluate(
     )
 }
 
+// The n coefficients of the polynomial with these values on the domain of size n. Refusals 4, 5, 6.
 #[no_mangle]
 pub extern "C" fn varuna_interpolate(
     n: u32,

@@ -19,6 +19,7 @@ const TRAILER_BYTES: usize = 72;
 
 const SECTIONS: usize = 11;
 
+// A record of eleven sections. Refusals 4, 5, 6.
 #[no_mangle]
 pub extern "C" fn varuna_write_record(
     sizes: &[u32; 6],
@@ -60,6 +61,7 @@ pub extern "C" fn varuna_write_record(
     give_filled(answer, position)
 }
 
+// The six sizes of a record. Refusals 2, 3, 6.
 #[no_mangle]
 pub extern "C" fn varuna_read_record(
     bytes: &[u8],
@@ -89,6 +91,7 @@ fn section_start(bytes: &[u8], k: usize) -> usize
     }
 }
 
+// The length of section k in bytes, and where it begins.
 #[no_mangle]
 pub extern "C" fn varuna_section(bytes: &[u8], k: usize, start: &mut usize) -> usize
     ensures { λ r. ⌜ r ≡ length (sectionCall babyBear (now (bytes .entry)) k) ⌝ }

@@ -11,7 +11,7 @@ use crate::answers::give_openings;
 use crate::answers::give_three;
 use crate::answers::triple;
 
-// Round 1: ŵ and h0.
+// Round 1: ŵ and h0. Refusals 4 to 9.
 #[no_mangle]
 pub extern "C" fn varuna_first_round(
     r: u32,
@@ -36,7 +36,7 @@ pub extern "C" fn varuna_first_round(
     give_filled(answer, position)
 }
 
-// Round 2: σ_A, σ_B, σ_C.
+// Round 2: σ_A, σ_B, σ_C. Refusals 4 to 10.
 #[no_mangle]
 pub extern "C" fn varuna_second_round(
     r: u32,
@@ -61,7 +61,7 @@ pub extern "C" fn varuna_second_round(
     give_three(answer, sums, position)
 }
 
-// Round 3: g1 and h1.
+// Round 3: g1 and h1. Refusals 4 to 10.
 #[no_mangle]
 pub extern "C" fn varuna_third_round(
     r: u32,
@@ -82,7 +82,8 @@ pub extern "C" fn varuna_third_round(
     ensures { λ number. ⌜ told number (now (position .exit)) (now (remainder .exit), now (quotient .exit))
         ≡ answered (thirdRoundCall babyBear
         (proverInput r c x (now (ea .entry)) (now (eb .entry)) (now (ec .entry)) (now (z .entry)) mask (now (m .entry)))
-        alpha (threeAt (now (eta .entry)) 0) (length (now (remainder .entry))) (length (now (quotient .entry)))) (now (remainder .entry), now (quotient .entry)) ⌝ }
+        alpha (threeAt (now (eta .entry)) 0) (length (now (remainder .entry))) (length (now (quotient .entry))))
+        (now (remainder .entry), now (quotient .entry)) ⌝ }
 {
     let answer = varuna::rounds::third_round(
         r,
@@ -102,7 +103,7 @@ pub extern "C" fn varuna_third_round(
     give_filled(answer, position)
 }
 
-// Round 4: ω_A, ω_B, ω_C, and g_A, g_B, g_C.
+// Round 4: ω_A, ω_B, ω_C, and g_A, g_B, g_C. Refusals 4 to 10.
 #[no_mangle]
 pub extern "C" fn varuna_fourth_round(
     r: u32,
@@ -123,10 +124,12 @@ pub extern "C" fn varuna_fourth_round(
     values: &mut [u32; 3],
     position: &mut usize,
 ) -> u32
-    ensures { λ number. ⌜ told number (now (position .exit)) (now (values .exit), threeOf (now (ga .exit)) (now (gb .exit)) (now (gc .exit)))
+    ensures { λ number. ⌜ told number (now (position .exit))
+        (now (values .exit), threeOf (now (ga .exit)) (now (gb .exit)) (now (gc .exit)))
         ≡ answered (threeListedWith (fourthRoundCall babyBear
         (proverInput r c x (now (ea .entry)) (now (eb .entry)) (now (ec .entry)) (now (z .entry)) mask (now (m .entry)))
-        alpha (threeAt (now (eta .entry)) 0) beta (threeOf (length (now (ga .entry))) (length (now (gb .entry))) (length (now (gc .entry))))))
+        alpha (threeAt (now (eta .entry)) 0) beta
+        (threeOf (length (now (ga .entry))) (length (now (gb .entry))) (length (now (gc .entry))))))
         (now (values .entry), threeOf (now (ga .entry)) (now (gb .entry)) (now (gc .entry))) ⌝ }
 {
     let answer = varuna::rounds::fourth_round(
@@ -149,7 +152,7 @@ pub extern "C" fn varuna_fourth_round(
     give_three(answer, values, position)
 }
 
-// Round 5: h2.
+// Round 5: h2. Refusals 4 to 10.
 #[no_mangle]
 pub extern "C" fn varuna_fifth_round(
     r: u32,
@@ -171,7 +174,8 @@ pub extern "C" fn varuna_fifth_round(
     ensures { λ number. ⌜ told number (now (position .exit)) (now (quotient .exit))
         ≡ answered (fifthRoundCall babyBear
         (proverInput r c x (now (ea .entry)) (now (eb .entry)) (now (ec .entry)) (now (z .entry)) mask (now (m .entry)))
-        alpha (threeAt (now (eta .entry)) 0) beta (threeAt (now (delta .entry)) 0) (length (now (quotient .entry)))) (now (quotient .entry)) ⌝ }
+        alpha (threeAt (now (eta .entry)) 0) beta (threeAt (now (delta .entry)) 0) (length (now (quotient .entry))))
+        (now (quotient .entry)) ⌝ }
 {
     let answer = varuna::rounds::fifth_round(
         r,
@@ -192,7 +196,7 @@ pub extern "C" fn varuna_fifth_round(
     give_filled(answer, position)
 }
 
-// The 21 openings.
+// The 21 openings. Refusals 4 to 10.
 #[no_mangle]
 pub extern "C" fn varuna_openings(
     r: u32,

@@ -63,6 +63,7 @@ fn indexes_in(o: &[u32; 21]) -> [[u32; 4]; 3]
     ]
 }
 
+// A session before it is opened.
 #[no_mangle]
 pub extern "C" fn varuna_session_new(session: &mut [u32; SESSION_WORDS])
     ensures { λ _. ⌜ now (session .exit) ≡ sessionWords unopened ⌝ }
@@ -71,6 +72,7 @@ pub extern "C" fn varuna_session_new(session: &mut [u32; SESSION_WORDS])
     s.into_words(session);
 }
 
+// Opens a session with six sizes and x. Refusals 4, 5, 6.
 #[no_mangle]
 pub extern "C" fn varuna_session_open(
     session: &mut [u32; SESSION_WORDS],
@@ -79,12 +81,14 @@ pub extern "C" fn varuna_session_open(
     position: &mut usize,
 ) -> u32
     ensures { λ number. ⌜ told number (now (position .exit)) (now (session .exit))
-        ≡ stepAnswered (openStep babyBear (sessionOf (now (session .entry))) (sizesIn (now (sizes .entry))) (now (x .entry))) (now (session .entry)) ⌝ }
+        ≡ stepAnswered (openStep babyBear (sessionOf (now (session .entry)))
+        (sizesIn (now (sizes .entry))) (now (x .entry))) (now (session .entry)) ⌝ }
 {
     let s = Session::from_words(session);
     give_step(s.open(sizes_in(sizes), x), session, position)
 }
 
+// Declared lengths of ŵ, m, h0, then α. Refusals 1, 6, 10, 11.
 #[no_mangle]
 pub extern "C" fn varuna_session_alpha(
     session: &mut [u32; SESSION_WORDS],
@@ -105,6 +109,7 @@ pub extern "C" fn varuna_session_alpha(
     )
 }
 
+// The three σ, then the three η. Refusals 1, 6.
 #[no_mangle]
 pub extern "C" fn varuna_session_eta(
     session: &mut [u32; SESSION_WORDS],
@@ -113,12 +118,14 @@ pub extern "C" fn varuna_session_eta(
     position: &mut usize,
 ) -> u32
     ensures { λ number. ⌜ told number (now (position .exit)) (now (session .exit))
-        ≡ stepAnswered (etaStep babyBear (sessionOf (now (session .entry))) (threeAt (now (sums .entry)) 0) (threeAt (now (eta .entry)) 0)) (now (session .entry)) ⌝ }
+        ≡ stepAnswered (etaStep babyBear (sessionOf (now (session .entry)))
+        (threeAt (now (sums .entry)) 0) (threeAt (now (eta .entry)) 0)) (now (session .entry)) ⌝ }
 {
     let s = Session::from_words(session);
     give_step(s.eta(triple(sums), triple(eta)), session, position)
 }
 
+// Declared lengths of g1, h1, then β. Refusals 1, 6, 10, 11.
 #[no_mangle]
 pub extern "C" fn varuna_session_beta(
     session: &mut [u32; SESSION_WORDS],
@@ -134,6 +141,7 @@ pub extern "C" fn varuna_session_beta(
     give_step(s.beta(remainder, quotient, beta), session, position)
 }
 
+// The three ω and declared lengths of the g_M, then the three δ. Refusals 1, 6, 11.
 #[no_mangle]
 pub extern "C" fn varuna_session_delta(
     session: &mut [u32; SESSION_WORDS],
@@ -154,6 +162,7 @@ pub extern "C" fn varuna_session_delta(
     )
 }
 
+// Declared length of h2, then γ. Refusals 1, 6, 10, 11.
 #[no_mangle]
 pub extern "C" fn varuna_session_gamma(
     session: &mut [u32; SESSION_WORDS],
@@ -168,6 +177,7 @@ pub extern "C" fn varuna_session_gamma(
     give_step(s.gamma(quotient, gamma), session, position)
 }
 
+// The 21 openings, and the verdict. Refusals 1, 6.
 #[no_mangle]
 pub extern "C" fn varuna_session_openings(
     session: &mut [u32; SESSION_WORDS],

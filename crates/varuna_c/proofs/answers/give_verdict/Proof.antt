@@ -21,8 +21,10 @@ enum-known-answer-2 c = search needs
 
 returns : tie.Need-returns
 returns c =
-    rw (c .before .before .before .before .before .answer .given .1)
-    (ap₂ (λ (l : List ℕ) (v : ℕ). told 0 0 (l, v)) (c .before .into-words .ensures) (c .verdict-number .ensures))
+    let at-into-words = c .before in
+    let at-answer = at-into-words .before .before .before .before in
+    rw (at-answer .answer .given .1)
+    (ap₂ (λ (l : List ℕ) (v : ℕ). told 0 0 (l, v)) (at-into-words .into-words .ensures) (c .verdict-number .ensures))
 
 returns-2 : tie.Need-returns-2
 returns-2 c = rw (c .before .answer2 .given .1)

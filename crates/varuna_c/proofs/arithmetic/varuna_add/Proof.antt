@@ -14,8 +14,10 @@ give-word-requires c κs = search needs
 
 returns : tie.Need-returns
 returns c =
-    let a = c .before .before .before .before .args in
-    word-told (addCall babyBear (a .a) (a .b)) (a .result .now) (c .give-word .ensures) (c .before .before .before .add .ensures)
+    let at-add = c .before .before .before in
+    let start = at-add .before in
+    let a = start .args in
+    word-told (addCall babyBear (a .a) (a .b)) (a .result .now) (c .give-word .ensures) (at-add .add .ensures)
 
 pub varuna-add-spec : {M : Type 1} → statement M
 varuna-add-spec = tie.close (tie.spec add-requires give-word-requires returns)

@@ -14,8 +14,10 @@ give-word-requires c κs = search needs
 
 returns : tie.Need-returns
 returns c =
-    let a = c .before .before .before .before .args in
-    word-told (inverseCall babyBear (a .a)) (a .result .now) (c .give-word .ensures) (c .before .before .before .inverse .ensures)
+    let at-inverse = c .before .before .before in
+    let start = at-inverse .before in
+    let a = start .args in
+    word-told (inverseCall babyBear (a .a)) (a .result .now) (c .give-word .ensures) (at-inverse .inverse .ensures)
 
 pub varuna-inverse-spec : {M : Type 1} → statement M
 varuna-inverse-spec = tie.close (tie.spec inverse-requires give-word-requires returns)

@@ -14,8 +14,10 @@ give-word-requires c κs = search needs
 
 returns : tie.Need-returns
 returns c =
-    let a = c .before .before .before .before .args in
-    word-told (multiplyCall babyBear (a .a) (a .b)) (a .result .now) (c .give-word .ensures) (c .before .before .before .multiply .ensures)
+    let at-multiply = c .before .before .before in
+    let start = at-multiply .before in
+    let a = start .args in
+    word-told (multiplyCall babyBear (a .a) (a .b)) (a .result .now) (c .give-word .ensures) (at-multiply .multiply .ensures)
 
 pub varuna-multiply-spec : {M : Type 1} → statement M
 varuna-multiply-spec = tie.close (tie.spec multiply-requires give-word-requires returns)

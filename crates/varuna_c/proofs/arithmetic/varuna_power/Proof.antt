@@ -14,8 +14,10 @@ give-word-requires c κs = search needs
 
 returns : tie.Need-returns
 returns c =
-    let a = c .before .before .before .before .args in
-    word-told (powerCall babyBear (a .a) (a .n)) (a .result .now) (c .give-word .ensures) (c .before .before .before .power .ensures)
+    let at-power = c .before .before .before in
+    let start = at-power .before in
+    let a = start .args in
+    word-told (powerCall babyBear (a .a) (a .n)) (a .result .now) (c .give-word .ensures) (at-power .power .ensures)
 
 pub varuna-power-spec : {M : Type 1} → statement M
 varuna-power-spec = tie.close (tie.spec power-requires give-word-requires returns)

@@ -14,8 +14,10 @@ give-word-requires c κs = search needs
 
 returns : tie.Need-returns
 returns c =
-    let a = c .before .before .before .before .args in
-    word-told (subtractCall babyBear (a .a) (a .b)) (a .result .now) (c .give-word .ensures) (c .before .before .before .subtract .ensures)
+    let at-subtract = c .before .before .before in
+    let start = at-subtract .before in
+    let a = start .args in
+    word-told (subtractCall babyBear (a .a) (a .b)) (a .result .now) (c .give-word .ensures) (at-subtract .subtract .ensures)
 
 pub varuna-subtract-spec : {M : Type 1} → statement M
 varuna-subtract-spec = tie.close (tie.spec subtract-requires give-word-requires returns)

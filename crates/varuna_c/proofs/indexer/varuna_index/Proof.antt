@@ -55,12 +55,15 @@ same-length-12 c = search needs
 
 returns : tie.Need-returns
 returns c =
-    let a = c .before .before .before .before .before .before .before .before .before .before .before .before .before .before .before .before .before .before .before .before .before .before .before .before .before .before .before .before .before .before .before .before .before .before .before .before .before .before .before .before .before .before .before .before .before .before .before .before .before .before .before .before .before .before .args in
+    let at-index = c .before .before .before .before .before .before .before .before .before .before .before .before .before .before .before .before .before .before .before .before .before .before .before .before .before .before in
+    let start = at-index .before .before .before .before .before .before .before .before .before .before .before .before .before .before .before .before .before .before .before .before .before .before .before .before .before .before .before .before in
+    let a = start .args in
     let before =
     twelve (a .rowA .now) (a .colA .now) (a .rowcolA .now) (a .rowcolvalA .now) (a .rowB .now) (a .colB .now)
     (a .rowcolB .now) (a .rowcolvalB .now) (a .rowC .now) (a .colC .now) (a .rowcolC .now) (a .rowcolvalC .now) in
-    filled-told before (indexCall babyBear (given (a .r) (a .c) (a .x) (a .ea .now) (a .eb .now) (a .ec .now)) (mapThree (mapIndex length) before))
-    (c .give-filled .ensures) (c .before .before .before .before .before .before .before .before .before .before .before .before .before .before .before .before .before .before .before .before .before .before .before .before .before .before .index .ensures)
+    filled-told before (indexCall babyBear (given (a .r) (a .c) (a .x) (a .ea .now) (a .eb .now) (a .ec .now))
+    (mapThree (mapIndex length) before))
+    (c .give-filled .ensures) (at-index .index .ensures)
 
 pub varuna-index-spec : {M : Type 1} → statement M
 varuna-index-spec =

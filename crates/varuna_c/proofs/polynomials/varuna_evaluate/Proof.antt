@@ -14,8 +14,11 @@ give-word-requires c κs = search needs
 
 returns : tie.Need-returns
 returns c =
-    let a = c .before .before .before .before .before .args in
-    word-told (evaluateCall babyBear (a .coefficients .now) (a .point)) (a .result .now) (c .give-word .ensures) (c .before .before .before .evaluate .ensures)
+    let at-evaluate = c .before .before .before in
+    let start = at-evaluate .before .before in
+    let a = start .args in
+    word-told (evaluateCall babyBear (a .coefficients .now) (a .point)) (a .result .now)
+    (c .give-word .ensures) (at-evaluate .evaluate .ensures)
 
 pub varuna-evaluate-spec : {M : Type 1} → statement M
 varuna-evaluate-spec = tie.close (tie.spec evaluate-requires give-word-requires returns)

@@ -18,8 +18,11 @@ same-length c = search needs
 
 returns : tie.Need-returns
 returns c =
-    let a = c .before .before .before .before .before .before .before .before .args in
-    filled-told (a .coefficients .now) (interpolateCall babyBear (a .n) (a .values .now) (length (a .coefficients .now))) (c .give-filled .ensures) (c .before .before .before .before .interpolate .ensures)
+    let at-interpolate = c .before .before .before .before in
+    let start = at-interpolate .before .before .before .before in
+    let a = start .args in
+    filled-told (a .coefficients .now) (interpolateCall babyBear (a .n) (a .values .now) (length (a .coefficients .now)))
+    (c .give-filled .ensures) (at-interpolate .interpolate .ensures)
 
 pub varuna-interpolate-spec : {M : Type 1} → statement M
 varuna-interpolate-spec =

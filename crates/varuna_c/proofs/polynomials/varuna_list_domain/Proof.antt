@@ -18,8 +18,11 @@ same-length c = search needs
 
 returns : tie.Need-returns
 returns c =
-    let a = c .before .before .before .before .before .before .before .args in
-    filled-told (a .elements .now) (domainCall babyBear (a .n) (length (a .elements .now))) (c .give-filled .ensures) (c .before .before .before .before .list-domain .ensures)
+    let at-list-domain = c .before .before .before .before in
+    let start = at-list-domain .before .before .before in
+    let a = start .args in
+    filled-told (a .elements .now) (domainCall babyBear (a .n) (length (a .elements .now)))
+    (c .give-filled .ensures) (at-list-domain .list-domain .ensures)
 
 pub varuna-list-domain-spec : {M : Type 1} → statement M
 varuna-list-domain-spec =

@@ -19,7 +19,8 @@ free c =
 
 returns : tie.Need-returns
 returns c =
-    let a = c .before .before .args in
+    let start = c .before .before in
+    let a = start .args in
     start-past babyBear (a .bytes .now) (a .k) (c .if1 .taken)
 
 read-record-requires : tie.Need-read-record-requires

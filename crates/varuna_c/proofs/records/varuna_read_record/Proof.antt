@@ -13,8 +13,10 @@ give-sizes-requires c κs = search needs
 
 returns : tie.Need-returns
 returns c =
-    let a = c .before .before .before .before .before .args in
-    c .give-sizes .ensures ∙ ap (λ o. answered (sizesListed o) (a .sizes .now)) (c .before .before .before .read-record .ensures)
+    let at-read-record = c .before .before .before in
+    let start = at-read-record .before .before in
+    let a = start .args in
+    c .give-sizes .ensures ∙ ap (λ o. answered (sizesListed o) (a .sizes .now)) (at-read-record .read-record .ensures)
 
 pub varuna-read-record-spec : {M : Type 1} → statement M
 varuna-read-record-spec = tie.close (tie.spec read-record-requires give-sizes-requires returns)

@@ -29,11 +29,16 @@ same-length c = search needs
 
 returns : tie.Need-returns
 returns c =
-    let a = c .before .before .before .before .before .before .before .before .before .before .before .before .before .before .before .before .before .before .before .args in
-    let parts = eachSection (a .w .now) (a .m .now) (a .h0 .now) (a .s .now) (a .g1 .now) (a .h1 .now) (a .o .now) (a .ga .now) (a .gb .now) (a .gc .now) (a .h2 .now) in
+    let at-write-record = c .before .before .before .before in
+    let at-sizes-in = at-write-record .before .before in
+    let start = at-sizes-in .before .before .before .before .before .before .before .before .before .before .before .before .before in
+    let a = start .args in
+    let parts =
+    eachSection (a .w .now) (a .m .now) (a .h0 .now) (a .s .now) (a .g1 .now) (a .h1 .now)
+    (a .o .now) (a .ga .now) (a .gb .now) (a .gc .now) (a .h2 .now) in
     let call : Sizes → Outcome (List ℕ) = λ n. writeCall babyBear n parts (length (a .bytes .now)) in
     filled-told (a .bytes .now) (call (sizesIn (a .sizes .now))) (c .give-filled .ensures)
-    (c .before .before .before .before .write-record .ensures ∙ ap (λ n. fills (call n) (a .bytes .now)) (c .before .before .before .before .before .before .sizes-in .ensures))
+    (at-write-record .write-record .ensures ∙ ap (λ n. fills (call n) (a .bytes .now)) (at-sizes-in .sizes-in .ensures))
 
 pub varuna-write-record-spec : {M : Type 1} → statement M
 varuna-write-record-spec =

@@ -32,12 +32,18 @@ same-length c = search needs
 
 returns : tie.Need-returns
 returns c =
-    let a = c .before .before .before .before .before .before .before .before .before .before .before .before .before .before .args in
+    let at-fifth-round = c .before .before .before .before in
+    let at-triple2 = at-fifth-round .before .before in
+    let at-triple = at-triple2 .before in
+    let start = at-triple .before .before .before .before .before .before .before in
+    let a = start .args in
     let i = proverInput (a .r) (a .c) (a .x) (a .ea .now) (a .eb .now) (a .ec .now) (a .z .now) (a .mask) (a .m .now) in
     let before = a .quotient .now in
-    let call : Three ℕ → Three ℕ → Outcome (List ℕ) = λ η δ. fifthRoundCall babyBear i (a .alpha) η (a .beta) δ (length (a .quotient .now)) in
+    let call : Three ℕ → Three ℕ → Outcome (List ℕ) = λ η δ.
+    fifthRoundCall babyBear i (a .alpha) η (a .beta) δ (length (a .quotient .now)) in
     filled-told before (call (threeAt (a .eta .now) 0) (threeAt (a .delta .now) 0)) (c .give-filled .ensures)
-    (c .before .before .before .before .fifth-round .ensures ∙ ap₂ (λ η δ. fills (call η δ) before) (c .before .before .before .before .before .before .before .triple .ensures) (c .before .before .before .before .before .before .triple2 .ensures))
+    (at-fifth-round .fifth-round .ensures
+    ∙ ap₂ (λ η δ. fills (call η δ) before) (at-triple .triple .ensures) (at-triple2 .triple2 .ensures))
 
 pub varuna-fifth-round-spec : {M : Type 1} → statement M
 varuna-fifth-round-spec =

@@ -24,10 +24,13 @@ same-length-2 c = search needs
 
 returns : tie.Need-returns
 returns c =
-    let a = c .before .before .before .before .before .before .before .before .before .before .before .before .before .before .before .before .args in
+    let at-first-round = c .before .before .before .before .before .before in
+    let start = at-first-round .before .before .before .before .before .before .before .before .before .before in
+    let a = start .args in
     let i = proverInput (a .r) (a .c) (a .x) (a .ea .now) (a .eb .now) (a .ec .now) (a .z .now) (a .mask) (a .m .now) in
     let before : List ℕ × List ℕ = (a .witness .now, a .rowQuotient .now) in
-    filled-told before (firstRoundCall babyBear i (length (a .witness .now)) (length (a .rowQuotient .now))) (c .give-filled .ensures) (c .before .before .before .before .before .before .first-round .ensures)
+    filled-told before (firstRoundCall babyBear i (length (a .witness .now)) (length (a .rowQuotient .now)))
+    (c .give-filled .ensures) (at-first-round .first-round .ensures)
 
 pub varuna-first-round-spec : {M : Type 1} → statement M
 varuna-first-round-spec =

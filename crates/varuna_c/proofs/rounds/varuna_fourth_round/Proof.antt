@@ -35,12 +35,16 @@ same-length-3 c = search needs
 
 returns : tie.Need-returns
 returns c =
-    let a = c .before .before .before .before .before .before .before .before .before .before .before .before .before .before .before .before .before .before .before .before .before .before .args in
+    let at-fourth-round = c .before .before .before .before .before .before .before .before .before in
+    let at-triple = at-fourth-round .before .before .before .before in
+    let start = at-triple .before .before .before .before .before .before .before .before .before in
+    let a = start .args in
     let i = proverInput (a .r) (a .c) (a .x) (a .ea .now) (a .eb .now) (a .ec .now) (a .z .now) (a .mask) (a .m .now) in
     let before = threeOf (a .ga .now) (a .gb .now) (a .gc .now) in
-    let call : Three ℕ → Outcome (Three ℕ × Three (List ℕ)) = λ η. fourthRoundCall babyBear i (a .alpha) η (a .beta) (threeOf (length (a .ga .now)) (length (a .gb .now)) (length (a .gc .now))) in
+    let call : Three ℕ → Outcome (Three ℕ × Three (List ℕ)) = λ η.
+    fourthRoundCall babyBear i (a .alpha) η (a .beta) (threeOf (length (a .ga .now)) (length (a .gb .now)) (length (a .gc .now))) in
     three-filled-told before (a .values .now) (call (threeAt (a .eta .now) 0)) (c .give-three .ensures)
-    (c .before .before .before .before .before .before .before .before .before .fourth-round .ensures ∙ ap (λ η. fillsThree (call η) before) (c .before .before .before .before .before .before .before .before .before .before .before .before .before .triple .ensures))
+    (at-fourth-round .fourth-round .ensures ∙ ap (λ η. fillsThree (call η) before) (at-triple .triple .ensures))
 
 pub varuna-fourth-round-spec : {M : Type 1} → statement M
 varuna-fourth-round-spec =

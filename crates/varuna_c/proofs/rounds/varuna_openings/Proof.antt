@@ -26,12 +26,16 @@ give-openings-requires c κs = search needs
 
 returns : tie.Need-returns
 returns c =
-    let a = c .before .before .before .before .before .before .before .before .before .before .before .args in
+    let at-openings = c .before .before .before in
+    let at-triple2 = at-openings .before in
+    let at-triple = at-triple2 .before in
+    let start = at-triple .before .before .before .before .before .before in
+    let a = start .args in
     let i = proverInput (a .r) (a .c) (a .x) (a .ea .now) (a .eb .now) (a .ec .now) (a .z .now) (a .mask) (a .m .now) in
     let before = a .openings .now in
     let call : Three ℕ → Three ℕ → Outcome (List ℕ) = λ η δ. openingsCall babyBear i (a .alpha) η (a .beta) δ (a .gamma) in
     c .give-openings .ensures
-    ∙ ap (λ o. answered o before) (c .before .before .before .openings .ensures ∙ ap₂ call (c .before .before .before .before .before .triple .ensures) (c .before .before .before .before .triple2 .ensures))
+    ∙ ap (λ o. answered o before) (at-openings .openings .ensures ∙ ap₂ call (at-triple .triple .ensures) (at-triple2 .triple2 .ensures))
 
 pub varuna-openings-spec : {M : Type 1} → statement M
 varuna-openings-spec =

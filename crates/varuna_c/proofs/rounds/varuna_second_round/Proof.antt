@@ -15,10 +15,12 @@ give-three-requires c κs = search needs
 
 returns : tie.Need-returns
 returns c =
-    let a = c .before .before .before .before .before .before .before .before .before .args in
+    let at-second-round = c .before .before .before in
+    let start = at-second-round .before .before .before .before .before .before in
+    let a = start .args in
     let i = proverInput (a .r) (a .c) (a .x) (a .ea .now) (a .eb .now) (a .ec .now) (a .z .now) (a .mask) (a .m .now) in
     let before = a .sums .now in
-    three-told before (secondRoundCall babyBear i (a .alpha)) (c .give-three .ensures) (c .before .before .before .second-round .ensures)
+    three-told before (secondRoundCall babyBear i (a .alpha)) (c .give-three .ensures) (at-second-round .second-round .ensures)
 
 pub varuna-second-round-spec : {M : Type 1} → statement M
 varuna-second-round-spec = tie.close (tie.spec second-round-requires give-three-requires returns)

@@ -32,12 +32,16 @@ same-length-2 c = search needs
 
 returns : tie.Need-returns
 returns c =
-    let a = c .before .before .before .before .before .before .before .before .before .before .before .before .before .before .before .before .before .args in
+    let at-third-round = c .before .before .before .before .before .before in
+    let at-triple = at-third-round .before .before .before in
+    let start = at-triple .before .before .before .before .before .before .before .before in
+    let a = start .args in
     let i = proverInput (a .r) (a .c) (a .x) (a .ea .now) (a .eb .now) (a .ec .now) (a .z .now) (a .mask) (a .m .now) in
     let before : List ℕ × List ℕ = (a .remainder .now, a .quotient .now) in
-    let call : Three ℕ → Outcome (List ℕ × List ℕ) = λ η. thirdRoundCall babyBear i (a .alpha) η (length (a .remainder .now)) (length (a .quotient .now)) in
+    let call : Three ℕ → Outcome (List ℕ × List ℕ) = λ η.
+    thirdRoundCall babyBear i (a .alpha) η (length (a .remainder .now)) (length (a .quotient .now)) in
     filled-told before (call (threeAt (a .eta .now) 0)) (c .give-filled .ensures)
-    (c .before .before .before .before .before .before .third-round .ensures ∙ ap (λ η. fills (call η) before) (c .before .before .before .before .before .before .before .before .before .triple .ensures))
+    (at-third-round .third-round .ensures ∙ ap (λ η. fills (call η) before) (at-triple .triple .ensures))
 
 pub varuna-third-round-spec : {M : Type 1} → statement M
 varuna-third-round-spec =

@@ -19,10 +19,14 @@ give-step-requires c κs = search needs
 
 returns : tie.Need-returns
 returns c =
-    let a = c .before .before .before .before .before .before .args in
+    let at-alpha = c .before .before .before in
+    let at-from-words = at-alpha .before in
+    let start = at-from-words .before .before in
+    let a = start .args in
     c .give-step .ensures
     ∙ ap (λ s. stepAnswered s (a .session .now))
-    (c .before .before .before .alpha .ensures ∙ ap (λ s. alphaStep babyBear s (a .witness) (a .mask) (a .rowQuotient) (a .alpha)) (c .before .before .before .before .from-words .ensures))
+    (at-alpha .alpha .ensures
+    ∙ ap (λ s. alphaStep babyBear s (a .witness) (a .mask) (a .rowQuotient) (a .alpha)) (at-from-words .from-words .ensures))
 
 pub varuna-session-alpha-spec : {M : Type 1} → statement M
 varuna-session-alpha-spec =

@@ -19,10 +19,13 @@ give-step-requires c κs = search needs
 
 returns : tie.Need-returns
 returns c =
-    let a = c .before .before .before .before .before .before .args in
+    let at-beta = c .before .before .before in
+    let at-from-words = at-beta .before in
+    let start = at-from-words .before .before in
+    let a = start .args in
     c .give-step .ensures
     ∙ ap (λ s. stepAnswered s (a .session .now))
-    (c .before .before .before .beta .ensures ∙ ap (λ s. betaStep babyBear s (a .remainder) (a .quotient) (a .beta)) (c .before .before .before .before .from-words .ensures))
+    (at-beta .beta .ensures ∙ ap (λ s. betaStep babyBear s (a .remainder) (a .quotient) (a .beta)) (at-from-words .from-words .ensures))
 
 pub varuna-session-beta-spec : {M : Type 1} → statement M
 varuna-session-beta-spec =

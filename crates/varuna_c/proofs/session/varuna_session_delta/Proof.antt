@@ -32,12 +32,20 @@ give-step-requires c κs = search needs
 
 returns : tie.Need-returns
 returns c =
-    let a = c .before .before .before .before .before .before .before .before .before .args in
+    let at-delta = c .before .before .before in
+    let at-triple3 = at-delta .before in
+    let at-triple2 = at-triple3 .before in
+    let at-triple = at-triple2 .before in
+    let at-from-words = at-triple .before in
+    let start = at-from-words .before .before in
+    let a = start .args in
     let step : steps.Session → Three ℕ → Three ℕ → Three ℕ → steps.Stepped = deltaStep babyBear in
     c .give-step .ensures
     ∙ ap (λ s. stepAnswered s (a .session .now))
-    (c .before .before .before .delta .ensures ∙ ap₂ (λ s v. step s v (three (c .before .before .before .before .before .triple2 .result)) (three (c .before .before .before .before .triple3 .result))) (c .before .before .before .before .before .before .before .from-words .ensures) (c .before .before .before .before .before .before .triple .ensures)
-    ∙ ap₂ (step (sessionOf (a .session .now)) (threeAt (a .values .now) 0)) (c .before .before .before .before .before .triple2 .ensures) (c .before .before .before .before .triple3 .ensures))
+    (at-delta .delta .ensures
+    ∙ ap₂ (λ s v. step s v (three (at-triple2 .triple2 .result)) (three (at-triple3 .triple3 .result)))
+    (at-from-words .from-words .ensures) (at-triple .triple .ensures)
+    ∙ ap₂ (step (sessionOf (a .session .now)) (threeAt (a .values .now) 0)) (at-triple2 .triple2 .ensures) (at-triple3 .triple3 .ensures))
 
 pub varuna-session-delta-spec : {M : Type 1} → statement M
 varuna-session-delta-spec =

@@ -29,12 +29,18 @@ give-step-requires c κs = search needs
 
 returns : tie.Need-returns
 returns c =
-    let a = c .before .before .before .before .before .before .before .before .args in
+    let at-eta = c .before .before .before in
+    let at-triple2 = at-eta .before in
+    let at-triple = at-triple2 .before in
+    let at-from-words = at-triple .before in
+    let start = at-from-words .before .before in
+    let a = start .args in
     let step : steps.Session → Three ℕ → Three ℕ → steps.Stepped = etaStep babyBear in
     c .give-step .ensures
     ∙ ap (λ s. stepAnswered s (a .session .now))
-    (c .before .before .before .eta .ensures ∙ ap (λ s. step s (three (c .before .before .before .before .before .triple .result)) (three (c .before .before .before .before .triple2 .result))) (c .before .before .before .before .before .before .from-words .ensures)
-    ∙ ap₂ (step (sessionOf (a .session .now))) (c .before .before .before .before .before .triple .ensures) (c .before .before .before .before .triple2 .ensures))
+    (at-eta .eta .ensures
+    ∙ ap (λ s. step s (three (at-triple .triple .result)) (three (at-triple2 .triple2 .result))) (at-from-words .from-words .ensures)
+    ∙ ap₂ (step (sessionOf (a .session .now))) (at-triple .triple .ensures) (at-triple2 .triple2 .ensures))
 
 pub varuna-session-eta-spec : {M : Type 1} → statement M
 varuna-session-eta-spec =

@@ -19,10 +19,13 @@ give-step-requires c κs = search needs
 
 returns : tie.Need-returns
 returns c =
-    let a = c .before .before .before .before .before .before .args in
+    let at-gamma = c .before .before .before in
+    let at-from-words = at-gamma .before in
+    let start = at-from-words .before .before in
+    let a = start .args in
     c .give-step .ensures
     ∙ ap (λ s. stepAnswered s (a .session .now))
-    (c .before .before .before .gamma .ensures ∙ ap (λ s. gammaStep babyBear s (a .quotient) (a .gamma)) (c .before .before .before .before .from-words .ensures))
+    (at-gamma .gamma .ensures ∙ ap (λ s. gammaStep babyBear s (a .quotient) (a .gamma)) (at-from-words .from-words .ensures))
 
 pub varuna-session-gamma-spec : {M : Type 1} → statement M
 varuna-session-gamma-spec =

@@ -14,7 +14,8 @@ into-words-requires c κs = search needs
 
 returns : tie.Need-returns
 returns c =
-    c .into-words .ensures ∙ ap sessionWords (c .before .before .new .ensures)
+    let at-new = c .before .before in
+    c .into-words .ensures ∙ ap sessionWords (at-new .new .ensures)
 
 pub varuna-session-new-spec : {M : Type 1} → statement M
 varuna-session-new-spec = tie.close (tie.spec new-requires into-words-requires returns)

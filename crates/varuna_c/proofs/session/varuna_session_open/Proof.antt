@@ -22,10 +22,15 @@ give-step-requires c κs = search needs
 
 returns : tie.Need-returns
 returns c =
-    let a = c .before .before .before .before .before .before .before .before .args in
+    let at-open = c .before .before .before in
+    let at-sizes-in = at-open .before in
+    let at-from-words = at-sizes-in .before in
+    let start = at-from-words .before .before .before in
+    let a = start .args in
     c .give-step .ensures
     ∙ ap (λ s. stepAnswered s (a .session .now))
-    (c .before .before .before .«open» .ensures ∙ ap₂ (λ s n. openStep babyBear s n (a .x .now)) (c .before .before .before .before .before .from-words .ensures) (c .before .before .before .before .sizes-in .ensures))
+    (at-open .«open» .ensures
+    ∙ ap₂ (λ s n. openStep babyBear s n (a .x .now)) (at-from-words .from-words .ensures) (at-sizes-in .sizes-in .ensures))
 
 pub varuna-session-open-spec : {M : Type 1} → statement M
 varuna-session-open-spec =

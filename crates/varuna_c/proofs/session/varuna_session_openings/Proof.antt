@@ -29,11 +29,16 @@ give-verdict-requires c κs = search needs
 returns : tie.Need-returns
 unfolding openingsIn threeAt
 returns c =
-    let a = c .before .before .before .before .before .before .before .before .before .args in
-    let heard = ap₂ openings (c .before .before .before .before .before .before .messages-in .ensures) (c .before .before .before .before .before .indexes-in .ensures) in
+    let at-openings = c .before .before .before .before in
+    let at-indexes-in = at-openings .before in
+    let at-messages-in = at-indexes-in .before in
+    let at-from-words = at-messages-in .before in
+    let start = at-from-words .before .before in
+    let a = start .args in
+    let heard = ap₂ openings (at-messages-in .messages-in .ensures) (at-indexes-in .indexes-in .ensures) in
     c .give-verdict .ensures
     ∙ ap (λ s. lastAnswered s (a .session .now, a .verdict .now))
-    (c .before .before .before .before .openings .ensures ∙ ap₂ (openingsStep babyBear) (c .before .before .before .before .before .before .before .from-words .ensures) heard)
+    (at-openings .openings .ensures ∙ ap₂ (openingsStep babyBear) (at-from-words .from-words .ensures) heard)
 
 pub varuna-session-openings-spec : {M : Type 1} → statement M
 varuna-session-openings-spec =
