@@ -1,0 +1,576 @@
+/*
+ * Every exported call on the square case of document 01, with the words that it must give, and a refusal of each kind that a call has:
+ * its number, its position, and that it leaves the memory of its results and the session as they were. Prints a line for each test and
+ * last the counts; exits with 1 where a test failed.
+ */
+#include <stdio.h>
+#include <string.h>
+
+#include "../../include/varuna.h"
+
+#define P UINT32_C(2013265921)
+#define COUNT(list) (sizeof(list) / sizeof((list)[0]))
+
+static int passed, failed;
+
+static void test(const char *name, int ok)
+{
+    printf("test %s: %s\n", name, ok ? "ok" : "FAILED");
+    if (ok)
+        passed++;
+    else
+        failed++;
+}
+
+static int same(const uint32_t *found, const uint32_t *expected, size_t count)
+{
+    return memcmp(found, expected, count * sizeof(uint32_t)) == 0;
+}
+
+/* A done call returns 0 and sets the position to 0; a refused one gives its number and position. */
+#define NOWHERE ((size_t)99)
+
+static int is_done(uint32_t number, size_t position)
+{
+    return number == 0 && position == 0;
+}
+
+static int is_refused(uint32_t number, size_t position, uint32_t expected_number, size_t expected_position)
+{
+    return number == expected_number && position == expected_position;
+}
+
+/* An empty list: a pointer that is not null. */
+static uint32_t none[1];
+
+/* Field words. */
+
+typedef uint32_t (*operation)(uint32_t, uint32_t, uint32_t *, size_t *);
+
+static int gives_word(operation f, uint32_t a, uint32_t b, uint32_t expected)
+{
+    uint32_t result = 77;
+    size_t position = NOWHERE;
+    uint32_t number = f(a, b, &result, &position);
+    return is_done(number, position) && result == expected;
+}
+
+static int refuses_word(operation f, uint32_t a, uint32_t b, size_t expected)
+{
+    uint32_t result = 77;
+    size_t position = NOWHERE;
+    uint32_t number = f(a, b, &result, &position);
+    return is_refused(number, position, 6, expected) && result == 77;
+}
+
+static uint32_t inverse_of(uint32_t a, uint32_t unused, uint32_t *result, size_t *position)
+{
+    (void)unused;
+    return varuna_inverse(a, result, position);
+}
+
+static void test_words(void)
+{
+    test("add", gives_word(varuna_add, P - 1, 2, 1));
+    test("add refuses word p", refuses_word(varuna_add, 1, P, 1) && refuses_word(varuna_add, P, P, 0));
+    test("subtract", gives_word(varuna_subtract, 1, 2, P - 1));
+    test("subtract refuses word p", refuses_word(varuna_subtract, 1, P, 1));
+    test("multiply", gives_word(varuna_multiply, P - 1, P - 1, 1));
+    test("multiply refuses word p", refuses_word(varuna_multiply, P, 1, 0));
+    test("power", gives_word(varuna_power, 3, 4, 81) && gives_word(varuna_power, 2, UINT32_MAX, 1252951665));
+    test("power refuses word p", refuses_word(varuna_power, P, 1, 0));
+    test("inverse", gives_word(inverse_of, 2, 0, 1006632961) && gives_word(inverse_of, 0, 0, 0));
+    test("inverse refuses word p", refuses_word(inverse_of, P, 0, 0));
+}
+
+/* Domains and polynomials. */
+
+static void test_domains(void)
+{
+    uint32_t elements[2] = {77, 78};
+    const uint32_t kept[2] = {77, 78};
+    const uint32_t expected[2] = {1, P - 1};
+    size_t position = NOWHERE;
+    uint32_t number = varuna_list_domain(3, elements, 2, &position);
+    test("list_domain refuses size 3", is_refused(number, position, 4, 0) && same(elements, kept, 2));
+    number = varuna_list_domain(1, elements, 2, &position);
+    test("list_domain refuses a slice", is_refused(number, position, 5, 0) && same(elements, kept, 2));
+    number = varuna_list_domain(2, elements, 2, &position);
+    test("list_domain", is_done(number, position) && same(elements, expected, 2));
+}
+
+static void test_evaluate(void)
+{
+    static uint32_t long_list[2049];
+    const uint32_t m[4] = {1, 0, P - 1, 1};
+    const uint32_t wrong[2] = {1, P};
+    uint32_t result = 77;
+    size_t position = NOWHERE;
+    uint32_t number = varuna_evaluate(long_list, 2049, 1, &result, &position);
+    test("evaluate refuses 2049 words", is_refused(number, position, 5, 0) && result == 77);
+    number = varuna_evaluate(wrong, 2, 1, &result, &position);
+    test("evaluate refuses a coefficient", is_refused(number, position, 6, 1) && result == 77);
+    number = varuna_evaluate(m, 4, P, &result, &position);
+    test("evaluate refuses a point", is_refused(number, position, 6, 4) && result == 77);
+    number = varuna_evaluate(m, 4, 3, &result, &position);
+    test("evaluate", is_done(number, position) && result == 19);
+}
+
+static void test_interpolate(void)
+{
+    const uint32_t values[2] = {9, 3};
+    const uint32_t wrong[2] = {9, P};
+    uint32_t coefficients[2] = {77, 78};
+    const uint32_t kept[2] = {77, 78};
+    const uint32_t expected[2] = {6, 3};
+    size_t position = NOWHERE;
+    uint32_t number = varuna_interpolate(2048, values, 2, coefficients, 2, &position);
+    test("interpolate refuses size 2048", is_refused(number, position, 4, 0) && same(coefficients, kept, 2));
+    number = varuna_interpolate(2, values, 1, coefficients, 2, &position);
+    test("interpolate refuses a list", is_refused(number, position, 5, 0) && same(coefficients, kept, 2));
+    number = varuna_interpolate(2, values, 2, coefficients, 1, &position);
+    test("interpolate refuses a slice", is_refused(number, position, 5, 1) && same(coefficients, kept, 2));
+    number = varuna_interpolate(2, wrong, 2, coefficients, 2, &position);
+    test("interpolate refuses a word", is_refused(number, position, 6, 1) && same(coefficients, kept, 2));
+    number = varuna_interpolate(2, values, 2, coefficients, 2, &position);
+    test("interpolate", is_done(number, position) && same(coefficients, expected, 2));
+}
+
+/* The job of the square case; a refusal is tried by one change of it. */
+
+struct job {
+    uint32_t r, c, x;
+    uint32_t ea[3], eb[3], ec[3];
+    size_t ea_length;
+    uint32_t z[2], mask, m[4];
+    uint32_t alpha, eta[3], beta, delta[3], gamma;
+    size_t lent;
+};
+
+static const struct job square = {
+    .r = 1,
+    .c = 2,
+    .x = 1,
+    .ea = {0, 1, 1},
+    .eb = {0, 1, 1},
+    .ec = {0, 0, 1},
+    .ea_length = 3,
+    .z = {9, 3},
+    .mask = 1,
+    .m = {1, 0, P - 1, 1},
+    .alpha = 2,
+    .eta = {1, 1, 2},
+    .beta = 3,
+    .delta = {1, 1, 1},
+    .gamma = 5,
+    .lent = 0,
+};
+
+/* What the indexer and the rounds write. */
+struct results {
+    uint32_t index[12][1];
+    uint32_t witness[2], row_quotient[1], sums[3], line_remainder[1], line_quotient[2];
+    uint32_t values[3], matrix_remainders[3][1], joined_quotient[1], openings[VARUNA_OPENINGS];
+};
+
+enum call { INDEX, FIRST, SECOND, THIRD, FOURTH, FIFTH, OPENINGS, CALLS };
+
+static const char *const call_names[CALLS] = {"index", "first_round", "second_round", "third_round", "fourth_round", "fifth_round", "openings"};
+
+/* The last of a call's lent slices is `lent` words longer than it must be. */
+static uint32_t run(enum call call, const struct job *j, struct results *o, size_t *position)
+{
+    switch (call) {
+    case INDEX:
+        return varuna_index(j->r, j->c, j->x, j->ea, j->ea_length, j->eb, 3, j->ec, 3, o->index[0], 1, o->index[1], 1, o->index[2], 1,
+                            o->index[3], 1, o->index[4], 1, o->index[5], 1, o->index[6], 1, o->index[7], 1, o->index[8], 1, o->index[9], 1,
+                            o->index[10], 1, o->index[11], 1 + j->lent, position);
+    case FIRST:
+        return varuna_first_round(j->r, j->c, j->x, j->ea, j->ea_length, j->eb, 3, j->ec, 3, j->z, 2, j->mask, j->m, 4, o->witness, 2,
+                                  o->row_quotient, j->lent, position);
+    case SECOND:
+        return varuna_second_round(j->r, j->c, j->x, j->ea, j->ea_length, j->eb, 3, j->ec, 3, j->z, 2, j->mask, j->m, 4, j->alpha, o->sums,
+                                   position);
+    case THIRD:
+        return varuna_third_round(j->r, j->c, j->x, j->ea, j->ea_length, j->eb, 3, j->ec, 3, j->z, 2, j->mask, j->m, 4, j->alpha, j->eta,
+                                  o->line_remainder, 1, o->line_quotient, 2 + j->lent, position);
+    case FOURTH:
+        return varuna_fourth_round(j->r, j->c, j->x, j->ea, j->ea_length, j->eb, 3, j->ec, 3, j->z, 2, j->mask, j->m, 4, j->alpha, j->eta,
+                                   j->beta, o->matrix_remainders[0], 0, o->matrix_remainders[1], 0, o->matrix_remainders[2], j->lent,
+                                   o->values, position);
+    case FIFTH:
+        return varuna_fifth_round(j->r, j->c, j->x, j->ea, j->ea_length, j->eb, 3, j->ec, 3, j->z, 2, j->mask, j->m, 4, j->alpha, j->eta,
+                                  j->beta, j->delta, o->joined_quotient, j->lent, position);
+    default:
+        return varuna_openings(j->r, j->c, j->x, j->ea, j->ea_length, j->eb, 3, j->ec, 3, j->z, 2, j->mask, j->m, 4, j->alpha, j->eta,
+                               j->beta, j->delta, j->gamma, o->openings, position);
+    }
+}
+
+static int refuses_job(enum call call, const struct job *j, uint32_t expected_number, size_t expected_position)
+{
+    struct results found, kept;
+    memset(&found, 0xAB, sizeof found);
+    memset(&kept, 0xAB, sizeof kept);
+    size_t position = NOWHERE;
+    uint32_t number = run(call, j, &found, &position);
+    return is_refused(number, position, expected_number, expected_position) && memcmp(&found, &kept, sizeof found) == 0;
+}
+
+static void test_job_refusal(enum call call, const char *what, const struct job *j, uint32_t number, size_t position)
+{
+    char name[80];
+    snprintf(name, sizeof name, "%s refuses %s", call_names[call], what);
+    test(name, refuses_job(call, j, number, position));
+}
+
+static void test_job_refusals(enum call call)
+{
+    static const size_t last_slice[CALLS] = {14, 6, 0, 6, 7, 5, 0};
+    struct job j = square;
+    j.r = 3;
+    test_job_refusal(call, "a size", &j, 4, 0);
+    j = square;
+    j.x = 4;
+    test_job_refusal(call, "|X| above |C|", &j, 4, 2);
+    j = square;
+    j.ea_length = 2;
+    test_job_refusal(call, "an entry list", &j, 5, 0);
+    j = square;
+    j.lent = 1;
+    if (last_slice[call] != 0)
+        test_job_refusal(call, "a lent slice", &j, 5, last_slice[call]);
+    j = square;
+    j.eb[2] = P;
+    test_job_refusal(call, "a word", &j, 6, 1);
+    j = square;
+    j.ec[0] = 1;
+    test_job_refusal(call, "an entry", &j, 7, 2);
+    if (call == INDEX)
+        return;
+    j = square;
+    j.m[0] = 2;
+    test_job_refusal(call, "a mask", &j, 8, 0);
+    j = square;
+    j.z[1] = 4;
+    test_job_refusal(call, "z = 9 4", &j, 9, 0);
+    if (call == FIRST)
+        return;
+    j = square;
+    j.alpha = 1;
+    test_job_refusal(call, "alpha = 1", &j, 10, 0);
+}
+
+static void test_later_challenges(void)
+{
+    struct job j = square;
+    j.beta = P - 1;
+    test_job_refusal(FOURTH, "beta = p-1", &j, 10, 1);
+    test_job_refusal(FIFTH, "beta = p-1", &j, 10, 1);
+    test_job_refusal(OPENINGS, "beta = p-1", &j, 10, 1);
+    j = square;
+    j.gamma = 1;
+    test_job_refusal(OPENINGS, "gamma = 1", &j, 10, 2);
+}
+
+static const uint32_t expected_openings[VARUNA_OPENINGS] = {7, 19, 7, 4, 0, 0, 0, 0, 0, 1, P - 1, P - 1, P - 1, 1, P - 1, P - 1, P - 1, 1, 1, 1, 1};
+
+static void test_jobs(void)
+{
+    struct results found, expected;
+    memset(&found, 0xAB, sizeof found);
+    memset(&expected, 0xAB, sizeof expected);
+    memcpy(expected.index, expected_openings + 9, sizeof expected.index);
+    memcpy(expected.witness, (uint32_t[]){4, 1}, sizeof expected.witness);
+    memcpy(expected.sums, (uint32_t[]){3, 3, 9}, sizeof expected.sums);
+    memcpy(expected.line_remainder, (uint32_t[]){7}, sizeof expected.line_remainder);
+    memcpy(expected.line_quotient, (uint32_t[]){1, 1}, sizeof expected.line_quotient);
+    memcpy(expected.values, (uint32_t[]){P - 1, P - 1, 2}, sizeof expected.values);
+    memcpy(expected.openings, expected_openings, sizeof expected.openings);
+    for (enum call call = INDEX; call < CALLS; call++) {
+        size_t position = NOWHERE;
+        uint32_t number = run(call, &square, &found, &position);
+        test(call_names[call], is_done(number, position));
+        test_job_refusals(call);
+    }
+    test("the words of index, rounds and openings", memcmp(&found, &expected, sizeof found) == 0);
+    test_later_challenges();
+}
+
+/* The session. */
+
+static const uint32_t square_sizes[VARUNA_SIZES] = {1, 2, 1, 1, 1, 1};
+static const uint32_t square_x[1] = {9};
+
+/* What the prover says, step by step, and the challenges; a test changes one word. */
+struct conversation {
+    uint32_t alpha, sums[3], eta[3], beta, values[3], remainders[3], delta[3], gamma, openings[VARUNA_OPENINGS];
+};
+
+static struct conversation honest(void)
+{
+    struct conversation t = {2, {3, 3, 9}, {1, 1, 2}, 3, {P - 1, P - 1, 2}, {0, 0, 0}, {1, 1, 1}, 5, {0}};
+    memcpy(t.openings, expected_openings, sizeof t.openings);
+    return t;
+}
+
+enum step { OPEN, ALPHA, ETA, BETA, DELTA, GAMMA, LAST, STEPS };
+
+static uint32_t take(enum step step, uint32_t *session, const struct conversation *t, uint32_t *verdict, size_t *position)
+{
+    switch (step) {
+    case OPEN:
+        return varuna_session_open(session, square_sizes, square_x, 1, position);
+    case ALPHA:
+        return varuna_session_alpha(session, 2, 4, 0, t->alpha, position);
+    case ETA:
+        return varuna_session_eta(session, t->sums, t->eta, position);
+    case BETA:
+        return varuna_session_beta(session, 1, 2, t->beta, position);
+    case DELTA:
+        return varuna_session_delta(session, t->values, t->remainders, t->delta, position);
+    case GAMMA:
+        return varuna_session_gamma(session, 0, t->gamma, position);
+    default:
+        return varuna_session_openings(session, t->openings, verdict, position);
+    }
+}
+
+/* The session before a step; whether all steps up to it were taken. */
+static int reach(enum step step, uint32_t *session)
+{
+    struct conversation t = honest();
+    uint32_t verdict = 77;
+    int taken = 1;
+    varuna_session_new(session);
+    for (enum step s = OPEN; s < step; s++) {
+        size_t position = NOWHERE;
+        uint32_t number = take(s, session, &t, &verdict, &position);
+        taken = taken && is_done(number, position);
+    }
+    return taken;
+}
+
+static int plays_to(const struct conversation *t, uint32_t expected)
+{
+    uint32_t session[VARUNA_SESSION_WORDS];
+    uint32_t verdict = 77;
+    int taken = 1;
+    varuna_session_new(session);
+    for (enum step s = OPEN; s < STEPS; s++) {
+        size_t position = NOWHERE;
+        uint32_t number = take(s, session, t, &verdict, &position);
+        taken = taken && is_done(number, position) && session[0] == (uint32_t)s + 1;
+    }
+    return taken && verdict == expected;
+}
+
+static void test_verdicts(void)
+{
+    struct conversation t = honest();
+    test("session to Accept", plays_to(&t, VARUNA_ACCEPT));
+    t.sums[2] = 8;
+    test("session to Fails Row", plays_to(&t, VARUNA_FAILS_ROW));
+    t = honest();
+    t.values[2] = 3;
+    test("session to Fails Line", plays_to(&t, VARUNA_FAILS_LINE));
+    t = honest();
+    t.openings[12] = 1;
+    test("session to Fails Matrix", plays_to(&t, VARUNA_FAILS_MATRIX));
+}
+
+static int refuses_step(enum step before, enum step step, const struct conversation *t, uint32_t expected_number, size_t expected_position)
+{
+    uint32_t session[VARUNA_SESSION_WORDS], kept[VARUNA_SESSION_WORDS];
+    uint32_t verdict = 77;
+    size_t position = NOWHERE;
+    int reached = reach(before, session);
+    memcpy(kept, session, sizeof kept);
+    uint32_t number = take(step, session, t, &verdict, &position);
+    return reached && is_refused(number, position, expected_number, expected_position) && same(session, kept, VARUNA_SESSION_WORDS) &&
+           verdict == 77;
+}
+
+static void test_steps(void)
+{
+    struct conversation t = honest();
+    static const char *const names[STEPS] = {"open", "alpha", "eta", "beta", "delta", "gamma", "openings"};
+    for (enum step s = ALPHA; s < STEPS; s++) {
+        char name[80];
+        snprintf(name, sizeof name, "session %s refuses a step out of turn", names[s]);
+        test(name, refuses_step(OPEN, s, &t, 1, 0) && refuses_step(STEPS, s, &t, 1, 0));
+    }
+    t.alpha = 1;
+    test("session alpha refuses alpha = 1", refuses_step(ALPHA, ALPHA, &t, 10, 0));
+    t.alpha = P;
+    test("session alpha refuses word p", refuses_step(ALPHA, ALPHA, &t, 6, 0));
+    t.eta[1] = P;
+    test("session eta refuses word p", refuses_step(ETA, ETA, &t, 6, 4));
+    t.beta = P - 1;
+    test("session beta refuses beta = p-1", refuses_step(BETA, BETA, &t, 10, 1));
+    t.beta = P;
+    test("session beta refuses word p", refuses_step(BETA, BETA, &t, 6, 0));
+    t.remainders[2] = 1;
+    test("session delta refuses a length", refuses_step(DELTA, DELTA, &t, 11, 2));
+    t.delta[0] = P;
+    test("session delta refuses word p", refuses_step(DELTA, DELTA, &t, 6, 3));
+    t.gamma = 1;
+    test("session gamma refuses gamma = 1", refuses_step(GAMMA, GAMMA, &t, 10, 2));
+    t.gamma = P;
+    test("session gamma refuses word p", refuses_step(GAMMA, GAMMA, &t, 6, 0));
+    t.openings[20] = P;
+    test("session openings refuses word p", refuses_step(LAST, LAST, &t, 6, 20));
+}
+
+static void test_opening(void)
+{
+    const uint32_t wrong_sizes[VARUNA_SIZES] = {1, 2, 4, 1, 1, 1};
+    const uint32_t wrong_x[2] = {P, 0};
+    uint32_t session[VARUNA_SESSION_WORDS], kept[VARUNA_SESSION_WORDS];
+    size_t position = NOWHERE;
+    int reached = reach(GAMMA, session);
+    memcpy(kept, session, sizeof kept);
+    uint32_t number = varuna_session_open(session, wrong_sizes, square_x, 1, &position);
+    test("session open refuses |X| above |C|", reached && is_refused(number, position, 4, 2) && same(session, kept, VARUNA_SESSION_WORDS));
+    number = varuna_session_open(session, square_sizes, wrong_x, 2, &position);
+    test("session open refuses a length", is_refused(number, position, 5, 0) && same(session, kept, VARUNA_SESSION_WORDS));
+    number = varuna_session_open(session, square_sizes, wrong_x, 1, &position);
+    test("session open refuses word p", is_refused(number, position, 6, 0) && same(session, kept, VARUNA_SESSION_WORDS));
+}
+
+static void test_declared_lengths(void)
+{
+    uint32_t session[VARUNA_SESSION_WORDS], kept[VARUNA_SESSION_WORDS];
+    size_t position = NOWHERE;
+    int reached = reach(ALPHA, session);
+    memcpy(kept, session, sizeof kept);
+    uint32_t number = varuna_session_alpha(session, 2, 5, 0, 2, &position);
+    test("session alpha refuses a length", reached && is_refused(number, position, 11, 1) && same(session, kept, VARUNA_SESSION_WORDS));
+    reached = reach(BETA, session);
+    memcpy(kept, session, sizeof kept);
+    number = varuna_session_beta(session, 1, 3, 3, &position);
+    test("session beta refuses a length", reached && is_refused(number, position, 11, 1) && same(session, kept, VARUNA_SESSION_WORDS));
+    reached = reach(GAMMA, session);
+    memcpy(kept, session, sizeof kept);
+    number = varuna_session_gamma(session, 1, 5, &position);
+    test("session gamma refuses a length", reached && is_refused(number, position, 11, 0) && same(session, kept, VARUNA_SESSION_WORDS));
+}
+
+/* A session's words: the stage, the sizes, x with zeros after it, and what was heard. */
+static void test_session_words(void)
+{
+    static const uint32_t opened[8] = {7, 1, 2, 1, 1, 1, 1, 9};
+    static const uint32_t heard[15] = {2, 3, 3, 9, 1, 1, 2, 3, P - 1, P - 1, 2, 1, 1, 1, 5};
+    static const uint32_t zeros[VARUNA_SESSION_WORDS];
+    uint32_t session[VARUNA_SESSION_WORDS];
+    memset(session, 0xAB, sizeof session);
+    varuna_session_new(session);
+    test("session new", same(session, zeros, VARUNA_SESSION_WORDS));
+    int reached = reach(STEPS, session);
+    test("the words of a session", reached && same(session, opened, 8) && same(session + 8, zeros, 1023) && same(session + 1031, heard, 15));
+}
+
+/* Records. */
+
+#define RECORD_BYTES 132
+
+static const uint32_t w[2] = {4, 1}, m[4] = {1, 0, P - 1, 1}, sums[3] = {3, 3, 9}, g1[1] = {7}, h1[2] = {1, 1}, values[3] = {P - 1, P - 1, 2};
+
+static uint32_t write(const uint32_t *sizes, const uint32_t *first, uint8_t *bytes, size_t length, size_t *position)
+{
+    return varuna_write_record(sizes, first, 2, m, 4, none, 0, sums, 3, g1, 1, h1, 2, values, 3, none, 0, none, 0, none, 0, none, 0, bytes,
+                               length, position);
+}
+
+static int refuses_write(const uint32_t *sizes, const uint32_t *first, size_t length, uint32_t expected_number, size_t expected_position)
+{
+    uint8_t bytes[RECORD_BYTES], kept[RECORD_BYTES];
+    memset(bytes, 0xAB, sizeof bytes);
+    memset(kept, 0xAB, sizeof kept);
+    size_t position = NOWHERE;
+    uint32_t number = write(sizes, first, bytes, length, &position);
+    return is_refused(number, position, expected_number, expected_position) && memcmp(bytes, kept, sizeof bytes) == 0;
+}
+
+static uint32_t word_of(const uint8_t *bytes, size_t i)
+{
+    const uint8_t *b = bytes + 4 * i;
+    return b[0] | (uint32_t)b[1] << 8 | (uint32_t)b[2] << 16 | (uint32_t)b[3] << 24;
+}
+
+static void test_writing(uint8_t *bytes)
+{
+    static const uint32_t expected[RECORD_BYTES / 4] = {4,  1,  1,  0,  P - 1, 1, 3, 3, 9, 7, 1, 1, P - 1, P - 1, 2, 0, 8,
+                                                        24, 24, 36, 40, 48,    60, 60, 60, 60, 1, 2, 1, 1,     1,     1, 60};
+    const uint32_t wrong_sizes[VARUNA_SIZES] = {1, 2, 1, 1, 3, 1};
+    const uint32_t wrong_w[2] = {4, P};
+    size_t position = NOWHERE;
+    test("write_record refuses a size", refuses_write(wrong_sizes, w, RECORD_BYTES, 4, 4));
+    test("write_record refuses a length", refuses_write(square_sizes, w, RECORD_BYTES - 4, 5, 11));
+    test("write_record refuses a word", refuses_write(square_sizes, wrong_w, RECORD_BYTES, 6, 1));
+    uint32_t number = write(square_sizes, w, bytes, RECORD_BYTES, &position);
+    int all = is_done(number, position);
+    for (size_t i = 0; i < COUNT(expected); i++)
+        all = all && word_of(bytes, i) == expected[i];
+    test("write_record", all);
+}
+
+static int refuses_read(const uint8_t *bytes, size_t length, uint32_t expected_number, size_t expected_position)
+{
+    uint32_t sizes[VARUNA_SIZES] = {77, 77, 77, 77, 77, 77};
+    const uint32_t kept[VARUNA_SIZES] = {77, 77, 77, 77, 77, 77};
+    size_t position = NOWHERE;
+    uint32_t number = varuna_read_record(bytes, length, sizes, &position);
+    return is_refused(number, position, expected_number, expected_position) && same(sizes, kept, VARUNA_SIZES);
+}
+
+static void test_reading(uint8_t *bytes)
+{
+    uint32_t sizes[VARUNA_SIZES] = {77, 77, 77, 77, 77, 77};
+    size_t position = NOWHERE;
+    uint32_t number = varuna_read_record(bytes, RECORD_BYTES, sizes, &position);
+    test("read_record", is_done(number, position) && same(sizes, square_sizes, VARUNA_SIZES));
+    test("read_record refuses an end", refuses_read(bytes, RECORD_BYTES - 1, 2, 0) && refuses_read(bytes, 71, 2, 0));
+    bytes[64] = 9;
+    test("read_record refuses a start", refuses_read(bytes, RECORD_BYTES, 3, 1));
+    bytes[64] = 8;
+    memset(bytes + 4, 0xFF, 4);
+    test("read_record refuses a word", refuses_read(bytes, RECORD_BYTES, 6, 1));
+    memcpy(bytes + 4, (uint8_t[]){1, 0, 0, 0}, 4);
+}
+
+static void test_sections(uint8_t *bytes)
+{
+    static const size_t starts[12] = {0, 8, 24, 24, 36, 40, 48, 60, 60, 60, 60, 0};
+    static const size_t lengths[12] = {8, 16, 0, 12, 4, 8, 12, 0, 0, 0, 0, 0};
+    int all = 1;
+    for (size_t k = 0; k < 12; k++) {
+        size_t start = NOWHERE;
+        size_t length = varuna_section(bytes, RECORD_BYTES, k, &start);
+        all = all && start == starts[k] && length == lengths[k];
+    }
+    test("section", all);
+    size_t start = NOWHERE;
+    size_t length = varuna_section(bytes, RECORD_BYTES - 4, 1, &start);
+    test("section of a refused record", start == 0 && length == 0);
+}
+
+int main(void)
+{
+    uint8_t bytes[RECORD_BYTES];
+    test_words();
+    test_domains();
+    test_evaluate();
+    test_interpolate();
+    test_jobs();
+    test_session_words();
+    test_verdicts();
+    test_steps();
+    test_opening();
+    test_declared_lengths();
+    test_writing(bytes);
+    test_reading(bytes);
+    test_sections(bytes);
+    printf("%d passed, %d failed\n", passed, failed);
+    return failed != 0;
+}
