@@ -31,4 +31,4 @@ pub use prover::{fifth_round, first_round, fourth_round, openings, second_round,
 pub use record::{read_record, section, write_record};
 pub use refusal::Refusal;
 pub use verdict::{Check, Verdict};
-pub use verifier::{open, Session};
+pub use verifier::{open, Session, SESSION_WORDS};

@@ -6,6 +6,12 @@ use crate::message;
 use crate::refusal::{self, Refusal};
 use crate::verdict::{Heard, Openings, Verdict};
 
+/// The words of a session: the steps taken, the six sizes, x in 1,024 words with zeros after the public
+/// ones, then α, σ, η, β, ω, δ, γ.
+pub const SESSION_WORDS: usize = 1046;
+/// The place of α among them.
+const HEARD_START: usize = 1031;
+
 /// The step whose turn it is.
 #[derive(Clone, Copy, Debug, PartialEq, Eq)]
 enum Turn {
@@ -17,6 +23,9 @@ enum Turn {
     Openings,
     Ended,
 }
+
+/// The turns in order; the first one comes after one step.
+const TURNS: [Turn; 7] = [Turn::Alpha, Turn::Eta, Turn::Beta, Turn::Delta, Turn::Gamma, Turn::Openings, Turn::Ended];
 
 /// A session, made by `open` and changed by its steps only.
 #[derive(Clone, Debug, PartialEq, Eq)]
@@ -133,5 +142,45 @@ impl Session {
             hear(&mut self.heard);
         }
         (self, answer)
+    }
+
+    /// The session as words.
+    pub fn words(&self) -> [u32; SESSION_WORDS] {
+        let heard = &self.heard;
+        let steps = TURNS.iter().take_while(|&&turn| turn != self.turn).count() + 1;
+        let mut words = [0; SESSION_WORDS];
+        words[0] = steps as u32;
+        words[1..7].copy_from_slice(&heard.sizes);
+        field::fill(&mut words[7..HEARD_START], &heard.public_words);
+        let rest = [&[heard.alpha][..], &heard.sums, &heard.eta, &[heard.beta]];
+        let rest = [rest.concat(), [&heard.values[..], &heard.delta, &[heard.gamma]].concat()].concat();
+        field::fill(&mut words[HEARD_START..], &rest);
+        words
+    }
+
+    /// The session that has these words: one to seven steps, allowed sizes, words below p, and zeros after
+    /// the public words. Other words are no session's.
+    pub fn from_words(words: &[u32; SESSION_WORDS]) -> Option<Session> {
+        let steps = (words[0] as usize).checked_sub(1)?;
+        let turn = *TURNS.get(steps)?;
+        let sizes = [1, 2, 3, 4, 5, 6].map(|place| words[place]);
+        refusal::sizes(&sizes).ok()?;
+        let public_end = 7 + sizes[2] as usize;
+        let padded = words[public_end..HEARD_START].iter().all(|&word| word == 0);
+        refusal::words(words[7..].iter().copied()).ok().filter(|()| padded)?;
+        let one = |place: usize| Element::new(words[HEARD_START + place]);
+        let three = |place: usize| [one(place), one(place + 1), one(place + 2)];
+        let heard = Heard {
+            sizes,
+            public_words: field::elements(&words[7..public_end]),
+            alpha: one(0),
+            sums: three(1),
+            eta: three(4),
+            beta: one(7),
+            values: three(8),
+            delta: three(11),
+            gamma: one(14),
+        };
+        Some(Session { turn, heard })
     }
 }

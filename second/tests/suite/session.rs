@@ -172,3 +172,28 @@ fn refused_step_may_be_tried_again() {
     assert_eq!(answer, Ok(Verdict::Accept));
     assert_eq!(refusal(session.openings(proof.openings).1), Some((1, 0)));
 }
+
+#[test]
+fn words() {
+    for (turn, session) in run().iter().enumerate() {
+        let words = session.words();
+        let heard = |steps: usize, word: u32| if turn >= steps { word } else { 0 };
+        let top = |steps: usize| [heard(steps, P - 1); 3];
+        assert_eq!(words[..7], [turn as u32 + 1, 4, 8, 2, 1, 2, 4]);
+        assert_eq!((&words[7..9], words[9..1031].iter().all(|&word| word == 0)), (&[1, 2][..], true));
+        let expected = [vec![heard(1, 3)], [top(2), top(2)].concat(), vec![heard(3, 3)], [top(4), top(4)].concat()];
+        assert_eq!(words[1031..], [expected.concat(), vec![heard(5, 3)]].concat());
+        assert_eq!(Session::from_words(&words).as_ref(), Some(session));
+    }
+}
+
+#[test]
+fn words_of_no_session() {
+    let good = run()[6].words();
+    let changes = [(0, 0), (0, 8), (1, 3), (3, 16), (6, 2048), (8, P), (9, 1), (1030, 1), (1031, P), (1045, u32::MAX)];
+    for (place, word) in changes {
+        let mut words = good;
+        words[place] = word;
+        assert_eq!(Session::from_words(&words), None, "{place} {word}");
+    }
+}
