@@ -1,0 +1,143 @@
+//! Calls on words, domains and polynomials.
+
+use compare::calls::{lend, Outcome};
+use compare::library;
+use compare::random::{count, Random, BOUNDARY_WORDS, NO_SIZES, SIZES};
+use second::{Refusal, MODULUS};
+
+/// All calls on one word or two.
+fn compare_words(a: u32, b: u32) {
+    assert_eq!(library::add(a, b), second::add(a, b), "add {a} {b}");
+    assert_eq!(library::subtract(a, b), second::subtract(a, b), "subtract {a} {b}");
+    assert_eq!(library::multiply(a, b), second::multiply(a, b), "multiply {a} {b}");
+    assert_eq!(library::power(a, b), second::power(a, b), "power {a} {b}");
+    assert_eq!(library::inverse(a), second::inverse(a), "inverse {a}");
+}
+
+#[test]
+fn words() {
+    for a in BOUNDARY_WORDS {
+        for b in BOUNDARY_WORDS {
+            compare_words(a, b);
+        }
+    }
+    let mut random = Random::new(1);
+    for _ in 0..count(20_000) {
+        let (a, b) = (random.word(), random.word());
+        compare_words(a, b);
+        compare_words(random.damaged(), random.damaged());
+        compare_words(a, random.damaged());
+        compare_words(random.damaged(), b);
+    }
+}
+
+#[test]
+fn powers() {
+    let exponents =
+        [0, 1, 2, 3, MODULUS - 3, MODULUS - 2, MODULUS - 1, MODULUS, 1 << 27, 1 << 31, u32::MAX - 1, u32::MAX];
+    let mut random = Random::new(2);
+    let bases = BOUNDARY_WORDS.into_iter().chain([31, random.word(), random.root(), random.root()]);
+    for base in bases {
+        for exponent in exponents {
+            assert_eq!(library::power(base, exponent), second::power(base, exponent), "power {base} {exponent}");
+        }
+    }
+    assert_eq!(library::power(0, 0), Ok(1));
+}
+
+fn compare_domain(size: u32, length: usize) {
+    let domain = |call: fn(u32, &mut [u32]) -> Result<(), Refusal>| {
+        lend([length], |[elements]| call(size, elements).map(|()| Vec::new()))
+    };
+    assert_eq!(domain(library::domain), domain(second::domain), "domain {size}, {length} words lent");
+}
+
+#[test]
+fn domains() {
+    for size in SIZES {
+        let right = size as usize;
+        for length in [right, 0, 1, 2, right - 1, right + 1, 2 * right, 1024, 2048] {
+            compare_domain(size, length);
+        }
+    }
+    for size in NO_SIZES {
+        for length in [0, 1, 2, 3, 5, 6, 1023, 1024, 1025, 2048] {
+            compare_domain(size, length);
+        }
+    }
+}
+
+fn compare_evaluate(coefficients: &[u32], point: u32) {
+    let answers = [library::evaluate(coefficients, point), second::evaluate(coefficients, point)];
+    assert_eq!(answers[0], answers[1], "evaluate {coefficients:?} at {point}");
+}
+
+#[test]
+fn evaluations() {
+    let mut random = Random::new(3);
+    for length in [0, 1, 2, 3, 1023, 1024, 1025, 2047, 2048, 2049, 2050, 5000] {
+        let good = random.words(length);
+        for point in BOUNDARY_WORDS.into_iter().chain([random.word(), random.root()]) {
+            compare_evaluate(&good, point);
+            compare_evaluate(&vec![MODULUS - 1; length], point);
+            compare_evaluate(&vec![MODULUS; length], point);
+        }
+        for place in [0, 1, length / 2, length.saturating_sub(1)] {
+            let mut bad = good.clone();
+            if let Some(word) = bad.get_mut(place) {
+                *word = MODULUS;
+            }
+            compare_evaluate(&bad, MODULUS);
+        }
+    }
+    for _ in 0..count(2_000) {
+        let length = random.place(70);
+        let mut words = random.words(length);
+        if length > 0 && random.one_in(3) {
+            let place = random.place(length);
+            words[place] = random.damaged();
+        }
+        compare_evaluate(&words, if random.one_in(3) { random.damaged() } else { random.word() });
+    }
+}
+
+type Interpolate = fn(u32, &[u32], &mut [u32]) -> Result<(), Refusal>;
+
+fn compare_interpolate(size: u32, values: &[u32], length: usize) -> Outcome {
+    let interpolate =
+        |call: Interpolate| lend([length], |[coefficients]| call(size, values, coefficients).map(|()| Vec::new()));
+    let [ours, theirs] = [library::interpolate, second::interpolate].map(interpolate);
+    assert_eq!(ours, theirs, "interpolate on {size}, {length} words lent, values {values:?}");
+    ours
+}
+
+#[test]
+fn interpolations() {
+    let mut random = Random::new(4);
+    for size in SIZES {
+        let right = size as usize;
+        let values = random.words(right);
+        assert!(compare_interpolate(size, &values, right).answer.is_ok());
+        for (given, lent) in [(right - 1, right), (right + 1, right), (right, right - 1), (right, right + 1)] {
+            compare_interpolate(size, &random.words(given), lent);
+        }
+        compare_interpolate(size, &vec![MODULUS; right + 1], right + 1);
+        for place in [0, right / 2, right - 1] {
+            let mut bad = values.clone();
+            bad[place..].fill(MODULUS);
+            compare_interpolate(size, &bad, right);
+        }
+    }
+    for size in NO_SIZES {
+        for length in [0, 1, 3, 1024, 2048] {
+            compare_interpolate(size, &vec![MODULUS; length], length);
+        }
+    }
+    for _ in 0..count(1_000) {
+        let size = 1 << random.below(7);
+        let mut values = random.words(size as usize);
+        let place = random.place(size as usize);
+        values[place] = random.damaged();
+        compare_interpolate(size, &values, size as usize);
+    }
+}

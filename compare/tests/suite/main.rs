@@ -1,0 +1,20 @@
+//! The proved library and the program `prove` beside the second implementation, on the same inputs.
+//!
+//! Every answer, every word of every lent slice and every session is compared whole. A test stops at the first difference and
+//! prints the input that shows it, a job as the text that `job pack` takes.
+//!
+//! What is needed first, in the repository: `rt staticlib varuna_c` makes target/staticlib/libvaruna_c.a, and
+//! `rt build prove` target/bin/prove. VARUNA_LIBRARY names another folder for the library, VARUNA_PROVE another program.
+//!
+//!     cargo test --release                          one seed, under two minutes
+//!     SEED=7 COUNT=100 cargo test --release         another seed, and the random part of each test a hundred times as long
+//!     COUNT=1000 cargo test --release jobs          a long run of one module
+
+mod arithmetic;
+mod circuits;
+mod examples;
+mod jobs;
+mod program;
+mod records;
+mod sessions;
+mod tool;

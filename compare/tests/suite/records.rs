@@ -1,0 +1,266 @@
+//! Proof records: written, read, and their sections found; good and damaged.
+
+use compare::calls::Input;
+use compare::case::{lengths, Case};
+use compare::library::{self, UNWRITTEN};
+use compare::random::{count, Random, BOUNDARY_WORDS, NO_SIZES, SIZES};
+use compare::{calls, job};
+use second::{Refusal, MODULUS};
+use std::fmt;
+
+/// The inputs of the writer.
+#[derive(Clone)]
+struct Written {
+    sizes: [u32; 6],
+    sections: [Vec<u32>; 11],
+    lent: usize,
+}
+
+type WriteRecord = fn([u32; 6], [&[u32]; 11], &mut [u8]) -> Result<(), Refusal>;
+
+/// The writer's answer, and the bytes lent to it as the call left them.
+#[derive(Debug, PartialEq, Eq)]
+struct Outcome {
+    answer: Result<(), Refusal>,
+    bytes: Vec<u8>,
+}
+
+impl Written {
+    /// Random words for sections of the right lengths.
+    fn new(random: &mut Random, sizes: [u32; 6]) -> Written {
+        let sections = lengths(sizes).map(|length| random.words(length));
+        let lent = 4 * sections.iter().map(Vec::len).sum::<usize>() + 72;
+        Written { sizes, sections, lent }
+    }
+
+    /// The call on one side.
+    fn write(&self, call: WriteRecord) -> Outcome {
+        let guard = UNWRITTEN.to_le_bytes()[0];
+        let mut bytes = vec![guard; self.lent + 2];
+        let end = self.lent + 1;
+        let answer = call(self.sizes, self.sections.each_ref().map(Vec::as_slice), &mut bytes[1..end]);
+        assert_eq!((bytes[0], bytes[end]), (guard, guard), "a call has written past the lent bytes");
+        let untouched = bytes.iter().all(|&byte| byte == guard);
+        assert!(answer.is_ok() || untouched, "a refused call has changed the lent bytes");
+        Outcome { answer, bytes: bytes[1..end].to_vec() }
+    }
+
+    /// Writes on both sides and compares; the outcome is that of both.
+    fn compare(&self) -> Outcome {
+        let _input = Input(self);
+        let [ours, theirs] = [library::write_record, second::write_record].map(|call| self.write(call));
+        assert_eq!(ours, theirs, "write_record: the library, then the second implementation");
+        ours
+    }
+
+    fn record(&self) -> Vec<u8> {
+        let outcome = self.compare();
+        assert_eq!(outcome.answer, Ok(()), "a good record is refused:\n{self}");
+        outcome.bytes
+    }
+}
+
+impl fmt::Display for Written {
+    fn fmt(&self, text: &mut fmt::Formatter) -> fmt::Result {
+        writeln!(text, "sizes {:?}, {} bytes lent", self.sizes, self.lent)?;
+        self.sections.iter().enumerate().try_for_each(|(place, section)| writeln!(text, "section {place}: {section:?}"))
+    }
+}
+
+/// Bytes to read.
+struct Bytes<'a>(&'a [u8]);
+
+impl fmt::Display for Bytes<'_> {
+    fn fmt(&self, text: &mut fmt::Formatter) -> fmt::Result {
+        write!(text, "{} bytes:\n{}{:?}", self.0.len(), job::show_record(self.0), self.0)
+    }
+}
+
+/// Reads on both sides, and finds every section and those past the last; the answer is that of both.
+fn compare_read(bytes: &[u8]) -> Result<[u32; 6], Refusal> {
+    let shown = Bytes(bytes);
+    let _input = Input(&shown);
+    let answer = library::read_record(bytes);
+    assert_eq!(answer, second::read_record(bytes), "read_record: the library, then the second implementation");
+    for number in 0..13 {
+        let (start, length) = library::section(bytes, number);
+        let expected = second::section(bytes, number as u32);
+        let found = bytes.get(start..start + length).expect("a section lies in the record");
+        assert_eq!(found, expected, "section {number}");
+        let trailer = bytes.len().saturating_sub(72);
+        let written = |place: usize| bytes[trailer + 4 * place..][..4].try_into().expect("four bytes");
+        let place = if answer.is_ok() && number < 11 { u32::from_le_bytes(written(number)) } else { 0 };
+        assert_eq!(start, place as usize, "the start of section {number}");
+    }
+    for number in [u32::MAX as usize, 1 << 32, usize::MAX] {
+        assert_eq!(library::section(bytes, number), (0, 0), "section {number}");
+    }
+    answer
+}
+
+/// A record with one word replaced.
+fn with_word(record: &[u8], place: usize, word: u32) -> Vec<u8> {
+    let mut bytes = record.to_vec();
+    bytes[4 * place..4 * place + 4].copy_from_slice(&word.to_le_bytes());
+    bytes
+}
+
+fn square_record() -> Vec<u8> {
+    let case = Case::square();
+    let proof = calls::prove(calls::Side::Second, &case).expect("the square case is proved");
+    Written { sizes: case.six_sizes(), sections: proof.sections, lent: 132 }.record()
+}
+
+#[test]
+fn square() {
+    let record = square_record();
+    assert_eq!(record.len(), 132);
+    assert_eq!(compare_read(&record), Ok([1, 2, 1, 1, 1, 1]));
+}
+
+#[test]
+fn round_trip() {
+    let mut random = Random::new(30);
+    for size in SIZES {
+        let written = Written::new(&mut random, [size; 6]);
+        assert_eq!(compare_read(&written.record()), Ok([size; 6]));
+    }
+    for _ in 0..count(200) {
+        let sizes = random.six_sizes(10);
+        let written = Written::new(&mut random, sizes);
+        assert_eq!(compare_read(&written.record()), Ok(sizes));
+    }
+}
+
+/// Every refusal of the writer, and damages in several places.
+#[test]
+fn damaged_inputs() {
+    let mut random = Random::new(31);
+    for sizes in [[1; 6], [2, 4, 2, 1, 2, 4], [4, 8, 8, 2, 1, 1]] {
+        let good = Written::new(&mut random, sizes);
+        for place in 0..6 {
+            for size in NO_SIZES.into_iter().chain(SIZES) {
+                let mut bad = good.clone();
+                bad.sizes[place] = size;
+                bad.compare();
+            }
+        }
+        for lent in [0, 1, 71, 72, good.lent - 4, good.lent - 1, good.lent + 1, good.lent + 4] {
+            Written { lent, ..good.clone() }.compare();
+        }
+        for section in 0..11 {
+            let length = good.sections[section].len();
+            for length in [0, length.saturating_sub(1), length + 1, length + 4, 5000] {
+                let mut bad = good.clone();
+                bad.sections[section].resize(length, MODULUS);
+                bad.compare();
+            }
+            for place in 0..length {
+                for word in BOUNDARY_WORDS {
+                    let mut bad = good.clone();
+                    bad.sections[section][place] = word;
+                    bad.compare();
+                }
+            }
+        }
+    }
+    for _ in 0..count(3_000) {
+        let sizes = random.six_sizes(3);
+        let mut bad = Written::new(&mut random, sizes);
+        for _ in 0..=random.below(3) {
+            damage(&mut random, &mut bad);
+        }
+        bad.compare();
+    }
+}
+
+fn damage(random: &mut Random, written: &mut Written) {
+    let (word, section) = (random.damaged(), random.place(11));
+    let length = written.sections[section].len();
+    match random.below(5) {
+        0 => written.sizes[section % 6] = word,
+        1 => written.lent = (written.lent + random.place(9)).saturating_sub(4),
+        2 => written.sections[section].push(word),
+        _ if length > 0 => written.sections[section][random.place(length)] = word,
+        _ => written.sections[section].push(word),
+    }
+}
+
+/// Every word of a record replaced, every length cut, and bytes added.
+#[test]
+fn damaged_records() {
+    let mut random = Random::new(32);
+    let sizes = [[1; 6], [2, 4, 2, 1, 2, 4], [4, 2, 1, 4, 1, 1]];
+    let mut records = sizes.map(|sizes| Written::new(&mut random, sizes).record()).to_vec();
+    records.push(square_record());
+    for record in &records {
+        let count = record.len() / 4;
+        for place in 0..count {
+            let word = u32::from_le_bytes(record[4 * place..4 * place + 4].try_into().expect("four bytes"));
+            let near = [word.wrapping_add(1), word.wrapping_sub(1), word.wrapping_add(4), word.wrapping_sub(4)];
+            for bad in BOUNDARY_WORDS.into_iter().chain(NO_SIZES).chain(SIZES).chain(near) {
+                let answer = compare_read(&with_word(record, place, bad));
+                assert!(answer.is_err() || bad == word || place < count - 18);
+            }
+        }
+        for length in 0..record.len() {
+            assert!(compare_read(&record[..length]).is_err());
+            assert!(compare_read(&record[record.len() - length..]).is_err());
+        }
+        for extra in 1..80 {
+            assert!(compare_read(&[&record[..], &vec![0; extra]].concat()).is_err());
+            assert!(compare_read(&[&vec![0; extra], &record[..]].concat()).is_err());
+        }
+    }
+}
+
+/// Words put in or taken out before the trailer, with the last word set right.
+#[test]
+fn other_total_lengths() {
+    let mut random = Random::new(33);
+    for _ in 0..count(200) {
+        let sizes = random.six_sizes(3);
+        let record = Written::new(&mut random, sizes).record();
+        let (body, trailer) = record.split_at(record.len() - 72);
+        let changed = if random.one_in(2) {
+            [body, &vec![random.below(256) as u8; 4 * (1 + random.place(3))], trailer].concat()
+        } else {
+            [&body[4 * (1 + random.place(3))..], trailer].concat()
+        };
+        let last = changed.len() / 4 - 1;
+        let changed = with_word(&changed, last, changed.len() as u32 - 72);
+        assert_eq!(compare_read(&changed), Err(Refusal { number: 3, position: 17 }));
+    }
+}
+
+#[test]
+fn random_damage() {
+    let mut random = Random::new(34);
+    for _ in 0..count(3_000) {
+        let sizes = random.six_sizes(2);
+        let mut record = Written::new(&mut random, sizes).record();
+        for _ in 0..=random.below(4) {
+            let place = random.place(record.len() / 4);
+            record = match random.below(6) {
+                0 => record[..record.len() - 4].to_vec(),
+                1 => with_word(&record, record.len() / 4 - 1 - random.place(18), random.damaged()),
+                2 => with_word(&record, record.len() / 4 - 1, record.len() as u32 - 72),
+                _ => with_word(&record, place, random.damaged()),
+            };
+        }
+        let _ = compare_read(&record);
+    }
+}
+
+#[test]
+fn random_bytes() {
+    let mut random = Random::new(35);
+    for _ in 0..count(3_000) {
+        let length = random.place(200);
+        let mut bytes: Vec<u8> = (0..length).map(|_| random.below(256) as u8).collect();
+        if length >= 72 && length.is_multiple_of(4) {
+            bytes = with_word(&bytes, length / 4 - 1, length as u32 - 72);
+        }
+        assert!(compare_read(&bytes).is_err());
+    }
+}
