@@ -1,0 +1,220 @@
+//! Times of the proved library and of the second implementation, side by side.
+//!
+//!     cargo run --release --bin bench
+//!
+//! Each size n stands for |R| = |C| = n, n entries in each matrix and |X| = n/4. Times are medians in microseconds, of more runs
+//! where a run is short. Every run begins with lent buffers cleared to zero, which is not timed. The ratio is the library's time
+//! over the second implementation's. The exponent e says that from the last size but one to the last the time grew as n^e.
+
+use compare::calls::{self, Proof, Side};
+use compare::case::Case;
+use compare::library;
+use compare::random::Random;
+use second::Verdict;
+use std::hint::black_box;
+use std::time::{Duration, Instant};
+
+const SIZES: [u32; 4] = [16, 64, 256, 1024];
+/// The time that the runs of one measurement fill, and the least and most of them.
+const FILLED: Duration = Duration::from_millis(500);
+const RUNS: (usize, usize) = (3, 1001);
+
+/// The lent slices of all calls.
+struct Buffers {
+    sections: [Vec<u32>; 11],
+    index: [Vec<u32>; 12],
+    record: Vec<u8>,
+}
+
+impl Buffers {
+    fn new(case: &Case) -> Buffers {
+        let words: usize = case.lent_sections.iter().sum();
+        Buffers {
+            sections: case.lent_sections.map(|length| vec![0; length]),
+            index: case.lent_index.map(|length| vec![0; length]),
+            record: vec![0; 4 * words + 72],
+        }
+    }
+
+    fn clear(&mut self) {
+        self.sections.iter_mut().chain(&mut self.index).for_each(|slice| slice.fill(0));
+        self.record.fill(0);
+    }
+}
+
+/// A case with its proof and record.
+struct Work {
+    case: Case,
+    proof: Proof,
+    record: Vec<u8>,
+}
+
+impl Work {
+    fn new(size: u32) -> Work {
+        let case = Random::new(70).full_case(size);
+        let proof = calls::prove(Side::Library, &case).expect("a satisfied case is proved");
+        let mut record = Buffers::new(&case).record;
+        let sections = proof.sections.each_ref().map(Vec::as_slice);
+        library::write_record(case.six_sizes(), sections, &mut record).expect("a proof's record is written");
+        Work { case, proof, record }
+    }
+}
+
+/// What is timed: its name, and one run of it. A run fails where a call is refused.
+type Task = (&'static str, fn(Side, &Work, &mut Buffers));
+
+const TASKS: [Task; 11] = [
+    ("index", index),
+    ("round 1", first_round),
+    ("round 2", second_round),
+    ("round 3", third_round),
+    ("round 4", fourth_round),
+    ("round 5", fifth_round),
+    ("openings", openings),
+    ("whole proof", whole_proof),
+    ("session", session),
+    ("write record", write_record),
+    ("read record", read_record),
+];
+
+fn index(side: Side, work: &Work, buffers: &mut Buffers) {
+    calls::index(side, &work.case, buffers.index.each_mut().map(Vec::as_mut_slice)).expect("done");
+}
+
+fn first_round(side: Side, work: &Work, buffers: &mut Buffers) {
+    let [w, _, h0, ..] = &mut buffers.sections;
+    calls::first_round(side, &work.case, [w, h0]).expect("done");
+}
+
+fn second_round(side: Side, work: &Work, _: &mut Buffers) {
+    black_box(calls::second_round(side, &work.case).expect("done"));
+}
+
+fn third_round(side: Side, work: &Work, buffers: &mut Buffers) {
+    let [_, _, _, _, g1, h1, ..] = &mut buffers.sections;
+    calls::third_round(side, &work.case, [g1, h1]).expect("done");
+}
+
+fn fourth_round(side: Side, work: &Work, buffers: &mut Buffers) {
+    let [_, _, _, _, _, _, _, ga, gb, gc, _] = &mut buffers.sections;
+    black_box(calls::fourth_round(side, &work.case, [ga, gb, gc]).expect("done"));
+}
+
+fn fifth_round(side: Side, work: &Work, buffers: &mut Buffers) {
+    calls::fifth_round(side, &work.case, [&mut buffers.sections[10]]).expect("done");
+}
+
+fn openings(side: Side, work: &Work, _: &mut Buffers) {
+    black_box(calls::openings(side, &work.case).expect("done"));
+}
+
+/// Rounds 1 to 5 and the openings.
+fn whole_proof(side: Side, work: &Work, buffers: &mut Buffers) {
+    for part in [first_round, second_round, third_round, fourth_round, fifth_round, openings] {
+        part(side, work, buffers);
+    }
+}
+
+/// The seven steps and the verdict.
+fn session(side: Side, work: &Work, _: &mut Buffers) {
+    let verdict = match side {
+        Side::Library => library_verdict(&work.case, &work.proof),
+        Side::Second => second_verdict(&work.case, &work.proof),
+    };
+    assert_eq!(verdict, Verdict::Accept);
+}
+
+fn length(proof: &Proof, section: usize) -> u32 {
+    proof.sections[section].len() as u32
+}
+
+fn three(proof: &Proof, section: usize) -> [u32; 3] {
+    [0, 1, 2].map(|place| proof.sections[section][place])
+}
+
+fn library_verdict(case: &Case, proof: &Proof) -> Verdict {
+    let length = |section: usize| length(proof, section);
+    let mut session = library::Session::unopened();
+    session.open(case.six_sizes(), &case.public_words()).expect("taken");
+    session.alpha([0, 1, 2].map(length), case.alpha()).expect("taken");
+    session.eta(three(proof, 3), case.eta()).expect("taken");
+    session.beta([4, 5].map(length), case.beta()).expect("taken");
+    session.delta(three(proof, 6), [7, 8, 9].map(length), case.delta()).expect("taken");
+    session.gamma(length(10), case.gamma()).expect("taken");
+    session.openings(proof.openings).expect("judged")
+}
+
+fn second_verdict(case: &Case, proof: &Proof) -> Verdict {
+    let length = |section: usize| length(proof, section);
+    let session = second::open(case.six_sizes(), &case.public_words()).expect("opened");
+    let session = session.alpha([0, 1, 2].map(length), case.alpha()).0;
+    let session = session.eta(three(proof, 3), case.eta()).0;
+    let session = session.beta([4, 5].map(length), case.beta()).0;
+    let session = session.delta(three(proof, 6), [7, 8, 9].map(length), case.delta()).0;
+    let session = session.gamma(length(10), case.gamma()).0;
+    session.openings(proof.openings).1.expect("judged")
+}
+
+fn write_record(side: Side, work: &Work, buffers: &mut Buffers) {
+    let call = match side {
+        Side::Library => library::write_record,
+        Side::Second => second::write_record,
+    };
+    let sections = work.proof.sections.each_ref().map(Vec::as_slice);
+    call(work.case.six_sizes(), sections, &mut buffers.record).expect("written");
+}
+
+fn read_record(side: Side, work: &Work, _: &mut Buffers) {
+    let call = match side {
+        Side::Library => library::read_record,
+        Side::Second => second::read_record,
+    };
+    black_box(call(&work.record).expect("read"));
+}
+
+/// The median times of a task's runs on both sides, in microseconds. The sides take turns, so that both meet the same machine.
+fn medians(task: Task, work: &Work) -> [f64; 2] {
+    let mut buffers = Buffers::new(&work.case);
+    let mut times = [Vec::new(), Vec::new()];
+    let mut filled = Duration::ZERO;
+    while times[0].len() < RUNS.0 || filled < FILLED && times[0].len() < RUNS.1 {
+        for (side, times) in [Side::Library, Side::Second].into_iter().zip(&mut times) {
+            buffers.clear();
+            let start = Instant::now();
+            task.1(side, work, &mut buffers);
+            let time = start.elapsed();
+            filled += time;
+            times.push(time);
+        }
+    }
+    times.map(|mut times| {
+        times.sort();
+        times[times.len() / 2].as_secs_f64() * 1e6
+    })
+}
+
+/// A line of the table: a name, a number for each size, and the exponent of growth.
+fn print_line(name: &str, side: &str, numbers: &[f64], exponent: bool) {
+    let cells: String = numbers.iter().map(|number| format!("{number:>14.2}")).collect();
+    let [.., before, last] = numbers else {
+        unreachable!("there are four sizes");
+    };
+    let growth = f64::from(SIZES[SIZES.len() - 1]) / f64::from(SIZES[SIZES.len() - 2]);
+    let exponent = if exponent { format!("{:>10.2}", (last / before).ln() / growth.ln()) } else { String::new() };
+    println!("{name:13} {side:8}{cells}{exponent}");
+}
+
+fn main() {
+    let works = SIZES.map(Work::new);
+    let heads: String = SIZES.iter().map(|size| format!("{size:>14}")).collect();
+    println!("medians in microseconds; |R| = |C| = entries of each matrix = the size, |X| = a quarter of it\n");
+    println!("{:22}{heads}  exponent", "");
+    for task in TASKS {
+        let medians = works.each_ref().map(|work| medians(task, work));
+        let [ours, theirs] = [0, 1].map(|side| medians.map(|median| median[side]));
+        let ratio = medians.map(|[ours, theirs]| ours / theirs);
+        print_line(task.0, "library", &ours, true);
+        print_line("", "second", &theirs, true);
+        print_line("", "ratio", &ratio, false);
+    }
+}
