@@ -30,6 +30,15 @@ pub fn lengths(sizes: [u32; 6]) -> [usize; 11] {
     [c - x + 1, 2 * c, r - 1, 3, c - 1, c, 3, a - 1, b - 1, d - 1, k - 1]
 }
 
+/// A case with |K_A| = 1 and other domains of a size or twice it, and the sizes of R, C and K. The assignment is 0, so that
+/// entries are free.
+pub fn uneven_case(size: u32) -> (Case, [u32; 3]) {
+    let diagonal = (0..size).flat_map(|row| [row, row, 1]).collect();
+    let mut case = Case::new([size, 2 * size, 1], [Vec::new(), vec![0, 1, 7], diagonal], vec![0; 2 * size as usize]);
+    case.challenges = [5, 1, 1, 1, 5, 1, 1, 1, 5];
+    (case, [size, 2 * size, size])
+}
+
 impl Case {
     /// A case with zeros for masks and challenges, which lends slices of the right lengths.
     pub fn new(sizes: [u32; 3], entries: [Vec<u32>; 3], assignment: Vec<u32>) -> Case {

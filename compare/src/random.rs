@@ -103,9 +103,8 @@ impl Random {
 
     /// An element of one of the domains.
     pub fn root(&mut self) -> u32 {
-        let size = u64::from(self.one_of(&SIZES));
-        let generator = power(31, (u64::from(MODULUS) - 1) / size);
-        power(generator, self.below(size)) as u32
+        let size = self.one_of(&SIZES);
+        self.one_of(&elements(size))
     }
 
     /// A word outside the domain of a size.
@@ -244,6 +243,12 @@ impl Random {
         case.challenges = [alpha, eta[0], eta[1], eta[2], beta, delta[0], delta[1], delta[2], gamma];
         case
     }
+}
+
+/// The elements of the domain of a size, in order.
+pub fn elements(size: u32) -> Vec<u32> {
+    let generator = power(31, (u64::from(MODULUS) - 1) / u64::from(size));
+    (0..u64::from(size)).map(|exponent| power(generator, exponent) as u32).collect()
 }
 
 /// Each row's sum of values times the assignment at their columns.

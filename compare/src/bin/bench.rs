@@ -17,7 +17,7 @@ use std::time::{Duration, Instant};
 const SIZES: [u32; 4] = [16, 64, 256, 1024];
 /// The time that the runs of one measurement fill, and the least and most of them.
 const FILLED: Duration = Duration::from_millis(500);
-const RUNS: (usize, usize) = (3, 1001);
+const RUNS: (usize, usize) = (5, 1001);
 
 /// The lent slices of all calls.
 struct Buffers {

@@ -1,9 +1,9 @@
 //! The indexer, the five rounds and the openings on seeded circuits, good and damaged.
 
 use compare::calls::{compare_circuit, proof_of, Outcome};
-use compare::case::{Case, ALPHA, BETA, GAMMA};
-use compare::random::{count, Random, SIZES};
-use second::{Refusal, MODULUS};
+use compare::case::{uneven_case, Case, ALPHA, BETA, GAMMA};
+use compare::random::{count, elements, Random, SIZES};
+use second::Refusal;
 
 /// The refusals of the seven circuit calls.
 fn refusals(outcomes: &[Outcome; 7]) -> [Option<(u32, u32)>; 7] {
@@ -162,20 +162,15 @@ fn entry_limit() {
     }
 }
 
-/// Each element of its forbidden domain is refused as a challenge, and the element of the next larger domain taken.
+/// Each element of its forbidden domain is refused as a challenge, and the other elements of the next larger domain taken.
 #[test]
 fn challenges_at_domains() {
-    let mut random = Random::new(19);
     for size in [1, 2, 4, 8, 16] {
-        let mut case = random.case_of([size, size, 1], 0);
-        case.entries = [0, 1, 2].map(|_| (0..size).flat_map(|row| [row, 0, 1]).collect());
-        case.assignment.fill(1);
-        case.lend_again();
+        let (case, forbidden) = uneven_case(size);
         for (position, place) in [ALPHA, BETA, GAMMA].into_iter().enumerate() {
-            let generator = second::power(31, (MODULUS - 1) / (2 * size)).expect("31 is a field word");
-            for exponent in 0..2 * size {
+            for (exponent, element) in elements(2 * forbidden[position]).into_iter().enumerate() {
                 let mut changed = case.clone();
-                changed.challenges[place] = second::power(generator, exponent).expect("a field word");
+                changed.challenges[place] = element;
                 let last = compare_circuit(&changed)[6].answer.clone();
                 let inside = Refusal { number: 10, position: position as u32 };
                 assert_eq!(last.err(), exponent.is_multiple_of(2).then_some(inside));

@@ -2,9 +2,9 @@
 
 use crate::program;
 use compare::calls::Input;
-use compare::case::Case;
+use compare::case::{uneven_case, Case};
 use compare::job;
-use compare::random::{count, Random, BOUNDARY_WORDS, NO_SIZES};
+use compare::random::{count, elements, Random, BOUNDARY_WORDS, NO_SIZES};
 use second::MODULUS;
 use std::fmt;
 
@@ -97,6 +97,23 @@ fn refusals_in_order() {
     for (place, word, text) in changes {
         made.push((place, word));
         assert_eq!(with_words(&made), text);
+    }
+}
+
+/// Each element of its forbidden domain is refused as a challenge, and the other elements of the next larger domain taken.
+#[test]
+fn challenges_at_domains() {
+    for size in [2, 8] {
+        let (case, forbidden) = uneven_case(size);
+        for (position, from_end) in [9, 5, 1].into_iter().enumerate() {
+            for (exponent, element) in elements(2 * forbidden[position]).into_iter().enumerate() {
+                let mut words = case.job_words();
+                let place = words.len() - from_end;
+                words[place] = element;
+                let refused = compare_job(&job::bytes(&words)) == format!("refused 10 {position}\n");
+                assert_eq!(refused, exponent.is_multiple_of(2));
+            }
+        }
     }
 }
 

@@ -4,7 +4,7 @@
 //! prints the input that shows it, a job as the text that `job pack` takes.
 //!
 //! What is needed first, in the repository: `rt staticlib varuna_c` makes target/staticlib/libvaruna_c.a, and
-//! `rt build prove` target/bin/prove. VARUNA_LIBRARY names another folder for the library, VARUNA_PROVE another program.
+//! `rt check prove` target/bin/prove. VARUNA_LIBRARY names another folder for the library, VARUNA_PROVE another program.
 //!
 //!     cargo test --release                          one seed, under two minutes
 //!     SEED=7 COUNT=100 cargo test --release         another seed, and the random part of each test a hundred times as long

@@ -10,7 +10,7 @@ fn program() -> PathBuf {
     let path = given.unwrap_or_else(|| Path::new(env!("CARGO_MANIFEST_DIR")).join("../target/bin/prove"));
     assert!(
         path.is_file(),
-        "there is no {}: make it by `rt build prove` in the repository, or set VARUNA_PROVE to the program",
+        "there is no {}: make it by `rt check prove` in the repository, or set VARUNA_PROVE to the program",
         path.display()
     );
     path

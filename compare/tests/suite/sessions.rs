@@ -4,7 +4,7 @@
 use compare::calls::{self, Input, Proof, Side};
 use compare::case::{lengths, Case};
 use compare::library;
-use compare::random::{count, Random};
+use compare::random::{count, elements, Random, BOUNDARY_WORDS};
 use second::{Check, Refusal, Verdict, MODULUS, SESSION_WORDS};
 use std::fmt;
 
@@ -131,6 +131,7 @@ impl fmt::Display for Run {
 }
 
 /// Both sessions, side by side.
+#[derive(Clone)]
 struct Pair {
     ours: library::Session,
     theirs: Option<second::Session>,
@@ -229,6 +230,49 @@ fn largest_run() {
     ];
     let answers = steps.map(|step| pair.take(&step));
     assert_eq!(answers[6], Ok(Some(Verdict::Fails(Check::Row))));
+}
+
+/// Every word of every step at its boundaries, alone and with each other word of the step: the first refusal must win.
+#[test]
+fn damaged_at_every_word() {
+    let mut random = Random::new(45);
+    let mut refusals = [0; 12];
+    for _ in 0..count(12) {
+        let (case, proof) = proved(&mut random, 3);
+        let mut pair = Pair::new();
+        for step in Step::of_proof(&case, &proof) {
+            for damaged in damages(&step) {
+                if let Err(refusal) = pair.clone().take(&damaged) {
+                    refusals[refusal.number as usize] += 1;
+                }
+            }
+            assert!(pair.take(&step).is_ok());
+        }
+    }
+    assert!([4, 6, 10, 11].iter().all(|&number| refusals[number] > 20), "{refusals:?}");
+}
+
+/// A step with one word or two replaced, in every way that may matter.
+fn damages(step: &Step) -> Vec<Step> {
+    let mut damages = Vec::new();
+    let length = step.clone().words().len();
+    for first in 0..length {
+        let word = *step.clone().words()[first];
+        let near = [word.wrapping_add(1), word.wrapping_sub(1), 1024, 2048];
+        for bad in BOUNDARY_WORDS.into_iter().chain(near).chain(elements(32)) {
+            let mut damaged = step.clone();
+            *damaged.words()[first] = bad;
+            damages.push(damaged);
+        }
+        for (second, bad) in (first + 1..length).flat_map(|second| [(second, MODULUS), (second, u32::MAX), (second, 1)])
+        {
+            let mut damaged = step.clone();
+            *damaged.words()[first] = word.wrapping_add(1);
+            *damaged.words()[second] = bad;
+            damages.push(damaged);
+        }
+    }
+    damages
 }
 
 /// Random orders of steps with good and bad words.
