@@ -92,13 +92,12 @@ impl Random {
             0 | 1 => self.one_of(&BOUNDARY_WORDS),
             2 => self.below(12) as u32,
             3 => self.root(),
-            4 => self.one_of(&[self.one_of_sizes(), self.one_of_sizes() + 1, self.one_of_sizes() - 1]),
+            4 => {
+                let size = self.one_of(&SIZES);
+                self.one_of(&[size, size + 1, size - 1])
+            }
             _ => self.any(),
         }
-    }
-
-    fn one_of_sizes(&self) -> u32 {
-        SIZES[(self.0 >> 33) as usize % SIZES.len()]
     }
 
     /// An element of one of the domains.

@@ -6,6 +6,8 @@
 //! where a run is short. Every run begins with lent buffers cleared to zero, which is not timed. The ratio is the library's time
 //! over the second implementation's. The exponent e says that from the last size but one to the last the time grew as n^e.
 
+#![forbid(unsafe_code)]
+
 use compare::calls::{self, Proof, Side};
 use compare::case::Case;
 use compare::library;

@@ -4,6 +4,8 @@
 //!     job show < JOB             the text of a job, a field to a line
 //!     job record < RECORD        the text of a proof record, a section to a line
 
+#![forbid(unsafe_code)]
+
 use compare::job;
 use std::io::{self, Read, Write};
 use std::process::ExitCode;

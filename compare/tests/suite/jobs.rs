@@ -164,17 +164,23 @@ fn about_the_longest() {
     assert_eq!(compare_job(&[case.job(), vec![0]].concat()), "job too long\n");
 }
 
+/// A satisfied case is accepted, if its job is not too long.
+fn compare_good(case: &Case) {
+    let long = case.job().len() > 4096;
+    let expected = if long { "job too long\n" } else { "\nverdict accept\n" };
+    assert!(compare_job(&case.job()).ends_with(expected), "{case}");
+}
+
 #[test]
 fn seeded() {
     let mut random = Random::new(51);
     for _ in 0..count(300) {
-        let case = random.case(4);
-        let long = case.job().len() > 4096;
-        let expected = if long { "job too long\n" } else { "\nverdict accept\n" };
-        assert!(compare_job(&case.job()).ends_with(expected), "{case}");
+        compare_good(&random.case(4));
     }
-    for _ in 0..count(20) {
-        compare_job(&random.case(7).job());
+    for _ in 0..count(12) {
+        let columns = random.below(7);
+        let sizes = [1 << random.below(11), 1 << columns, 1 << random.below(columns + 1)];
+        compare_good(&random.case_of(sizes, 60));
     }
 }
 

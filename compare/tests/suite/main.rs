@@ -10,6 +10,8 @@
 //!     SEED=7 COUNT=100 cargo test --release         another seed, and the random part of each test a hundred times as long
 //!     COUNT=1000 cargo test --release jobs          a long run of one module
 
+#![forbid(unsafe_code)]
+
 mod arithmetic;
 mod circuits;
 mod examples;

@@ -71,7 +71,7 @@ impl Step {
             return (None, Err(OUT_OF_TURN));
         };
         let (next, taken) = match self {
-            Step::Open(..) => (session, Ok(())),
+            Step::Open(..) => unreachable!("opening is taken above"),
             Step::Alpha(lengths, alpha) => session.alpha(*lengths, *alpha),
             Step::Eta(sums, eta) => session.eta(*sums, *eta),
             Step::Beta(lengths, beta) => session.beta(*lengths, *beta),
