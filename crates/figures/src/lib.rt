@@ -1,0 +1,1 @@
+// The figures of a circuit's sizes, as text.

@@ -1,0 +1,1 @@
+// Text into a lent buffer: bytes, and numbers in decimal.
