@@ -1,3 +1,4 @@
 pub mod Count
 pub mod Numbers
 pub mod Sheet
+pub mod Line

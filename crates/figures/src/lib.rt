@@ -1,1 +1,2 @@
 // The figures of a circuit's sizes, as text.
+mod line;
