@@ -1,1 +1,3 @@
 pub mod LineLaws
+pub mod PrimePowers
+pub mod RangeLaws

@@ -1,12 +1,13 @@
 -- Lines put into a buffer one after the other, and a line put in its parts. Assumes nothing.
-use mathlib.Core.Path.{_≡_, refl, sym}
-use mathlib.Core.List.{List, [], _++_, append-nil}
+use mathlib.Core.Path.{_≡_, refl, sym, ap, _∙_}
+use mathlib.Core.List.{List, [], _∷_, _++_, append-nil, append-assoc}
 use Prim.Native.Nat.{ℕ, _+_, _*_, _≤_}
 use native.Mathlib.Omega.{arith}
 use lib.ListN.{length, length-append}
 use Rattle.text.specs.Ascii.{ascii}
 use Rattle.text.specs.Written.{Written}
-use Rattle.text.proofs.WrittenLaws.{written-then, written-as}
+use Rattle.text.proofs.WrittenLaws.{written-then, written-as, written-length}
+use Rattle.figures.specs.Sheet.{Figure, figureText, figuresText}
 use Rattle.figures.specs.Line.{nameText, sourceText, lineText, lineRoom, Lines}
 
 pub length-name : (name : List ℕ) → length (nameText name) ≡ length name + 2
@@ -36,3 +37,21 @@ lines-then first second =
 -- the last line of a list of figures
 pub lines-end : {b c s : List ℕ} {at place k : ℕ} → Lines b at s k place c → Lines b at (s ++ []) k place c
 lines-end {s} l = record { written = written-as (sym (append-nil s)) (l .written); within = l .within }
+
+pub lines-length : {b c s : List ℕ} {at place k : ℕ} → Lines b at s k place c → length c ≡ length b
+lines-length l = written-length (l .written)
+
+-- the room for the lines that follow
+pub room-after : {b c s : List ℕ} {at place j : ℕ} (k : ℕ) → Lines b at s j place c → at + lineRoom * (j + k) ≤ length b
+    → place + lineRoom * k ≤ length c
+room-after k l room = omega (arith, l .within, lines-length l)
+
+figures-append : (fs gs : List Figure) → figuresText (fs ++ gs) ≡ figuresText fs ++ figuresText gs
+unfolding figuresText
+figures-append [] gs = refl
+figures-append (f ∷ fs) gs = ap (λ t. figureText f ++ t) (figures-append fs gs) ∙ sym (append-assoc (figureText f) (figuresText fs) (figuresText gs))
+
+-- the lines of figures, and then those of more
+pub figures-then : (fs gs : List Figure) {b c d : List ℕ} {at place end j k : ℕ} → Lines b at (figuresText fs) j place c
+    → Lines c place (figuresText gs) k end d → Lines b at (figuresText (fs ++ gs)) (j + k) end d
+figures-then fs gs first second = rw figures-append (lines-then first second)

@@ -2,3 +2,4 @@ pub mod Count
 pub mod Numbers
 pub mod Sheet
 pub mod Line
+pub mod Range

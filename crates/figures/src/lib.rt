@@ -1,2 +1,3 @@
 // The figures of a circuit's sizes, as text.
+mod groups;
 mod line;
