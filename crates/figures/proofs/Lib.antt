@@ -1,3 +1,4 @@
 pub mod LineLaws
 pub mod PrimePowers
 pub mod RangeLaws
+pub mod ScanLaws

@@ -3,3 +3,4 @@ pub mod Numbers
 pub mod Sheet
 pub mod Line
 pub mod Range
+pub mod Scanning

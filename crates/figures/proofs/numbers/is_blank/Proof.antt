@@ -1,0 +1,25 @@
+-- `figures::numbers::is_blank` meets its contract. Assumes nothing.
+use mathlib.Core.Path.{sym, ap, ap₂, _∙_}
+use mathlib.Core.Bool.{Bool, _||_}
+use lib.Dec.{eqb}
+use borrow.Author.Tests.{eq-eqb, ne-eqb}
+use Rattle.figures.proofs.numbers.is_blank.Statement.{statement}
+use Rattle.figures.proofs.numbers.is_blank.Tie as tie
+
+returns : tie.Need-returns
+returns c = simp (eq-eqb _ _ (c .if1 .taken))
+
+returns-2 : tie.Need-returns-2
+returns-2 c = simp (ne-eqb _ _ (c .before .if1 .left), eq-eqb _ _ (c .if2 .taken))
+
+returns-3 : tie.Need-returns-3
+returns-3 c = simp (ne-eqb _ _ (c .before .before .if1 .left), ne-eqb _ _ (c .before .if2 .left), eq-eqb _ _ (c .if3 .taken))
+
+returns-4 : tie.Need-returns-4
+returns-4 c =
+    let b = c .before .before .before .args .b in
+    sym (ap₂ (λ (s t : Bool). s || t || eqb b 10 || eqb b 13) (ne-eqb b 32 (c .before .before .if1 .left)) (ne-eqb b 9 (c .before .if2 .left))
+    ∙ ap (λ t. t || eqb b 13) (ne-eqb b 10 (c .if3 .left)))
+
+pub is-blank-spec : {M : Type 1} → statement M
+is-blank-spec = tie.close (tie.spec returns returns-2 returns-3 returns-4)

@@ -1,0 +1,33 @@
+-- `figures::numbers::read` meets its contract. Assumes nothing.
+use mathlib.Core.Path.{sym, ap, _∙_}
+use borrow.Author.Tests.{not-true, not-false, eq-eqb, ne-eqb}
+use Rattle.algebra.proofs.Choice.{pick-true, pick-false}
+use Rattle.figures.proofs.ScanLaws.{outcome, scan-finds}
+use borrow.Author.Needs.{needs}
+use Rattle.figures.proofs.numbers.read.Statement.{statement}
+use Rattle.figures.proofs.numbers.read.Tie as tie
+
+scan-all-requires : tie.Need-scan-all-requires
+scan-all-requires c κs = search needs
+
+returns : tie.Need-returns
+returns c =
+    let s = c .before .before .scan-all in
+    sym (scan-finds (c .before .before .before .before .args .text .now) ∙ ap outcome (sym (s .ensures)) ∙ pick-false _ _ (not-true _ (c .if1 .taken)))
+
+returns-2 : tie.Need-returns-2
+returns-2 c =
+    let s = c .before .before .before .before .before .scan-all in
+    sym
+    (scan-finds (c .before .before .before .before .before .before .before .args .text .now) ∙ ap outcome (sym (s .ensures)) ∙ pick-true _ _ (not-false _ (c .before .before .before .if1 .left))
+    ∙ pick-true _ _ (eq-eqb _ _ (c .before .if2 .taken)))
+
+returns-3 : tie.Need-returns-3
+returns-3 c =
+    let s = c .before .before .before .before .scan-all in
+    sym
+    (scan-finds (c .before .before .before .before .before .before .args .text .now) ∙ ap outcome (sym (s .ensures)) ∙ pick-true _ _ (not-false _ (c .before .before .if1 .left))
+    ∙ pick-false _ _ (ne-eqb _ _ (c .if2 .left)))
+
+pub read-spec : {M : Type 1} → statement M
+read-spec = tie.close (tie.spec scan-all-requires returns returns-2 returns-3)
