@@ -2,3 +2,4 @@ pub mod LineLaws
 pub mod PrimePowers
 pub mod RangeLaws
 pub mod ScanLaws
+pub mod SheetLaws

@@ -1,6 +1,6 @@
 -- Reading a text byte by byte finds the numbers that the definition finds. Assumes nothing.
 use mathlib.Core.Path.{_≡_, refl, sym, ap, ap₂, _∙_}
-use mathlib.Core.Bool.{Bool, true, false, _&&_, true≢false}
+use mathlib.Core.Bool.{Bool, true, false}
 use mathlib.Core.List.{List, [], _∷_, _++_, foldl, foldl-append, append-assoc, append-nil}
 use mathlib.Core.Option.{Option, none, some}
 use Prim.Native.Nat.{ℕ, suc, _+_, _≤_, min}
@@ -10,17 +10,14 @@ use lib.ListN.{length, length-append}
 use borrow.Author.Tests.{leb-true, eq-eqb, ne-eqb, eqb-true, eqb-false}
 use Rattle.algebra.specs.Lists.{pick}
 use Rattle.algebra.proofs.Choice.{pick-true, pick-false}
+use Rattle.protocol.proofs.RefusalLaws.{and-true}
 use Rattle.figures.specs.declared.numbers.Request.{Request}
 use Rattle.figures.specs.declared.numbers.Scan.{Scan}
 use Rattle.figures.specs.Numbers.{isDigit, isBlank, extend, ended, numbersAfter, numbersIn}
 use Rattle.figures.specs.Scanning.{numberRead, pushed, counted, numberEnded, stepped, scanned, noNumbers, scanStart, requestNumbers, onlySix}
 
-both : (s t : Bool) → (s && t) ≡ true → (s ≡ true) × (t ≡ true)
-both true t e = (refl, e)
-both false t e = absurd (true≢false (sym e))
-
 pub digit-range : (b : ℕ) → isDigit b ≡ true → (48 ≤ b) × (b ≤ 57)
-digit-range b e = let (low, high) = both (leb 48 b) (leb b 57) e in (leb-true 48 b low, leb-true b 57 high)
+digit-range b e = let (low, high) = and-true (leb 48 b) (leb b 57) e in (leb-true 48 b low, leb-true b 57 high)
 
 -- what the state answers once the text has ended
 abbrev pub outcome : Scan → Option (List ℕ)

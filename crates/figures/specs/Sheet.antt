@@ -120,7 +120,7 @@ module _ (q : Prime) where
       refusedText (sheetRefusal ns)
       (figuresText (sizeFigures s ++ (lengthFigures s ++ (checkFigures s q ++ tripleFigures q))))
 
-  abbrev given : Option (List ℕ) → List ℕ
+  abbrev pub given : Option (List ℕ) → List ℕ
   given none = usage
   given (some ns) = pick (eqb (length ns) 6) (figuresFor ns) usage
 
