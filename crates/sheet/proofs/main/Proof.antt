@@ -1,50 +1,50 @@
+-- `sheet::main` is safe and ends: what is read lies within its array, and the sheet within the buffer. Assumes nothing.
+use mathlib.Core.Path.{sym}
+use mathlib.Core.Logic.{⊎-elim}
+use Prim.Native.Nat.{_≤_}
+use native.Mathlib.Omega.{arith}
+use lib.ListN.{length}
+use lib.Seq.{length-take-le}
+use Rattle.text.proofs.WrittenLaws.{written-length}
 use borrow.Author.Needs.{needs}
 use Rattle.sheet.proofs.main.Statement.{statement}
 use Rattle.sheet.proofs.main.Tie as tie
-use Rattle.sheet.proofs.main.Reads as reads
-use Rattle.sheet.proofs.main.Lts as lts
-use Rattle.figures.proofs.text.Reads as text-reads
-use Rattle.io.proofs.buffer.Reads as buffer-reads
-use Rattle.io.proofs.read_full.Reads as read-full-reads
-use Rattle.io.proofs.write_all.Reads as write-all-reads
 
--- src/main.rt:10:45
 slice-aggregate-read-full : tie.Need-slice-aggregate-read-full
 slice-aggregate-read-full c = search needs
 
--- src/main.rt:10:9
 read-full-requires : tie.Need-read-full-requires
 read-full-requires c κs = search needs
 
--- src/main.rt:14:19
 buffer-requires : tie.Need-buffer-requires
 buffer-requires c κs = search needs
 
--- src/main.rt:15:29
 array-share-prefix-input : tie.Need-array-share-prefix-input
-array-share-prefix-input c = ?
+array-share-prefix-input c =
+    ⊎-elim (λ w. omega (arith, c .before .before .before .read-full .ensures .0)) (λ w. omega (arith, c .before .before .before .read-full .ensures .0)) (c .before .if1 .came)
 
--- src/main.rt:15:29
 slice-aggregate-text : tie.Need-slice-aggregate-text
-slice-aggregate-text c = ?
+slice-aggregate-text c =
+    let within : c .before .before .if1 .n ≤ length (c .before .before .before .before .read-full .last .1 .0) =
+    ⊎-elim (λ w. omega (arith, c .before .before .before .before .read-full .ensures .0)) (λ w. omega (arith, c .before .before .before .before .read-full .ensures .0)) (c .before .before .if1 .came) in
+    sym (length-take-le _ _ within)
 
--- src/main.rt:15:9
 text-requires : tie.Need-text-requires
 text-requires c κs = search needs
 
--- src/main.rt:16:34
 array-share-prefix-out : tie.Need-array-share-prefix-out
-array-share-prefix-out c = ?
+array-share-prefix-out c =
+    let w = c .text .ensures in
+    omega (arith, w .room, w .next, written-length w)
 
--- src/main.rt:16:34
 slice-aggregate-write-all : tie.Need-slice-aggregate-write-all
-slice-aggregate-write-all c = ?
+slice-aggregate-write-all c =
+    let w = c .before .text .ensures in
+    sym (length-take-le _ _ (omega (arith, w .room, w .next, written-length w)))
 
--- src/main.rt:16:5
 write-all-requires : tie.Need-write-all-requires
 write-all-requires c κs = search needs
 
--- src/main.rt:8:1
 returns : tie.Need-returns
 returns c = search needs
 
