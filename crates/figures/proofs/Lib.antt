@@ -3,3 +3,4 @@ pub mod PrimePowers
 pub mod RangeLaws
 pub mod ScanLaws
 pub mod SheetLaws
+pub mod Counts

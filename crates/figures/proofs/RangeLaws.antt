@@ -1,11 +1,10 @@
 -- Sizes in range: the largest of three is in range, and what the sections of the record add up to. Assumes nothing.
-use mathlib.Core.Path.{_≡_, refl}
+use mathlib.Core.Path.{_≡_}
 use Prim.Native.Nat.{ℕ, _+_, _-_, _*_, _≤_}
 use native.Mathlib.Omega.{arith}
 use Rattle.protocol.specs.Circuit.{Sizes, largest}
 use Rattle.protocol.specs.Messages.{lengths}
 use Rattle.protocol.specs.Record.{sectionLengths, sectionBytes}
-use Rattle.protocol.specs.Refusals.{trailerBytes}
 use Rattle.figures.specs.Range.{SizeRange, InRange}
 
 pub largest-range : (s : Sizes) → InRange s → SizeRange (largest (s .K))

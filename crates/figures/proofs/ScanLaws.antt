@@ -1,9 +1,9 @@
 -- Reading a text byte by byte finds the numbers that the definition finds. Assumes nothing.
-use mathlib.Core.Path.{_≡_, refl, sym, ap, ap₂, _∙_}
+use mathlib.Core.Path.{_≡_, refl, sym, ap, _∙_}
 use mathlib.Core.Bool.{Bool, true, false}
 use mathlib.Core.List.{List, [], _∷_, _++_, foldl, foldl-append, append-assoc, append-nil}
 use mathlib.Core.Option.{Option, none, some}
-use Prim.Native.Nat.{ℕ, suc, _+_, _≤_, min}
+use Prim.Native.Nat.{ℕ, _+_, _≤_, min}
 use native.Mathlib.Omega.{arith}
 use lib.Dec.{eqb, leb}
 use lib.ListN.{length, length-append}
@@ -14,7 +14,7 @@ use Rattle.protocol.proofs.RefusalLaws.{and-true}
 use Rattle.figures.specs.declared.numbers.Request.{Request}
 use Rattle.figures.specs.declared.numbers.Scan.{Scan}
 use Rattle.figures.specs.Numbers.{isDigit, isBlank, extend, ended, numbersAfter, numbersIn}
-use Rattle.figures.specs.Scanning.{numberRead, pushed, counted, numberEnded, stepped, scanned, noNumbers, scanStart, requestNumbers, onlySix}
+use Rattle.figures.specs.Scanning.{numberRead, pushed, counted, numberEnded, stepped, scanned, noNumbers, requestNumbers, onlySix}
 
 pub digit-range : (b : ℕ) → isDigit b ≡ true → (48 ≤ b) × (b ≤ 57)
 digit-range b e = let (low, high) = and-true (leb 48 b) (leb b 57) e in (leb-true 48 b low, leb-true b 57 high)

@@ -1,7 +1,6 @@
 // One figure's line: its name, the number, and the theorem behind it.
 use text::put_bytes;
 use text::put_decimal;
-ghost use mathlib.Core.Path.{_≡_};
 ghost use Prim.Native.Nat.{_+_, _≤_};
 ghost use lib.ListN.{length};
 ghost use Rattle.text.specs.Decimal.{decimal};

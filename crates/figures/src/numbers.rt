@@ -2,7 +2,7 @@
 use protocol::Triple;
 ghost use mathlib.Core.Path.{_≡_};
 ghost use mathlib.Core.Bool.{true};
-ghost use Prim.Native.Nat.{_-_, _≤_, _<_};
+ghost use Prim.Native.Nat.{_-_};
 ghost use Rattle.figures.specs.Numbers.{isDigit, isBlank, extend as extended, numbersIn};
 ghost use Rattle.figures.specs.Scanning.{numberRead, pushed, counted, numberEnded, stepped, scanned, onlySix, readingMeaning};
 
