@@ -32,7 +32,8 @@ distinct-append (x ∷ l) k d e apart = (all-append (λ y. y ≢ x) l k (d .0) (
 
 -- there are p elements
 at-most-elements : (q : Prime) → AtMost (q .p) (λ (x : Elem q). Unit {0})
-at-most-elements q = at-most-injective (λ (x : Elem q). x .word) (q .p) (λ x y u v e. same-word e) (λ x u. word-below x) (numbers-below (q .p))
+at-most-elements q =
+    at-most-injective (λ (x : Elem q). x .word) (q .p) (λ x y u v e. same-word e) (λ x u. word-below x) (numbers-below (q .p))
 
 module _ {q : Prime} (Q : Qualifies q) (n : ℕ) (s : isSize n ≡ true) where
   -- the n elements of the domain, which are inside, and points outside are distinct
@@ -111,7 +112,8 @@ module _ (q : Prime) where
   decode-injective i j k l e =
       let first : i / p / p ≡ j / p / p =
       sym (mod-eq-of-lt (top i k)) ∙ ap (λ (t : Three (Elem q)). t .a .word) e ∙ mod-eq-of-lt (top j l) in
-      same-digits i j (same-digits (i / p) (j / p) first (ap (λ (t : Three (Elem q)). t .b .word) e)) (ap (λ (t : Three (Elem q)). t .c .word) e)
+      same-digits i j (same-digits (i / p) (j / p) first (ap (λ (t : Three (Elem q)). t .b .word) e))
+      (ap (λ (t : Three (Elem q)). t .c .word) e)
     where
       positive : 0 < p
       positive = omega (arith, q .above-two)

@@ -1,11 +1,13 @@
 -- Lines put into a buffer one after the other, and a line put in its parts. Assumes nothing.
 use mathlib.Core.Path.{_≡_, refl, sym, ap, _∙_}
 use mathlib.Core.List.{List, [], _∷_, _++_, append-nil, append-assoc}
-use Prim.Native.Nat.{ℕ, _+_, _*_, _≤_}
+use Prim.Native.Nat.{ℕ, _+_, _*_, _≤_, _<_}
 use native.Mathlib.Omega.{arith}
 use lib.ListN.{length, length-append}
 use Rattle.text.specs.Ascii.{ascii}
+use Rattle.text.specs.Decimal.{decimal}
 use Rattle.text.specs.Written.{Written}
+use Rattle.text.proofs.DecimalLaws.{decimal-short}
 use Rattle.text.proofs.WrittenLaws.{written-then, written-as, written-length}
 use Rattle.figures.specs.Sheet.{Figure, figureText, figuresText}
 use Rattle.figures.specs.Line.{nameText, sourceText, lineText, lineRoom, Lines}
@@ -18,10 +20,18 @@ pub length-source : (source : List ℕ) → length (sourceText source) ≡ lengt
 unfolding sourceText
 length-source source = omega (arith, length-append (ascii " (") (source ++ ascii ")\n"), length-append source (ascii ")\n"))
 
+-- a word has at most ten digits, a place at most twenty
+pub word-digits : (n : ℕ) → n < 4294967296 → length (decimal n) ≤ 10
+word-digits n h = decimal-short 9 n (omega arith)
+
+pub place-digits : (n : ℕ) → n < 18446744073709551616 → length (decimal n) ≤ 20
+place-digits n h = decimal-short 19 n (omega arith)
+
 -- the name, the digits and the source are a line
 pub one-line :
-    (name source : List ℕ) {b c d e digits : List ℕ} {at place next end : ℕ} → Written b at (nameText name) place c → Written c place digits next d
-    → Written d next (sourceText source) end e → length name + length digits + length source + 6 ≤ lineRoom → Lines b at (lineText name digits source) 1 end e
+    (name source : List ℕ) {b c d e digits : List ℕ} {at place next end : ℕ}
+    → Written b at (nameText name) place c → Written c place digits next d → Written d next (sourceText source) end e
+    → length name + length digits + length source + 6 ≤ lineRoom → Lines b at (lineText name digits source) 1 end e
 unfolding lineText
 one-line name source first second third short =
     record {
@@ -30,7 +40,8 @@ one-line name source first second third short =
     }
 
 -- lines, and then more
-pub lines-then : {b c d s t : List ℕ} {at place end j k : ℕ} → Lines b at s j place c → Lines c place t k end d → Lines b at (s ++ t) (j + k) end d
+pub lines-then : {b c d s t : List ℕ} {at place end j k : ℕ} → Lines b at s j place c → Lines c place t k end d
+    → Lines b at (s ++ t) (j + k) end d
 lines-then first second =
     record { written = written-then (first .written) (second .written); within = omega (arith, first .within, second .within) }
 
@@ -49,7 +60,8 @@ room-after k l room = omega (arith, l .within, lines-length l)
 figures-append : (fs gs : List Figure) → figuresText (fs ++ gs) ≡ figuresText fs ++ figuresText gs
 unfolding figuresText
 figures-append [] gs = refl
-figures-append (f ∷ fs) gs = ap (λ t. figureText f ++ t) (figures-append fs gs) ∙ sym (append-assoc (figureText f) (figuresText fs) (figuresText gs))
+figures-append (f ∷ fs) gs =
+    ap (λ t. figureText f ++ t) (figures-append fs gs) ∙ sym (append-assoc (figureText f) (figuresText fs) (figuresText gs))
 
 -- the lines of figures, and then those of more
 pub figures-then : (fs gs : List Figure) {b c d : List ℕ} {at place end j k : ℕ} → Lines b at (figuresText fs) j place c

@@ -13,12 +13,14 @@ largest-range s range = record { least = omega arith; most = omega arith }
 
 -- the lengths of w, h0, g1, ga, gb, gc, h2, each by what it is less than its size
 words-add-up :
-    (R C X a b c k w h g ga gb gc h2 : ℕ) → X ≤ C → w + X ≡ C + 1 → h + 1 ≡ R → g + 1 ≡ C → ga + 1 ≡ a → gb + 1 ≡ b → gc + 1 ≡ c → h2 + 1 ≡ k
+    (R C X a b c k w h g ga gb gc h2 : ℕ) → X ≤ C
+    → w + X ≡ C + 1 → h + 1 ≡ R → g + 1 ≡ C → ga + 1 ≡ a → gb + 1 ≡ b → gc + 1 ≡ c → h2 + 1 ≡ k
     → 4 * (5 * C - X + R + a + b + c + k + 1)
     ≡ 4 * w + (4 * (2 * C) + (4 * h + (12 + (4 * g + (4 * C + (12 + (4 * ga + (4 * gb + (4 * gc + (4 * h2 + 0))))))))))
 words-add-up R C X a b c k w h g ga gb gc h2 within ew eh eg ea eb ec e2 = omega arith
 
-pub record-words : (s : Sizes) → InRange s → 4 * (5 * s .C - s .X + s .R + s .K .a + s .K .b + s .K .c + largest (s .K) + 1) ≡ sectionBytes s
+pub record-words : (s : Sizes) → InRange s
+    → 4 * (5 * s .C - s .X + s .R + s .K .a + s .K .b + s .K .c + largest (s .K) + 1) ≡ sectionBytes s
 unfolding lengths sectionLengths sectionBytes
 record-words s range =
     let K : SizeRange (largest (s .K)) = largest-range s range in

@@ -87,7 +87,8 @@ state fine within number count six = record { fine = fine; within = within; numb
 -- the numbers so far and those of the text to come are what the state answers in the end
 abbrev Agrees : List ℕ → Scan → List ℕ → Type 0
 Agrees l s ns =
-    onlySix (pick (s .fine) (before ns (numbersAfter (numberRead (s .within) (s .number)) l)) none) ≡ outcome (numberEnded (foldl stepped s l))
+    onlySix (pick (s .fine) (before ns (numbersAfter (numberRead (s .within) (s .number)) l)) none)
+    ≡ outcome (numberEnded (foldl stepped s l))
 
 -- the number that was being read has ended, if there was one
 agrees-ended : (l : List ℕ) (fine within : Bool) (number count : ℕ) (six : Request) (ns : List ℕ)

@@ -37,7 +37,8 @@ module _ (r c x a b d : ℕ) where
   unfolding sheetRefusal
   sizes-refused o e = ap (λ t. first (t ∷ listRefusal (map (λ n. leb n maxSize) (a ∷ b ∷ d ∷ [])) ∷ [])) e
 
-  pub counts-judged : (o : Option Refusal) → none ≡ sizeRefusal (sizeTests r c x []) → o ≡ listRefusal (map (λ n. leb n maxSize) (a ∷ b ∷ d ∷ []))
+  pub counts-judged : (o : Option Refusal) → none ≡ sizeRefusal (sizeTests r c x [])
+      → o ≡ listRefusal (map (λ n. leb n maxSize) (a ∷ b ∷ d ∷ []))
       → o ≡ sheetRefusal ns
   unfolding sheetRefusal
   counts-judged o e f = f ∙ sym (second _) ∙ ap (λ t. first (t ∷ listRefusal (map (λ n. leb n maxSize) (a ∷ b ∷ d ∷ [])) ∷ [])) e

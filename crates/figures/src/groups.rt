@@ -62,7 +62,8 @@ fn put_row_messages(s: Sizes, out: &mut [u8], at: usize) -> usize
 fn put_line_messages(s: Sizes, out: &mut [u8], at: usize) -> usize
     requires { ⌜ at + lineRoom * 3 ≤ length (now out) ⌝ }
     requires { ⌜ InRange (sizesMeaning s) ⌝ }
-    ensures { λ r. ⌜ Lines (now (out .entry)) at (figuresText (take 3 (drop 4 (lengthFigures (sizesMeaning s))))) 3 r (now (out .exit)) ⌝ }
+    ensures { λ r. ⌜ Lines (now (out .entry)) at (figuresText (take 3 (drop 4 (lengthFigures (sizesMeaning s)))))
+        3 r (now (out .exit)) ⌝ }
 {
     let place = put_figure(b"words of g1", s.c - 1, b"rules-kept", out, at);
     let place = put_figure(b"words of h1", s.c, b"rules-kept", out, place);
@@ -73,7 +74,8 @@ fn put_line_messages(s: Sizes, out: &mut [u8], at: usize) -> usize
 fn put_matrix_messages(s: Sizes, out: &mut [u8], at: usize) -> usize
     requires { ⌜ at + lineRoom * 4 ≤ length (now out) ⌝ }
     requires { ⌜ InRange (sizesMeaning s) ⌝ }
-    ensures { λ r. ⌜ Lines (now (out .entry)) at (figuresText (take 4 (drop 7 (lengthFigures (sizesMeaning s))))) 4 r (now (out .exit)) ⌝ }
+    ensures { λ r. ⌜ Lines (now (out .entry)) at (figuresText (take 4 (drop 7 (lengthFigures (sizesMeaning s)))))
+        4 r (now (out .exit)) ⌝ }
 {
     let k = s.k;
     let place = put_figure(b"words of ga", k.a - 1, b"rules-kept", out, at);

@@ -23,7 +23,8 @@ ghost use Rattle.protocol.specs.Meanings.{faultRefusal, sizes as sizesMeaning};
 ghost use Rattle.text.specs.Written.{Written};
 ghost use Rattle.figures.specs.Range.{InRange};
 ghost use Rattle.figures.specs.Scanning.{requestNumbers};
-ghost use Rattle.figures.specs.Sheet.{figuresText, sizeFigures, lengthFigures, checkFigures, tripleFigures, sizesFor, sheetRefusal, refusedText, figuresFor, sheetText};
+ghost use Rattle.figures.specs.Sheet.{figuresText, sizeFigures, lengthFigures, checkFigures, tripleFigures};
+ghost use Rattle.figures.specs.Sheet.{sizesFor, sheetRefusal, refusedText, figuresFor, sheetText};
 
 // The row of the table of refusals for entry counts.
 const BAD_LENGTH: u32 = 5;
@@ -72,7 +73,8 @@ fn sizes_for(request: Request) -> Sizes
 
 fn put_refused(number: u32, position: usize, out: &mut [u8]) -> usize
     requires { ⌜ 40 ≤ length (now out) ⌝ }
-    ensures { λ r. ⌜ Written (now (out .entry)) 0 (refusedText (some (record { number = number; position = position })) []) r (now (out .exit)) ⌝ }
+    ensures { λ r. ⌜ Written (now (out .entry)) 0 (refusedText (some (record { number = number; position = position })) [])
+        r (now (out .exit)) ⌝ }
 {
     let place = put_bytes(b"refused ", out, 0);
     let place = put_decimal(number as usize, out, place);

@@ -28,7 +28,8 @@ fn put_source(source: &[u8], out: &mut [u8], at: usize) -> usize
 pub fn put_digits(name: &[u8], digits: &[u8], source: &[u8], out: &mut [u8], at: usize) -> usize
     requires { ⌜ length (now name) + length (now digits) + length (now source) + 6 ≤ lineRoom ⌝ }
     requires { ⌜ at + lineRoom ≤ length (now out) ⌝ }
-    ensures { λ r. ⌜ Lines (now (out .entry)) at (lineText (now (name .entry)) (now (digits .entry)) (now (source .entry))) 1 r (now (out .exit)) ⌝ }
+    ensures { λ r. ⌜ Lines (now (out .entry)) at (lineText (now (name .entry)) (now (digits .entry)) (now (source .entry)))
+        1 r (now (out .exit)) ⌝ }
 {
     let place = put_name(name, out, at);
     let place = put_bytes(digits, out, place);
@@ -38,7 +39,8 @@ pub fn put_digits(name: &[u8], digits: &[u8], source: &[u8], out: &mut [u8], at:
 pub fn put_figure(name: &[u8], n: u32, source: &[u8], out: &mut [u8], at: usize) -> usize
     requires { ⌜ length (now name) + length (now source) + 16 ≤ lineRoom ⌝ }
     requires { ⌜ at + lineRoom ≤ length (now out) ⌝ }
-    ensures { λ r. ⌜ Lines (now (out .entry)) at (lineText (now (name .entry)) (decimal n) (now (source .entry))) 1 r (now (out .exit)) ⌝ }
+    ensures { λ r. ⌜ Lines (now (out .entry)) at (lineText (now (name .entry)) (decimal n) (now (source .entry)))
+        1 r (now (out .exit)) ⌝ }
 {
     let place = put_name(name, out, at);
     let place = put_decimal(n as usize, out, place);

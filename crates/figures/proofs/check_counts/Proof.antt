@@ -14,11 +14,17 @@ returns-2 c = simp (le-leb _ _ (c .before .before .if1 .left), lt-leb _ _ (c .if
 
 returns-3 : tie.Need-returns-3
 unfolding listRefusal
-returns-3 c = simp (le-leb _ _ (c .before .before .before .before .if1 .left), le-leb _ _ (c .before .before .if2 .left), lt-leb _ _ (c .if3 .taken))
+returns-3 c =
+    let c2 = c .before .before in
+    let c1 = c2 .before .before in
+    simp (le-leb _ _ (c1 .if1 .left), le-leb _ _ (c2 .if2 .left), lt-leb _ _ (c .if3 .taken))
 
 returns-4 : tie.Need-returns-4
 unfolding listRefusal
-returns-4 c = simp (le-leb _ _ (c .before .before .before .before .if1 .left), le-leb _ _ (c .before .before .if2 .left), le-leb _ _ (c .if3 .left))
+returns-4 c =
+    let c2 = c .before .before in
+    let c1 = c2 .before .before in
+    simp (le-leb _ _ (c1 .if1 .left), le-leb _ _ (c2 .if2 .left), le-leb _ _ (c .if3 .left))
 
 pub check-counts-spec : {M : Type 1} → statement M
 check-counts-spec = tie.close (tie.spec returns returns-2 returns-3 returns-4)

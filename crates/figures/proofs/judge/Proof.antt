@@ -20,9 +20,12 @@ enum-known-fault c = search needs
 
 returns : tie.Need-returns
 returns c =
-    let a = c .before .before .before .before .args .request in
+    let c2 = c .before in
+    let c1 = c2 .before .before in
+    let start = c1 .before in
+    let a = start .args .request in
     counts-judged (a .r) (a .c) (a .x) (a .entries .a) (a .entries .b) (a .entries .c) _
-    (sym (ap faultRefusal (c .before .enum-told .given .1)) ∙ c .before .before .before .check-sizes .ensures) (c .check-counts .ensures)
+    (sym (ap faultRefusal (c2 .enum-told .given .1)) ∙ c1 .check-sizes .ensures) (c .check-counts .ensures)
 
 returns-2 : tie.Need-returns-2
 returns-2 c =

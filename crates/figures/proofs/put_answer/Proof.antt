@@ -20,8 +20,13 @@ sizes-for-requires c κs = search needs
 
 put-figures-requires : tie.Need-put-figures-requires
 put-figures-requires c κs =
-    let a = c .before .before .before .before .before .before .args .request in
-    (c .before .before .before .before .before .before .pre, rw (c .before .sizes-for .ensures) (not-refused (a .r) (a .c) (a .x) (a .entries .a) (a .entries .b) (a .entries .c) (sym (c .before .before .before .before .judge .ensures) ∙ ap faultRefusal (c .before .before .enum-told .given .1))))
+    let c3 = c .before in
+    let c2 = c3 .before in
+    let c1 = c2 .before .before in
+    let start = c1 .before .before in
+    let a = start .args .request in
+    let fine = sym (c1 .judge .ensures) ∙ ap faultRefusal (c2 .enum-told .given .1) in
+    (start .pre, rw (c3 .sizes-for .ensures) (not-refused (a .r) (a .c) (a .x) (a .entries .a) (a .entries .b) (a .entries .c) fine))
 
 enum-known-fault : tie.Need-enum-known-fault
 enum-known-fault c = search needs
@@ -34,18 +39,28 @@ same-length c = search needs
 
 returns : tie.Need-returns
 returns c =
-    let a = c .before .before .before .before .before .before .before .before .before .args .request in
-    written-as (figures-fine babyBear (requestNumbers a) (sizes (c .before .before .before .before .sizes-for .result)) (sym (c .before .before .before .before .before .before .before .judge .ensures) ∙ ap faultRefusal (c .before .before .before .before .before .enum-told .given .1)) (c .before .before .before .before .sizes-for .ensures))
-    (c .before .before .put-figures .ensures)
+    let c4 = c .before .before in
+    let c3 = c4 .before .before in
+    let c2 = c3 .before in
+    let c1 = c2 .before .before in
+    let start = c1 .before .before in
+    let a = start .args .request in
+    let fine = sym (c1 .judge .ensures) ∙ ap faultRefusal (c2 .enum-told .given .1) in
+    written-as (figures-fine babyBear (requestNumbers a) (sizes (c3 .sizes-for .result)) fine (c3 .sizes-for .ensures))
+    (c4 .put-figures .ensures)
 
 same-length-2 : tie.Need-same-length-2
 same-length-2 c = search needs
 
 returns-2 : tie.Need-returns-2
 returns-2 c =
-    let a = c .before .before .before .before .before .before .before .before .before .args .request in
-    written-as (figures-refused babyBear (requestNumbers a) _ (sym (c .before .before .before .before .before .before .before .judge .ensures) ∙ ap faultRefusal (c .before .before .before .before .before .fault .given .1)))
-    (c .before .before .put-refused .ensures)
+    let c3 = c .before .before in
+    let c2 = c3 .before .before .before in
+    let c1 = c2 .before .before in
+    let start = c1 .before .before in
+    let a = start .args .request in
+    written-as (figures-refused babyBear (requestNumbers a) _ (sym (c1 .judge .ensures) ∙ ap faultRefusal (c2 .fault .given .1)))
+    (c3 .put-refused .ensures)
 
 pub put-answer-spec : {M : Type 1} → statement M
 put-answer-spec =

@@ -25,10 +25,15 @@ same-length c = search needs
 
 returns : tie.Need-returns
 returns c =
-    let s = sizes (c .before .before .before .before .before .before .before .before .before .before .before .before .before .before .before .before .before .args .s) in
-    figures-then (sizeFigures s) (lengthFigures s ++ (checkFigures s babyBear ++ tripleFigures babyBear)) (c .before .before .before .before .before .before .before .before .before .before .before .before .before .before .put-sizes .ensures)
-    (figures-then (lengthFigures s) (checkFigures s babyBear ++ tripleFigures babyBear) (c .before .before .before .before .before .before .before .before .before .before .put-lengths .ensures)
-    (figures-then (checkFigures s babyBear) (tripleFigures babyBear) (c .before .before .before .before .before .before .put-checks .ensures) (c .before .before .put-triples .ensures)))
+    let c4 = c .before .before in
+    let c3 = c4 .before .before .before .before in
+    let c2 = c3 .before .before .before .before in
+    let c1 = c2 .before .before .before .before in
+    let start = c1 .before .before .before in
+    let s = sizes (start .args .s) in
+    figures-then (sizeFigures s) (lengthFigures s ++ (checkFigures s babyBear ++ tripleFigures babyBear)) (c1 .put-sizes .ensures)
+    (figures-then (lengthFigures s) (checkFigures s babyBear ++ tripleFigures babyBear) (c2 .put-lengths .ensures)
+    (figures-then (checkFigures s babyBear) (tripleFigures babyBear) (c3 .put-checks .ensures) (c4 .put-triples .ensures)))
     .written
 
 pub put-figures-spec : {M : Type 1} → statement M

@@ -1,10 +1,7 @@
 -- `figures::put_refused` meets its contract. Assumes nothing.
-use Prim.Native.Nat.{_≤_}
-use lib.ListN.{length}
 use native.Mathlib.Omega.{arith}
-use Rattle.text.specs.Decimal.{decimal}
-use Rattle.text.proofs.DecimalLaws.{decimal-short}
 use Rattle.text.proofs.WrittenLaws.{written-then, written-length}
+use Rattle.figures.proofs.LineLaws.{word-digits, place-digits}
 use borrow.Author.Needs.{needs}
 use Rattle.figures.proofs.put_refused.Statement.{statement}
 use Rattle.figures.proofs.put_refused.Tie as tie
@@ -18,7 +15,7 @@ put-bytes-requires c κs = search needs
 put-decimal-requires : tie.Need-put-decimal-requires
 put-decimal-requires c κs =
     let start = c .before .before .before .before .before .before .before in
-    let short : length (decimal (start .args .number)) ≤ 10 = decimal-short 9 (start .args .number) (omega (arith, start .fits .number)) in
+    let short = word-digits (start .args .number) (omega (arith, start .fits .number)) in
     let w1 = c .before .before .before .put-bytes .ensures in
     omega (
       arith,
@@ -32,10 +29,12 @@ slice-aggregate-put-bytes-2 c = search needs
 
 put-bytes-requires-2 : tie.Need-put-bytes-requires-2
 put-bytes-requires-2 c κs =
-    let start = c .before .before .before .before .before .before .before .before .before .before .before .before in
-    let short : length (decimal (start .args .number)) ≤ 10 = decimal-short 9 (start .args .number) (omega (arith, start .fits .number)) in
-    let w1 = c .before .before .before .before .before .before .before .before .put-bytes .ensures in
-    let w2 = c .before .before .before .before .put-decimal .ensures in
+    let c2 = c .before .before .before .before in
+    let c1 = c2 .before .before .before .before in
+    let start = c1 .before .before .before .before in
+    let short = word-digits (start .args .number) (omega (arith, start .fits .number)) in
+    let w1 = c1 .put-bytes .ensures in
+    let w2 = c2 .put-decimal .ensures in
     omega (
       arith,
       start .pre,
@@ -47,12 +46,15 @@ put-bytes-requires-2 c κs =
 
 put-decimal-requires-2 : tie.Need-put-decimal-requires-2
 put-decimal-requires-2 c κs =
-    let start = c .before .before .before .before .before .before .before .before .before .before .before .before .before .before .before .before in
-    let short : length (decimal (start .args .number)) ≤ 10 = decimal-short 9 (start .args .number) (omega (arith, start .fits .number)) in
-    let short₂ : length (decimal (start .args .position)) ≤ 20 = decimal-short 19 (start .args .position) (omega (arith, start .fits .position)) in
-    let w1 = c .before .before .before .before .before .before .before .before .before .before .before .before .put-bytes .ensures in
-    let w2 = c .before .before .before .before .before .before .before .before .put-decimal .ensures in
-    let w3 = c .before .before .before .put-bytes2 .ensures in
+    let c3 = c .before .before .before in
+    let c2 = c3 .before .before .before .before .before in
+    let c1 = c2 .before .before .before .before in
+    let start = c1 .before .before .before .before in
+    let short = word-digits (start .args .number) (omega (arith, start .fits .number)) in
+    let short₂ = place-digits (start .args .position) (omega (arith, start .fits .position)) in
+    let w1 = c1 .put-bytes .ensures in
+    let w2 = c2 .put-decimal .ensures in
+    let w3 = c3 .put-bytes2 .ensures in
     omega (
       arith,
       start .pre,
@@ -69,13 +71,17 @@ slice-aggregate-put-bytes-3 c = search needs
 
 put-bytes-requires-3 : tie.Need-put-bytes-requires-3
 put-bytes-requires-3 c κs =
-    let start = c .before .before .before .before .before .before .before .before .before .before .before .before .before .before .before .before .before .before .before .before .before in
-    let short : length (decimal (start .args .number)) ≤ 10 = decimal-short 9 (start .args .number) (omega (arith, start .fits .number)) in
-    let short₂ : length (decimal (start .args .position)) ≤ 20 = decimal-short 19 (start .args .position) (omega (arith, start .fits .position)) in
-    let w1 = c .before .before .before .before .before .before .before .before .before .before .before .before .before .before .before .before .before .put-bytes .ensures in
-    let w2 = c .before .before .before .before .before .before .before .before .before .before .before .before .before .put-decimal .ensures in
-    let w3 = c .before .before .before .before .before .before .before .before .put-bytes2 .ensures in
-    let w4 = c .before .before .before .before .put-decimal2 .ensures in
+    let c4 = c .before .before .before .before in
+    let c3 = c4 .before .before .before .before in
+    let c2 = c3 .before .before .before .before .before in
+    let c1 = c2 .before .before .before .before in
+    let start = c1 .before .before .before .before in
+    let short = word-digits (start .args .number) (omega (arith, start .fits .number)) in
+    let short₂ = place-digits (start .args .position) (omega (arith, start .fits .position)) in
+    let w1 = c1 .put-bytes .ensures in
+    let w2 = c2 .put-decimal .ensures in
+    let w3 = c3 .put-bytes2 .ensures in
+    let w4 = c4 .put-decimal2 .ensures in
     omega (
       arith,
       start .pre,
@@ -94,9 +100,14 @@ same-length c = search needs
 
 returns : tie.Need-returns
 returns c =
-    written-then (c .before .before .before .before .before .before .before .before .before .before .before .before .before .before .before .before .before .before .before .before .put-bytes .ensures)
-    (written-then (c .before .before .before .before .before .before .before .before .before .before .before .before .before .before .before .before .put-decimal .ensures)
-    (written-then (c .before .before .before .before .before .before .before .before .before .before .before .put-bytes2 .ensures) (written-then (c .before .before .before .before .before .before .before .put-decimal2 .ensures) (c .before .before .put-bytes3 .ensures))))
+    let c5 = c .before .before in
+    let c4 = c5 .before .before .before .before .before in
+    let c3 = c4 .before .before .before .before in
+    let c2 = c3 .before .before .before .before .before in
+    let c1 = c2 .before .before .before .before in
+    written-then (c1 .put-bytes .ensures)
+    (written-then (c2 .put-decimal .ensures)
+    (written-then (c3 .put-bytes2 .ensures) (written-then (c4 .put-decimal2 .ensures) (c5 .put-bytes3 .ensures))))
 
 pub put-refused-spec : {M : Type 1} → statement M
 put-refused-spec =

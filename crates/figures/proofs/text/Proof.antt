@@ -29,14 +29,20 @@ put-bytes-requires c κs = search needs
 
 returns : tie.Need-returns
 returns c =
-    let read = c .before .before .before .before .before .read in
-    written-as (sheet-answers babyBear (c .before .before .before .before .before .before .before .args .input .now) _ (sym (ap readingMeaning (c .before .before .before .reading .given .1)) ∙ read .ensures))
+    let c2 = c .before .before .before in
+    let c1 = c2 .before .before in
+    let start = c1 .before .before in
+    let read = c1 .read in
+    written-as (sheet-answers babyBear (start .args .input .now) _ (sym (ap readingMeaning (c2 .reading .given .1)) ∙ read .ensures))
     (c .put-answer .ensures)
 
 returns-2 : tie.Need-returns-2
 returns-2 c =
-    let read = c .before .before .before .before .before .read in
-    written-as (sheet-answers babyBear (c .before .before .before .before .before .before .before .args .input .now) none (sym (ap readingMeaning (c .before .before .before .enum-told .given .1)) ∙ read .ensures))
+    let c2 = c .before .before .before in
+    let c1 = c2 .before .before in
+    let start = c1 .before .before in
+    let read = c1 .read in
+    written-as (sheet-answers babyBear (start .args .input .now) none (sym (ap readingMeaning (c2 .enum-told .given .1)) ∙ read .ensures))
     (c .put-bytes .ensures)
 
 pub text-spec : {M : Type 1} → statement M

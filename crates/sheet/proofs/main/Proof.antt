@@ -21,12 +21,14 @@ buffer-requires c κs = search needs
 
 array-share-prefix-input : tie.Need-array-share-prefix-input
 array-share-prefix-input c =
-    ⊎-elim (λ w. omega (arith, c .before .before .before .read-full .ensures .0)) (λ w. omega (arith, c .before .before .before .read-full .ensures .0)) (c .before .if1 .came)
+    let read = c .before .before .before .read-full in
+    ⊎-elim (λ w. omega (arith, read .ensures .0)) (λ w. omega (arith, read .ensures .0)) (c .before .if1 .came)
 
 slice-aggregate-text : tie.Need-slice-aggregate-text
 slice-aggregate-text c =
-    let within : c .before .before .if1 .n ≤ length (c .before .before .before .before .read-full .last .1 .0) =
-    ⊎-elim (λ w. omega (arith, c .before .before .before .before .read-full .ensures .0)) (λ w. omega (arith, c .before .before .before .before .read-full .ensures .0)) (c .before .before .if1 .came) in
+    let read = c .before .before .before .before .read-full in
+    let within : c .before .before .if1 .n ≤ length (read .last .1 .0) =
+    ⊎-elim (λ w. omega (arith, read .ensures .0)) (λ w. omega (arith, read .ensures .0)) (c .before .before .if1 .came) in
     sym (length-take-le _ _ within)
 
 text-requires : tie.Need-text-requires

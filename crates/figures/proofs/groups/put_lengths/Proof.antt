@@ -35,11 +35,17 @@ same-length c = search needs
 returns : tie.Need-returns
 unfolding figureText figuresText nameText sourceText lineText
 returns c =
-    let l = lengthFigures (sizes (c .before .before .before .before .before .before .before .before .before .before .before .before .before .before .before .before .before .before .before .before .args .s)) in
-    let last = rw (c .before .before .before .before .before .record-bytes .ensures) at (c .before .before .put-figure .ensures) in
-    figures-then (take 4 l) (drop 4 l) (c .before .before .before .before .before .before .before .before .before .before .before .before .before .before .before .before .before .put-row-messages .ensures)
-    (figures-then (take 3 (drop 4 l)) (drop 7 l) (c .before .before .before .before .before .before .before .before .before .before .before .before .before .put-line-messages .ensures)
-    (figures-then (take 4 (drop 7 l)) (drop 11 l) (c .before .before .before .before .before .before .before .before .before .put-matrix-messages .ensures) (lines-end last)))
+    let c5 = c .before .before in
+    let c4 = c5 .before .before .before in
+    let c3 = c4 .before .before .before .before in
+    let c2 = c3 .before .before .before .before in
+    let c1 = c2 .before .before .before .before in
+    let start = c1 .before .before .before in
+    let l = lengthFigures (sizes (start .args .s)) in
+    let last = rw (c4 .record-bytes .ensures) at (c5 .put-figure .ensures) in
+    figures-then (take 4 l) (drop 4 l) (c1 .put-row-messages .ensures)
+    (figures-then (take 3 (drop 4 l)) (drop 7 l) (c2 .put-line-messages .ensures)
+    (figures-then (take 4 (drop 7 l)) (drop 11 l) (c3 .put-matrix-messages .ensures) (lines-end last)))
 
 pub put-lengths-spec : {M : Type 1} → statement M
 put-lengths-spec =

@@ -43,7 +43,10 @@ same-length c = search needs
 returns : tie.Need-returns
 unfolding figureText figuresText nameText sourceText lineText lengths
 returns c =
-    lines-then (c .before .before .before .before .before .before .before .before .before .before .before .before .before .before .put-figure .ensures) (lines-then (c .before .before .before .before .before .before .before .before .put-figure2 .ensures) (lines-end (c .before .before .put-figure3 .ensures)))
+    let c3 = c .before .before in
+    let c2 = c3 .before .before .before .before .before .before in
+    let c1 = c2 .before .before .before .before .before .before in
+    lines-then (c1 .put-figure .ensures) (lines-then (c2 .put-figure2 .ensures) (lines-end (c3 .put-figure3 .ensures)))
 
 pub put-line-messages-spec : {M : Type 1} → statement M
 put-line-messages-spec =

@@ -63,53 +63,85 @@ slice-aggregate-put-figure-7 : tie.Need-slice-aggregate-put-figure-7
 slice-aggregate-put-figure-7 c = search needs
 
 mul-put-figure-4 : tie.Need-mul-put-figure-4
-mul-put-figure-4 c = omega (arith, c .before .before .before .before .before .before .before .before .before .before .before .before .before .before .before .before .before .before .before .before .before .before .largest .ensures, c .before .before .before .before .before .before .before .before .before .before .before .before .before .before .before .before .before .before .before .before .before .before .before .before .before .pre, largest-range (sizes (c .before .before .before .before .before .before .before .before .before .before .before .before .before .before .before .before .before .before .before .before .before .before .before .before .before .args .s)) (c .before .before .before .before .before .before .before .before .before .before .before .before .before .before .before .before .before .before .before .before .before .before .before .before .before .pre .1))
+mul-put-figure-4 c =
+    let middle = c .before .before .before .before .before .before .before .before .before .before .before in
+    let c1 = middle .before .before .before .before .before .before .before .before .before .before .before in
+    let start = c1 .before .before .before in
+    omega (arith, c1 .largest .ensures, start .pre, largest-range (sizes (start .args .s)) (start .pre .1))
 
 sub-put-figure-4 : tie.Need-sub-put-figure-4
-sub-put-figure-4 c = omega (arith, c .before .before .before .before .before .before .before .before .before .before .before .before .before .before .before .before .before .before .before .before .before .before .largest .ensures, c .before .before .before .before .before .before .before .before .before .before .before .before .before .before .before .before .before .before .before .before .before .before .before .before .before .pre, largest-range (sizes (c .before .before .before .before .before .before .before .before .before .before .before .before .before .before .before .before .before .before .before .before .before .before .before .before .before .args .s)) (c .before .before .before .before .before .before .before .before .before .before .before .before .before .before .before .before .before .before .before .before .before .before .before .before .before .pre .1))
+sub-put-figure-4 c =
+    let middle = c .before .before .before .before .before .before .before .before .before .before .before in
+    let c1 = middle .before .before .before .before .before .before .before .before .before .before .before in
+    let start = c1 .before .before .before in
+    omega (arith, c1 .largest .ensures, start .pre, largest-range (sizes (start .args .s)) (start .pre .1))
 
 slice-aggregate-put-figure-8 : tie.Need-slice-aggregate-put-figure-8
 slice-aggregate-put-figure-8 c = search needs
 
 put-figure-requires-4 : tie.Need-put-figure-requires-4
-put-figure-requires-4 c κs = (
-  lit≤ tt,
-  omega (
-    arith,
-    room-after 2 (c .before .before .before .before .before .put-figure3 .ensures)
-        (room-after 3 (c .before .before .before .before .before .before .before .before .before .before .before .before .put-figure2 .ensures) (room-after 4 (c .before .before .before .before .before .before .before .before .before .before .before .before .before .before .before .before .before .before .before .put-figure .ensures) (c .before .before .before .before .before .before .before .before .before .before .before .before .before .before .before .before .before .before .before .before .before .before .before .before .before .before .before .pre .0))),
-  ),
-)
+put-figure-requires-4 c κs =
+    let c3 = c .before .before .before .before .before in
+    let c2 = c3 .before .before .before .before .before .before .before in
+    let c1 = c2 .before .before .before .before .before .before .before in
+    let start = c1 .before .before .before .before .before .before .before .before in (
+      lit≤ tt,
+      omega (
+        arith,
+        room-after 2 (c3 .put-figure3 .ensures)
+            (room-after 3 (c2 .put-figure2 .ensures) (room-after 4 (c1 .put-figure .ensures) (start .pre .0))),
+      ),
+    )
 
 slice-aggregate-put-figure-9 : tie.Need-slice-aggregate-put-figure-9
 slice-aggregate-put-figure-9 c = search needs
 
 sub-put-figure-5 : tie.Need-sub-put-figure-5
-sub-put-figure-5 c = omega (arith, c .before .before .before .before .before .before .before .before .before .before .before .before .before .before .before .before .before .before .before .before .before .before .before .before .before .before .before .before .largest .ensures, c .before .before .before .before .before .before .before .before .before .before .before .before .before .before .before .before .before .before .before .before .before .before .before .before .before .before .before .before .before .before .before .pre, largest-range (sizes (c .before .before .before .before .before .before .before .before .before .before .before .before .before .before .before .before .before .before .before .before .before .before .before .before .before .before .before .before .before .before .before .args .s)) (c .before .before .before .before .before .before .before .before .before .before .before .before .before .before .before .before .before .before .before .before .before .before .before .before .before .before .before .before .before .before .before .pre .1))
+sub-put-figure-5 c =
+    let middle = c .before .before .before .before .before .before .before .before .before .before .before .before .before .before in
+    let c1 = middle .before .before .before .before .before .before .before .before .before .before .before .before .before .before in
+    let start = c1 .before .before .before in
+    omega (arith, c1 .largest .ensures, start .pre, largest-range (sizes (start .args .s)) (start .pre .1))
 
 slice-aggregate-put-figure-10 : tie.Need-slice-aggregate-put-figure-10
 slice-aggregate-put-figure-10 c = search needs
 
 put-figure-requires-5 : tie.Need-put-figure-requires-5
-put-figure-requires-5 c κs = (
-  lit≤ tt,
-  room-after 1 (c .before .before .before .before .before .put-figure4 .ensures)
-      (room-after 2 (c .before .before .before .before .before .before .before .before .before .before .before .put-figure3 .ensures)
-      (room-after 3 (c .before .before .before .before .before .before .before .before .before .before .before .before .before .before .before .before .before .before .put-figure2 .ensures) (room-after 4 (c .before .before .before .before .before .before .before .before .before .before .before .before .before .before .before .before .before .before .before .before .before .before .before .before .before .put-figure .ensures) (c .before .before .before .before .before .before .before .before .before .before .before .before .before .before .before .before .before .before .before .before .before .before .before .before .before .before .before .before .before .before .before .before .before .pre .0)))),
-)
+put-figure-requires-5 c κs =
+    let c4 = c .before .before .before .before .before in
+    let c3 = c4 .before .before .before .before .before .before in
+    let c2 = c3 .before .before .before .before .before .before .before in
+    let c1 = c2 .before .before .before .before .before .before .before in
+    let start = c1 .before .before .before .before .before .before .before .before in (
+      lit≤ tt,
+      room-after 1 (c4 .put-figure4 .ensures)
+          (room-after 2 (c3 .put-figure3 .ensures)
+          (room-after 3 (c2 .put-figure2 .ensures) (room-after 4 (c1 .put-figure .ensures) (start .pre .0)))),
+    )
 
 same-length : tie.Need-same-length
 same-length c =
-    lines-length (c .before .before .put-figure5 .ensures) ∙ lines-length (c .before .before .before .before .before .before .before .before .put-figure4 .ensures)
-    ∙ lines-length (c .before .before .before .before .before .before .before .before .before .before .before .before .before .before .put-figure3 .ensures) ∙ lines-length (c .before .before .before .before .before .before .before .before .before .before .before .before .before .before .before .before .before .before .before .before .before .put-figure2 .ensures) ∙ lines-length (c .before .before .before .before .before .before .before .before .before .before .before .before .before .before .before .before .before .before .before .before .before .before .before .before .before .before .before .before .put-figure .ensures)
+    let c5 = c .before .before in
+    let c4 = c5 .before .before .before .before .before .before in
+    let c3 = c4 .before .before .before .before .before .before in
+    let c2 = c3 .before .before .before .before .before .before .before in
+    let c1 = c2 .before .before .before .before .before .before .before in
+    lines-length (c5 .put-figure5 .ensures) ∙ lines-length (c4 .put-figure4 .ensures)
+    ∙ lines-length (c3 .put-figure3 .ensures) ∙ lines-length (c2 .put-figure2 .ensures) ∙ lines-length (c1 .put-figure .ensures)
 
 returns : tie.Need-returns
 unfolding figureText figuresText nameText sourceText lineText
 returns c =
-    let joined = rw (c .before .before .before .before .before .before .before .before .before .before .before .before .before .before .before .before .before .before .before .before .before .before .before .before .before .before .before .before .before .before .before .before .before .largest .ensures) at (c .before .before .before .before .before .before .before .before .put-figure4 .ensures) in
-    let last = rw (c .before .before .before .before .before .before .before .before .before .before .before .before .before .before .before .before .before .before .before .before .before .before .before .before .before .before .before .before .before .before .before .before .before .largest .ensures) at (c .before .before .put-figure5 .ensures) in
-    (lines-then (c .before .before .before .before .before .before .before .before .before .before .before .before .before .before .before .before .before .before .before .before .before .before .before .before .before .before .before .before .put-figure .ensures)
-    (lines-then (c .before .before .before .before .before .before .before .before .before .before .before .before .before .before .before .before .before .before .before .before .before .put-figure2 .ensures) (lines-then (c .before .before .before .before .before .before .before .before .before .before .before .before .before .before .put-figure3 .ensures) (lines-then joined (lines-end last)))))
+    let c6 = c .before .before in
+    let c5 = c6 .before .before .before .before .before .before in
+    let c4 = c5 .before .before .before .before .before .before in
+    let c3 = c4 .before .before .before .before .before .before .before in
+    let c2 = c3 .before .before .before .before .before .before .before in
+    let c1 = c2 .before .before .before .before .before in
+    let joined = rw (c1 .largest .ensures) at (c5 .put-figure4 .ensures) in
+    let last = rw (c1 .largest .ensures) at (c6 .put-figure5 .ensures) in
+    (lines-then (c2 .put-figure .ensures)
+    (lines-then (c3 .put-figure2 .ensures) (lines-then (c4 .put-figure3 .ensures) (lines-then joined (lines-end last)))))
 
 pub put-matrix-checks-spec : {M : Type 1} → statement M
 put-matrix-checks-spec =

@@ -54,14 +54,24 @@ largest-requires : tie.Need-largest-requires
 largest-requires c κs = search needs
 
 sub-put-figure-4 : tie.Need-sub-put-figure-4
-sub-put-figure-4 c = omega (arith, c .largest .ensures, largest-range (sizes (c .before .before .before .before .before .before .before .before .before .before .before .before .before .before .before .before .before .before .before .before .before .before .before .before .before .args .s)) (c .before .before .before .before .before .before .before .before .before .before .before .before .before .before .before .before .before .before .before .before .before .before .before .before .before .pre .1))
+sub-put-figure-4 c =
+    let middle = c .before .before .before .before .before .before .before .before .before .before .before .before in
+    let start = middle .before .before .before .before .before .before .before .before .before .before .before .before .before in
+    omega (arith, c .largest .ensures, largest-range (sizes (start .args .s)) (start .pre .1))
 
 slice-aggregate-put-figure-8 : tie.Need-slice-aggregate-put-figure-8
 slice-aggregate-put-figure-8 c = search needs
 
 put-figure-requires-4 : tie.Need-put-figure-requires-4
 put-figure-requires-4 c κs =
-    (lit≤ tt, (room-after 1 (c .before .before .before .before .before .before .put-figure3 .ensures) (room-after 2 (c .before .before .before .before .before .before .before .before .before .before .before .before .before .put-figure2 .ensures) (room-after 3 (c .before .before .before .before .before .before .before .before .before .before .before .before .before .before .before .before .before .before .before .before .put-figure .ensures) (c .before .before .before .before .before .before .before .before .before .before .before .before .before .before .before .before .before .before .before .before .before .before .before .before .before .before .before .pre .0)))))
+    let c3 = c .before .before .before .before .before .before in
+    let c2 = c3 .before .before .before .before .before .before .before in
+    let c1 = c2 .before .before .before .before .before .before .before in
+    let start = c1 .before .before .before .before .before .before .before in (
+      lit≤ tt,
+      room-after 1 (c3 .put-figure3 .ensures)
+          (room-after 2 (c2 .put-figure2 .ensures) (room-after 3 (c1 .put-figure .ensures) (start .pre .0))),
+    )
 
 same-length : tie.Need-same-length
 same-length c = search needs
@@ -69,9 +79,14 @@ same-length c = search needs
 returns : tie.Need-returns
 unfolding figureText figuresText nameText sourceText lineText lengths
 returns c =
-    let last = rw (c .before .before .before .before .before .largest .ensures) at (c .before .before .put-figure4 .ensures) in
-    lines-then (c .before .before .before .before .before .before .before .before .before .before .before .before .before .before .before .before .before .before .before .before .before .before .before .put-figure .ensures)
-    (lines-then (c .before .before .before .before .before .before .before .before .before .before .before .before .before .before .before .before .put-figure2 .ensures) (lines-then (c .before .before .before .before .before .before .before .before .before .put-figure3 .ensures) (lines-end last)))
+    let c5 = c .before .before in
+    let c4 = c5 .before .before .before in
+    let c3 = c4 .before .before .before .before in
+    let c2 = c3 .before .before .before .before .before .before .before in
+    let c1 = c2 .before .before .before .before .before .before .before in
+    let last = rw (c4 .largest .ensures) at (c5 .put-figure4 .ensures) in
+    lines-then (c1 .put-figure .ensures)
+    (lines-then (c2 .put-figure2 .ensures) (lines-then (c3 .put-figure3 .ensures) (lines-end last)))
 
 pub put-matrix-messages-spec : {M : Type 1} → statement M
 put-matrix-messages-spec =

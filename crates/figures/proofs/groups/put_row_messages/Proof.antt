@@ -55,7 +55,14 @@ slice-aggregate-put-figure-8 c = search needs
 
 put-figure-requires-4 : tie.Need-put-figure-requires-4
 put-figure-requires-4 c κs =
-    (lit≤ tt, (room-after 1 (c .before .before .before .before .before .put-figure3 .ensures) (room-after 2 (c .before .before .before .before .before .before .before .before .before .before .before .before .put-figure2 .ensures) (room-after 3 (c .before .before .before .before .before .before .before .before .before .before .before .before .before .before .before .before .before .before .before .put-figure .ensures) (c .before .before .before .before .before .before .before .before .before .before .before .before .before .before .before .before .before .before .before .before .before .before .before .before .before .pre .0)))))
+    let c3 = c .before .before .before .before .before in
+    let c2 = c3 .before .before .before .before .before .before .before in
+    let c1 = c2 .before .before .before .before .before .before .before in
+    let start = c1 .before .before .before .before .before .before in (
+      lit≤ tt,
+      room-after 1 (c3 .put-figure3 .ensures)
+          (room-after 2 (c2 .put-figure2 .ensures) (room-after 3 (c1 .put-figure .ensures) (start .pre .0))),
+    )
 
 same-length : tie.Need-same-length
 same-length c = search needs
@@ -63,9 +70,13 @@ same-length c = search needs
 returns : tie.Need-returns
 unfolding figureText figuresText nameText sourceText lineText lengths
 returns c =
-    lines-then (c .before .before .before .before .before .before .before .before .before .before .before .before .before .before .before .before .before .before .before .before .before .before .put-figure .ensures)
-    (lines-then (c .before .before .before .before .before .before .before .before .before .before .before .before .before .before .before .put-figure2 .ensures)
-    (lines-then (c .before .before .before .before .before .before .before .before .put-figure3 .ensures) (lines-end (c .before .before .put-figure4 .ensures))))
+    let c4 = c .before .before in
+    let c3 = c4 .before .before .before .before .before .before in
+    let c2 = c3 .before .before .before .before .before .before .before in
+    let c1 = c2 .before .before .before .before .before .before .before in
+    lines-then (c1 .put-figure .ensures)
+    (lines-then (c2 .put-figure2 .ensures)
+    (lines-then (c3 .put-figure3 .ensures) (lines-end (c4 .put-figure4 .ensures))))
 
 pub put-row-messages-spec : {M : Type 1} → statement M
 put-row-messages-spec =

@@ -51,9 +51,14 @@ same-length c = search needs
 returns : tie.Need-returns
 unfolding figureText figuresText nameText sourceText lineText
 returns c =
-    let last = rw (c .before .before .before .before .before .largest .ensures) at (c .before .before .put-figure4 .ensures) in
-    lines-then (c .before .before .before .before .before .before .before .before .before .before .before .before .before .before .before .before .before .before .before .before .before .put-figure .ensures)
-    (lines-then (c .before .before .before .before .before .before .before .before .before .before .before .before .before .before .before .put-figure2 .ensures) (lines-then (c .before .before .before .before .before .before .before .before .before .put-figure3 .ensures) (lines-end last)))
+    let c5 = c .before .before in
+    let c4 = c5 .before .before .before in
+    let c3 = c4 .before .before .before .before in
+    let c2 = c3 .before .before .before .before .before .before in
+    let c1 = c2 .before .before .before .before .before .before in
+    let last = rw (c4 .largest .ensures) at (c5 .put-figure4 .ensures) in
+    lines-then (c1 .put-figure .ensures)
+    (lines-then (c2 .put-figure2 .ensures) (lines-then (c3 .put-figure3 .ensures) (lines-end last)))
 
 pub put-sizes-spec : {M : Type 1} → statement M
 put-sizes-spec =

@@ -61,10 +61,14 @@ same-length c = search needs
 returns : tie.Need-returns
 unfolding figureText figuresText nameText sourceText lineText
 returns c =
+    let c4 = c .before .before in
+    let c3 = c4 .before .before .before .before .before .before .before in
+    let c2 = c3 .before .before .before .before .before .before .before in
+    let c1 = c2 .before .before .before .before .before .before .before in
     rw (← prime-cubed, ← prime-squared)
-    (lines-then (c .before .before .before .before .before .before .before .before .before .before .before .before .before .before .before .before .before .before .before .before .before .before .before .put-digits .ensures)
-    (lines-then (c .before .before .before .before .before .before .before .before .before .before .before .before .before .before .before .before .put-digits2 .ensures)
-    (lines-then (c .before .before .before .before .before .before .before .before .before .put-digits3 .ensures) (lines-end (c .before .before .put-digits4 .ensures)))))
+    (lines-then (c1 .put-digits .ensures)
+    (lines-then (c2 .put-digits2 .ensures)
+    (lines-then (c3 .put-digits3 .ensures) (lines-end (c4 .put-digits4 .ensures)))))
 
 pub put-triples-spec : {M : Type 1} → statement M
 put-triples-spec =

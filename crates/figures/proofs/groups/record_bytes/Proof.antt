@@ -28,16 +28,24 @@ largest-requires : tie.Need-largest-requires
 largest-requires c κs = search needs
 
 add-result-5 : tie.Need-add-result-5
-add-result-5 c = omega (arith, c .before .before .before .before .before .before .before .before .pre, c .largest .ensures, largest-range (sizes (c .before .before .before .before .before .before .before .before .args .s)) (c .before .before .before .before .before .before .before .before .pre))
+add-result-5 c =
+    let start = c .before .before .before .before .before .before .before .before in
+    omega (arith, start .pre, c .largest .ensures, largest-range (sizes (start .args .s)) (start .pre))
 
 add-result-6 : tie.Need-add-result-6
-add-result-6 c = omega (arith, c .before .before .before .before .before .before .before .before .pre, c .largest .ensures, largest-range (sizes (c .before .before .before .before .before .before .before .before .args .s)) (c .before .before .before .before .before .before .before .before .pre))
+add-result-6 c =
+    let start = c .before .before .before .before .before .before .before .before in
+    omega (arith, start .pre, c .largest .ensures, largest-range (sizes (start .args .s)) (start .pre))
 
 mul-result-2 : tie.Need-mul-result-2
-mul-result-2 c = omega (arith, c .before .before .before .before .before .before .before .before .pre, c .largest .ensures, largest-range (sizes (c .before .before .before .before .before .before .before .before .args .s)) (c .before .before .before .before .before .before .before .before .pre))
+mul-result-2 c =
+    let start = c .before .before .before .before .before .before .before .before in
+    omega (arith, start .pre, c .largest .ensures, largest-range (sizes (start .args .s)) (start .pre))
 
 add-result-7 : tie.Need-add-result-7
-add-result-7 c = omega (arith, c .before .before .before .before .before .before .before .before .pre, c .largest .ensures, largest-range (sizes (c .before .before .before .before .before .before .before .before .args .s)) (c .before .before .before .before .before .before .before .before .pre))
+add-result-7 c =
+    let start = c .before .before .before .before .before .before .before .before in
+    omega (arith, start .pre, c .largest .ensures, largest-range (sizes (start .args .s)) (start .pre))
 
 returns : tie.Need-returns
 returns c =

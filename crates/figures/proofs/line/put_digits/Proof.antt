@@ -11,14 +11,18 @@ put-name-requires c κs = search needs
 
 put-bytes-requires : tie.Need-put-bytes-requires
 put-bytes-requires c κs =
-    let named = c .before .before .before .put-name .ensures in
-    omega (arith, c .before .before .before .before .before .before .before .before .before .pre, named .next, written-length named, length-name (c .before .before .before .before .before .before .before .before .before .args .name .now))
+    let c1 = c .before .before .before in
+    let start = c1 .before .before .before .before .before .before in
+    let named = c1 .put-name .ensures in
+    omega (arith, start .pre, named .next, written-length named, length-name (start .args .name .now))
 
 put-source-requires : tie.Need-put-source-requires
 put-source-requires c κs =
-    let start = c .before .before .before .before .before .before .before .before .before .before .before .before .before in
-    let named = c .before .before .before .before .before .before .before .put-name .ensures in
-    let digits = c .before .before .before .put-bytes .ensures in
+    let c2 = c .before .before .before in
+    let c1 = c2 .before .before .before .before in
+    let start = c1 .before .before .before .before .before .before in
+    let named = c1 .put-name .ensures in
+    let digits = c2 .put-bytes .ensures in
     omega (
       arith,
       start .pre,
@@ -34,8 +38,12 @@ same-length c = search needs
 
 returns : tie.Need-returns
 returns c =
-    let start = c .before .before .before .before .before .before .before .before .before .before .before .before .before .before .before .before in
-    one-line (start .args .name .now) (start .args .source .now) (c .before .before .before .before .before .before .before .before .before .before .put-name .ensures) (c .before .before .before .before .before .before .put-bytes .ensures) (c .before .before .put-source .ensures) (start .pre .0)
+    let c3 = c .before .before in
+    let c2 = c3 .before .before .before .before in
+    let c1 = c2 .before .before .before .before in
+    let start = c1 .before .before .before .before .before .before in
+    one-line (start .args .name .now) (start .args .source .now)
+    (c1 .put-name .ensures) (c2 .put-bytes .ensures) (c3 .put-source .ensures) (start .pre .0)
 
 pub put-digits-spec : {M : Type 1} → statement M
 put-digits-spec =

@@ -1,11 +1,7 @@
 -- `figures::line::put_figure` meets its contract: the number has at most ten digits. Assumes nothing.
-use Prim.Native.Nat.{_≤_}
-use lib.ListN.{length}
 use native.Mathlib.Omega.{arith}
-use Rattle.text.specs.Decimal.{decimal}
-use Rattle.text.proofs.DecimalLaws.{decimal-short}
 use Rattle.text.proofs.WrittenLaws.{written-length}
-use Rattle.figures.proofs.LineLaws.{length-name, one-line}
+use Rattle.figures.proofs.LineLaws.{word-digits, length-name, one-line}
 use borrow.Author.Needs.{needs}
 use Rattle.figures.proofs.line.put_figure.Statement.{statement}
 use Rattle.figures.proofs.line.put_figure.Tie as tie
@@ -15,17 +11,20 @@ put-name-requires c κs = search needs
 
 put-decimal-requires : tie.Need-put-decimal-requires
 put-decimal-requires c κs =
-    let start = c .before .before .before .before .before .before .before .before in
-    let named = c .before .before .before .put-name .ensures in
-    let short : length (decimal (start .args .n)) ≤ 10 = decimal-short 9 (start .args .n) (omega (arith, start .fits .n)) in
+    let c1 = c .before .before .before in
+    let start = c1 .before .before .before .before .before in
+    let named = c1 .put-name .ensures in
+    let short = word-digits (start .args .n) (omega (arith, start .fits .n)) in
     omega (arith, start .pre, named .next, written-length named, length-name (start .args .name .now))
 
 put-source-requires : tie.Need-put-source-requires
 put-source-requires c κs =
-    let start = c .before .before .before .before .before .before .before .before .before .before .before .before in
-    let named = c .before .before .before .before .before .before .before .put-name .ensures in
-    let digits = c .before .before .before .put-decimal .ensures in
-    let short : length (decimal (start .args .n)) ≤ 10 = decimal-short 9 (start .args .n) (omega (arith, start .fits .n)) in
+    let c2 = c .before .before .before in
+    let c1 = c2 .before .before .before .before in
+    let start = c1 .before .before .before .before .before in
+    let named = c1 .put-name .ensures in
+    let digits = c2 .put-decimal .ensures in
+    let short = word-digits (start .args .n) (omega (arith, start .fits .n)) in
     omega (
       arith,
       start .pre,
@@ -41,9 +40,13 @@ same-length c = search needs
 
 returns : tie.Need-returns
 returns c =
-    let start = c .before .before .before .before .before .before .before .before .before .before .before .before .before .before .before in
-    let short : length (decimal (start .args .n)) ≤ 10 = decimal-short 9 (start .args .n) (omega (arith, start .fits .n)) in
-    one-line (start .args .name .now) (start .args .source .now) (c .before .before .before .before .before .before .before .before .before .before .put-name .ensures) (c .before .before .before .before .before .before .put-decimal .ensures) (c .before .before .put-source .ensures) (omega (arith, start .pre))
+    let c3 = c .before .before in
+    let c2 = c3 .before .before .before .before in
+    let c1 = c2 .before .before .before .before in
+    let start = c1 .before .before .before .before .before in
+    let short = word-digits (start .args .n) (omega (arith, start .fits .n)) in
+    one-line (start .args .name .now) (start .args .source .now)
+    (c1 .put-name .ensures) (c2 .put-decimal .ensures) (c3 .put-source .ensures) (omega (arith, start .pre))
 
 pub put-figure-spec : {M : Type 1} → statement M
 put-figure-spec =

@@ -19,7 +19,10 @@ same-length c = search needs
 
 returns : tie.Need-returns
 unfolding nameText
-returns c = written-then (c .before .before .before .before .before .before .before .put-bytes .ensures) (c .before .before .put-bytes2 .ensures)
+returns c =
+    let c2 = c .before .before in
+    let c1 = c2 .before .before .before .before .before in
+    written-then (c1 .put-bytes .ensures) (c2 .put-bytes2 .ensures)
 
 pub put-name-spec : {M : Type 1} → statement M
 put-name-spec =

@@ -26,8 +26,11 @@ same-length c = search needs
 returns : tie.Need-returns
 unfolding sourceText
 returns c =
-    written-then (c .before .before .before .before .before .before .before .before .before .before .before .put-bytes .ensures)
-    (written-then (c .before .before .before .before .before .before .before .put-bytes2 .ensures) (c .before .before .put-bytes3 .ensures))
+    let c3 = c .before .before in
+    let c2 = c3 .before .before .before .before .before in
+    let c1 = c2 .before .before .before .before in
+    written-then (c1 .put-bytes .ensures)
+    (written-then (c2 .put-bytes2 .ensures) (c3 .put-bytes3 .ensures))
 
 pub put-source-spec : {M : Type 1} → statement M
 put-source-spec =

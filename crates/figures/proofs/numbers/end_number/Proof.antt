@@ -20,7 +20,9 @@ count-one-requires c κs = search needs
 returns-2 : tie.Need-returns-2
 unfolding numberEnded
 returns-2 c =
-    simp (c .count-one .ensures, c .before .push .ensures) (sym (pick-true _ _ (not-false _ (c .before .before .if1 .left))))
+    let c2 = c .before in
+    let c1 = c2 .before in
+    simp (c .count-one .ensures, c2 .push .ensures) (sym (pick-true _ _ (not-false _ (c1 .if1 .left))))
 
 pub end-number-spec : {M : Type 1} → statement M
 end-number-spec = tie.close (tie.spec returns push-requires count-one-requires returns-2)

@@ -30,10 +30,24 @@ cast-result-2 : tie.Need-cast-result-2
 cast-result-2 c = search needs
 
 returns-2 : tie.Need-returns-2
-returns-2 c = rw (not-false (c .before .before .before .before .before .args .within) (c .before .before .before .if1 .left)) (omega (arith, c .before .before .before .before .digit-value .ensures, c .before .before .wide .ensures, c .before .wide2 .ensures, c .if2))
+returns-2 c =
+    let c4 = c .before in
+    let c3 = c4 .before in
+    let c2 = c3 .before in
+    let c1 = c2 .before in
+    let start = c1 .before in
+    rw (not-false (start .args .within) (c2 .if1 .left))
+    (omega (arith, c1 .digit-value .ensures, c3 .wide .ensures, c4 .wide2 .ensures, c .if2))
 
 returns-3 : tie.Need-returns-3
-returns-3 c = rw (not-false (c .before .before .before .before .before .args .within) (c .before .before .before .if1 .left)) (omega (arith, c .before .before .before .before .digit-value .ensures, c .before .before .wide .ensures, c .before .wide2 .ensures, c .if2))
+returns-3 c =
+    let c4 = c .before in
+    let c3 = c4 .before in
+    let c2 = c3 .before in
+    let c1 = c2 .before in
+    let start = c1 .before in
+    rw (not-false (start .args .within) (c2 .if1 .left))
+    (omega (arith, c1 .digit-value .ensures, c3 .wide .ensures, c4 .wide2 .ensures, c .if2))
 
 pub extend-spec : {M : Type 1} → statement M
 extend-spec =

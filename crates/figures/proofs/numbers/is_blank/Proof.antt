@@ -13,12 +13,18 @@ returns-2 : tie.Need-returns-2
 returns-2 c = simp (ne-eqb _ _ (c .before .if1 .left), eq-eqb _ _ (c .if2 .taken))
 
 returns-3 : tie.Need-returns-3
-returns-3 c = simp (ne-eqb _ _ (c .before .before .if1 .left), ne-eqb _ _ (c .before .if2 .left), eq-eqb _ _ (c .if3 .taken))
+returns-3 c =
+    let c2 = c .before in
+    let c1 = c2 .before in
+    simp (ne-eqb _ _ (c1 .if1 .left), ne-eqb _ _ (c2 .if2 .left), eq-eqb _ _ (c .if3 .taken))
 
 returns-4 : tie.Need-returns-4
 returns-4 c =
-    let b = c .before .before .before .args .b in
-    sym (ap₂ (λ (s t : Bool). s || t || eqb b 10 || eqb b 13) (ne-eqb b 32 (c .before .before .if1 .left)) (ne-eqb b 9 (c .before .if2 .left))
+    let c2 = c .before in
+    let c1 = c2 .before in
+    let start = c1 .before in
+    let b = start .args .b in
+    sym (ap₂ (λ (s t : Bool). s || t || eqb b 10 || eqb b 13) (ne-eqb b 32 (c1 .if1 .left)) (ne-eqb b 9 (c2 .if2 .left))
     ∙ ap (λ t. t || eqb b 13) (ne-eqb b 10 (c .if3 .left)))
 
 pub is-blank-spec : {M : Type 1} → statement M

@@ -12,21 +12,30 @@ scan-all-requires c κs = search needs
 
 returns : tie.Need-returns
 returns c =
-    let s = c .before .before .scan-all in
-    sym (scan-finds (c .before .before .before .before .args .text .now) ∙ ap outcome (sym (s .ensures)) ∙ pick-false _ _ (not-true _ (c .if1 .taken)))
+    let c1 = c .before .before in
+    let start = c1 .before .before in
+    let s = c1 .scan-all in
+    sym (scan-finds (start .args .text .now) ∙ ap outcome (sym (s .ensures)) ∙ pick-false _ _ (not-true _ (c .if1 .taken)))
 
 returns-2 : tie.Need-returns-2
 returns-2 c =
-    let s = c .before .before .before .before .before .scan-all in
+    let c3 = c .before in
+    let c2 = c3 .before .before in
+    let c1 = c2 .before .before in
+    let start = c1 .before .before in
+    let s = c1 .scan-all in
     sym
-    (scan-finds (c .before .before .before .before .before .before .before .args .text .now) ∙ ap outcome (sym (s .ensures)) ∙ pick-true _ _ (not-false _ (c .before .before .before .if1 .left))
-    ∙ pick-true _ _ (eq-eqb _ _ (c .before .if2 .taken)))
+    (scan-finds (start .args .text .now) ∙ ap outcome (sym (s .ensures)) ∙ pick-true _ _ (not-false _ (c2 .if1 .left))
+    ∙ pick-true _ _ (eq-eqb _ _ (c3 .if2 .taken)))
 
 returns-3 : tie.Need-returns-3
 returns-3 c =
-    let s = c .before .before .before .before .scan-all in
+    let c2 = c .before .before in
+    let c1 = c2 .before .before in
+    let start = c1 .before .before in
+    let s = c1 .scan-all in
     sym
-    (scan-finds (c .before .before .before .before .before .before .args .text .now) ∙ ap outcome (sym (s .ensures)) ∙ pick-true _ _ (not-false _ (c .before .before .if1 .left))
+    (scan-finds (start .args .text .now) ∙ ap outcome (sym (s .ensures)) ∙ pick-true _ _ (not-false _ (c2 .if1 .left))
     ∙ pick-false _ _ (ne-eqb _ _ (c .if2 .left)))
 
 pub read-spec : {M : Type 1} → statement M

@@ -34,8 +34,10 @@ loop-less c = search needs
 
 loop-again : tie.Need-loop-again Inv-loop μ-loop
 loop-again c =
-    let l = c .before .before .before .loop in
-    let text = c .before .before .before .before .before .args .text .now in
+    let c1 = c .before .before .before in
+    let start = c1 .before .before in
+    let l = c1 .loop in
+    let text = start .args .text .now in
     let left : drop (l .i) text ≡ _ = drop-cons text (l .i) 0 (search needs) in (
       search needs,
       ap₂ (λ t n. foldl stepped t (drop n text)) (c .step .ensures) (add-one (l .i)) ∙ sym (ap (foldl stepped (l .s)) left) ∙ l .inv .1,
