@@ -48,7 +48,7 @@ fn check_counts(n: Triple) -> Fault
 fn judge(request: Request) -> Fault
     ensures { λ f. ⌜ faultRefusal f ≡ sheetRefusal (requestNumbers request) ⌝ }
 {
-    let fault = circuit::check_sizes(request.r, request.c, request.x);
+    let fault = circuit::checks::check_sizes(request.r, request.c, request.x);
     match fault {
         Fault::Fine => check_counts(request.entries),
         Fault::Refused(number, position) => Fault::Refused(number, position),

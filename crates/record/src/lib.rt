@@ -8,5 +8,6 @@ mod writer;
 
 pub use reader::Reading;
 pub use reader::read;
+pub use reader::word_at;
 pub use sections::section;
 pub use writer::write;

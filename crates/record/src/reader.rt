@@ -39,7 +39,7 @@ fn wide(b: u8) -> u32
 }
 
 // Word i of the bytes.
-fn word_at(bytes: &[u8], i: usize) -> u32
+pub fn word_at(bytes: &[u8], i: usize) -> u32
     requires { ⌜ 4 * i + 4 ≤ length (now bytes) ⌝ }
     ensures { λ r. ⌜ r ≡ wordAt (now (bytes .entry)) i ⌝ }
 {

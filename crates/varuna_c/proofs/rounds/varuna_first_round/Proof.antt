@@ -3,7 +3,7 @@ use mathlib.Core.List.{List}
 use lib.ListN.{length}
 use Rattle.domain.specs.BabyBear.{babyBear}
 use Prim.Native.Nat.{ℕ}
-use Rattle.varuna.specs.Inputs.{proverInput}
+use Rattle.circuit.specs.Given.{proverInput}
 use Rattle.protocol.specs.Calls.{firstRoundCall}
 use Rattle.varuna_c.proofs.AnswerLaws.{filled-told}
 use borrow.Author.Needs.{needs}

@@ -3,7 +3,7 @@ use mathlib.Core.Path.{ap, ap₂, _∙_}
 use Rattle.domain.specs.BabyBear.{babyBear}
 use Rattle.protocol.specs.Three.{Three}
 use Prim.Native.Nat.{ℕ}
-use Rattle.varuna.specs.Inputs.{proverInput}
+use Rattle.circuit.specs.Given.{proverInput}
 use Rattle.protocol.specs.Refusals.{Outcome}
 use mathlib.Core.List.{List}
 use Rattle.protocol.specs.Calls.{openingsCall}

@@ -1,6 +1,6 @@
 -- `varuna_c::rounds::varuna_second_round` meets its contract. Assumes nothing.
 use Rattle.domain.specs.BabyBear.{babyBear}
-use Rattle.varuna.specs.Inputs.{proverInput}
+use Rattle.circuit.specs.Given.{proverInput}
 use Rattle.protocol.specs.Calls.{secondRoundCall}
 use Rattle.varuna_c.proofs.AnswerLaws.{three-told}
 use borrow.Author.Needs.{needs}
