@@ -1,4 +1,2 @@
-pub mod Ascii
 pub mod Decimal
 pub mod Buffer
-pub mod Written

@@ -1,0 +1,155 @@
+-- What program `prove` prints for a job's bytes (document 01, "The square case"). Bytes and ASCII codes are numbers. Assumes
+-- nothing.
+use mathlib.Core.List.{List, [], _∷_, _++_, map, foldr}
+use mathlib.Core.Option.{Option, none, some}
+use Prim.Native.Nat.{ℕ, _+_, _*_}
+use lib.Dec.{leb, ltb}
+use lib.ListN.{length, take, drop, getD}
+use Rattle.algebra.specs.Lists.{pick}
+use Rattle.field.specs.Prime.{Prime}
+use Rattle.field.specs.Element.{Elem, words}
+use Rattle.domain.specs.Size.{maxSize}
+use Rattle.protocol.specs.Checks.{Row, Line, Matrix, Verdict, Accept, Fails}
+use Rattle.protocol.specs.Refusals.{Refusal, first, sizeTests, sizeRefusal, listRefusal}
+use Rattle.protocol.specs.Calls.{entriesOf}
+use Rattle.protocol.specs.Record.{wordAt, wordsIn, sections}
+use Rattle.protocol.specs.Session.{Answer, Taken, Judged, Refused}
+use Rattle.protocol.specs.Job.{Job, jobRefusal, proof, honestConversation}
+use Rattle.text.specs.Decimal.{decimal}
+
+abbrev pub space : ℕ
+space = 32
+
+abbrev pub newline : ℕ
+newline = 10
+
+-- "Each line is a section name, then its words"
+unfoldable pub line : List ℕ → List ℕ → List ℕ
+line name ws = name ++ foldr (λ w rest. space ∷ (decimal w ++ rest)) (newline ∷ []) ws
+
+-- w, m, h0, s, g1, h1, o, ga, gb, gc, h2
+abbrev pub sectionNames : List (List ℕ)
+sectionNames =
+    (119 ∷ []) ∷ (109 ∷ []) ∷ (104 ∷ 48 ∷ []) ∷ (115 ∷ []) ∷ (103 ∷ 49 ∷ []) ∷ (104 ∷ 49 ∷ []) ∷ (111 ∷ [])
+    ∷ (103 ∷ 97 ∷ []) ∷ (103 ∷ 98 ∷ []) ∷ (103 ∷ 99 ∷ []) ∷ (104 ∷ 50 ∷ []) ∷ []
+
+-- a line for each name with the section at its place
+unfoldable pub lines : List (List ℕ) → List (List ℕ) → List ℕ
+lines [] parts = []
+lines (name ∷ names) [] = []
+lines (name ∷ names) (ws ∷ parts) = line name ws ++ lines names parts
+
+-- "refused", number, position
+unfoldable pub refusedText : Refusal → List ℕ
+refusedText r = line (114 ∷ 101 ∷ 102 ∷ 117 ∷ 115 ∷ 101 ∷ 100 ∷ []) (r .number ∷ r .position ∷ [])
+
+-- "job too long"
+abbrev pub tooLong : List ℕ
+tooLong = 106 ∷ 111 ∷ 98 ∷ 32 ∷ 116 ∷ 111 ∷ 111 ∷ 32 ∷ 108 ∷ 111 ∷ 110 ∷ 103 ∷ newline ∷ []
+
+-- "job too short"
+abbrev pub tooShort : List ℕ
+tooShort = 106 ∷ 111 ∷ 98 ∷ 32 ∷ 116 ∷ 111 ∷ 111 ∷ 32 ∷ 115 ∷ 104 ∷ 111 ∷ 114 ∷ 116 ∷ newline ∷ []
+
+-- "accept", "fails row", "fails line", "fails matrix"
+abbrev pub verdictName : Verdict → List ℕ
+verdictName Accept = 97 ∷ 99 ∷ 99 ∷ 101 ∷ 112 ∷ 116 ∷ []
+verdictName (Fails Row) = 102 ∷ 97 ∷ 105 ∷ 108 ∷ 115 ∷ 32 ∷ 114 ∷ 111 ∷ 119 ∷ []
+verdictName (Fails Line) = 102 ∷ 97 ∷ 105 ∷ 108 ∷ 115 ∷ 32 ∷ 108 ∷ 105 ∷ 110 ∷ 101 ∷ []
+verdictName (Fails Matrix) = 102 ∷ 97 ∷ 105 ∷ 108 ∷ 115 ∷ 32 ∷ 109 ∷ 97 ∷ 116 ∷ 114 ∷ 105 ∷ 120 ∷ []
+
+-- the last line: "verdict" and the session's last answer, or its refusal
+unfoldable pub answerText : Answer → List ℕ
+answerText Taken = []
+answerText (Judged v) = (118 ∷ 101 ∷ 114 ∷ 100 ∷ 105 ∷ 99 ∷ 116 ∷ space ∷ []) ++ (verdictName v ++ (newline ∷ []))
+answerText (Refused r) = refusedText r
+
+-- the refusal's text, or what follows where there is none
+abbrev pub unlessRefused : Option Refusal → List ℕ → List ℕ
+unlessRefused none text = text
+unlessRefused (some r) text = refusedText r
+
+-- "A job over 4,096 bytes"; the bytes of the sizes and counts
+abbrev pub maxBytes : ℕ
+maxBytes = 4096
+
+abbrev pub headBytes : ℕ
+headBytes = 24
+
+-- a job's words: "|R| |C| |X|; three entry counts; entries of A, B, C; z; r; m; α; η; β; δ; γ"
+module _ (ws : List ℕ) where
+  abbrev word : ℕ → ℕ
+  word i = getD ws i 0
+
+  -- so many words from a place on
+  abbrev part : ℕ → ℕ → List ℕ
+  part at count = take count (drop at ws)
+
+  -- the places of B's entries, C's entries, z, r, m and α
+  abbrev pub placeB : ℕ
+  placeB = 6 + 3 * word 3
+
+  abbrev pub placeC : ℕ
+  placeC = placeB + 3 * word 4
+
+  abbrev pub placeZ : ℕ
+  placeZ = placeC + 3 * word 5
+
+  abbrev pub placeR : ℕ
+  placeR = placeZ + word 1
+
+  abbrev pub placeM : ℕ
+  placeM = placeR + 1
+
+  abbrev pub placeα : ℕ
+  placeα = placeM + 2 * word 1
+
+  -- α, three η, β, three δ, γ are the last nine words
+  unfoldable pub jobLength : ℕ
+  jobLength = placeα + 9
+
+  unfoldable pub jobOf : Job
+  jobOf =
+      record {
+        circuit =
+          record {
+            R = word 0;
+            C = word 1;
+            X = word 2;
+            matrices =
+              record { a = entriesOf (part 6 (3 * word 3)); b = entriesOf (part placeB (3 * word 4)); c = entriesOf (part placeC (3 * word 5)) };
+          };
+        z = part placeZ (word 1);
+        r = word placeR;
+        m = part placeM (2 * word 1);
+        α = word placeα;
+        η = record { a = word (placeα + 1); b = word (placeα + 2); c = word (placeα + 3) };
+        β = word (placeα + 4);
+        δ = record { a = word (placeα + 5); b = word (placeα + 6); c = word (placeα + 7) };
+        γ = word (placeα + 8);
+      }
+
+  -- "sizes and counts are judged (4, 5)"
+  unfoldable pub headRefusal : Option Refusal
+  headRefusal =
+      first
+      (sizeRefusal (sizeTests (word 0) (word 1) (word 2) [])
+      ∷ listRefusal (leb (word 3) maxSize ∷ leb (word 4) maxSize ∷ leb (word 5) maxSize ∷ [])
+      ∷ [])
+
+module _ (q : Prime) where
+  -- the eleven sections and the verdict
+  unfoldable pub proofText : Job → List ℕ
+  proofText j = lines sectionNames (map words (sections (proof q j))) ++ answerText (getD (honestConversation q j) 6 Taken)
+
+  -- "A job over 4,096 bytes prints `job too long`, one that ends before its sizes and counts `job too short`; then sizes and counts are
+  -- judged (4, 5); then bytes left over print `job too long`, an unfinished job `job too short`"; then 6 to 10
+  unfoldable pub jobText : List ℕ → List ℕ
+  jobText bytes =
+      let ws : List ℕ = wordsIn bytes in
+      pick (ltb maxBytes (length bytes)) tooLong
+      (pick (ltb (length bytes) headBytes) tooShort
+      (unlessRefused (headRefusal ws)
+      (pick (ltb (4 * jobLength ws) (length bytes)) tooLong
+      (pick (ltb (length bytes) (4 * jobLength ws)) tooShort
+      (unlessRefused (jobRefusal q (jobOf ws)) (proofText (jobOf ws)))))))

@@ -1,0 +1,1 @@
+// A job's bytes to the text that program `prove` prints.
