@@ -41,7 +41,7 @@ fn fill_vanishing(p: u32, out: &mut [u32])
 }
 
 // Each step-th word of z, from the first on.
-fn public_words_into(step: usize, z: &[u32], out: &mut [u32])
+pub fn public_words_into(step: usize, z: &[u32], out: &mut [u32])
     requires { ⌜ (0 < step) × (length (now out) * step ≤ length (now z)) ⌝ }
     ensures { λ _. ⌜ now (out .exit) ≡ tabulate (length (now (out .entry))) (λ i. getD (now (z .entry)) (i * step) 0) ⌝ }
 {
