@@ -1,1 +1,3 @@
 pub mod JobText
+pub mod Printed
+pub mod Stages

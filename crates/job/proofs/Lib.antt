@@ -1,0 +1,6 @@
+pub mod PrintedLaws
+pub mod RoundLaws
+pub mod RoundResults
+pub mod Bounds
+pub mod JobLaws
+pub mod HeadLaws

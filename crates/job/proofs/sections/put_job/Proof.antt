@@ -1,0 +1,79 @@
+-- `job::sections::put_job` meets its contract. Assumes nothing.
+use mathlib.Core.Path.{sym, ap, _∙_}
+use mathlib.Core.List.{_++_}
+use Prim.Native.Nat.{_+_, _-_}
+use Rattle.protocol.specs.Calls.{ProverInput}
+use Rattle.protocol.specs.Meanings.{three}
+use Rattle.varuna.specs.Inputs.{proverInput}
+use mathlib.Core.List.{[], _∷_}
+use Rattle.domain.specs.BabyBear.{babyBear}
+use Rattle.protocol.specs.Three.{listed}
+use Rattle.protocol.specs.Calls.{roundRefusal, openingsCall}
+use Rattle.protocol.specs.Job.{proof, trueOpenings}
+use Rattle.varuna.specs.Answers.{openingsMeaning}
+use Rattle.text.proofs.WrittenLaws.{written-as}
+use Rattle.job.proofs.JobLaws.{done-free, refused-some, refused-text, free-text}
+use borrow.Author.Needs.{needs}
+use Rattle.job.proofs.sections.put_job.Statement.{statement}
+use Rattle.job.proofs.sections.put_job.Tie as tie
+
+openings-requires : tie.Need-openings-requires
+openings-requires c κs = search needs
+
+enum-known-opened : tie.Need-enum-known-opened
+enum-known-opened c = search needs
+
+put-refused-requires : tie.Need-put-refused-requires
+put-refused-requires c κs = search needs
+
+enum-known-opened-2 : tie.Need-enum-known-opened-2
+enum-known-opened-2 c = search needs
+
+put-proof-requires : tie.Need-put-proof-requires
+unfolding openingsCall
+put-proof-requires c κs =
+    let s = c .before .before .before .before .before .before .before .before .before .before .before in
+    let a = s .args in
+    let i : ProverInput = proverInput (a .r) (a .c) (a .x) (a .ea .now) (a .eb .now) (a .ec .now) (a .z .now) (a .mask) (a .m .now) in
+    let found = done-free (roundRefusal babyBear i [] [] (a .alpha ∷ (listed (three (a .eta)) ++ (a .beta ∷ (listed (three (a .delta)) ++ (a .gamma ∷ []))))) (a .alpha ∷ a .beta ∷ a .gamma ∷ [])) _ (sym (ap openingsMeaning (c .before .before .opened2 .given .1)) ∙ c .before .before .before .before .openings .ensures) in
+    (record { none-refused = found .0 }, search needs)
+
+same-length : tie.Need-same-length
+same-length c = search needs
+
+returns : tie.Need-returns
+unfolding openingsCall
+returns c =
+    let s = c .before .before .before .before .before .before .before .before .before .before .before .before .before .before in
+    let a = s .args in
+    let i : ProverInput = proverInput (a .r) (a .c) (a .x) (a .ea .now) (a .eb .now) (a .ec .now) (a .z .now) (a .mask) (a .m .now) in
+    let found = refused-some (roundRefusal babyBear i [] [] (a .alpha ∷ (listed (three (a .eta)) ++ (a .beta ∷ (listed (three (a .delta)) ++ (a .gamma ∷ []))))) (a .alpha ∷ a .beta ∷ a .gamma ∷ [])) _ (sym (ap openingsMeaning (c .before .before .before .before .before .opened .given .1)) ∙ c .before .before .before .before .before .before .before .openings .ensures) in
+    written-as (refused-text i (a .alpha) (three (a .eta)) (a .beta) (three (a .delta)) (a .gamma) (s .pre .0) found) (c .before .before .put-refused .ensures .written)
+
+same-length-2 : tie.Need-same-length-2
+same-length-2 c = search needs
+
+returns-2 : tie.Need-returns-2
+unfolding openingsCall trueOpenings proof
+returns-2 c =
+    let s = c .before .before .before .before .before .before .before .before .before .before .before .before .before .before in
+    let a = s .args in
+    let i : ProverInput = proverInput (a .r) (a .c) (a .x) (a .ea .now) (a .eb .now) (a .ec .now) (a .z .now) (a .mask) (a .m .now) in
+    let found = done-free (roundRefusal babyBear i [] [] (a .alpha ∷ (listed (three (a .eta)) ++ (a .beta ∷ (listed (three (a .delta)) ++ (a .gamma ∷ []))))) (a .alpha ∷ a .beta ∷ a .gamma ∷ [])) _ (sym (ap openingsMeaning (c .before .before .before .before .before .opened2 .given .1)) ∙ c .before .before .before .before .before .before .before .openings .ensures) in
+    written-as
+    (free-text i (a .alpha) (three (a .eta)) (a .beta) (three (a .delta)) (a .gamma) (s .pre .0) _ _ (record { none-refused = found .0 }) (found .1))
+    (c .before .before .put-proof .ensures .written)
+
+pub put-job-spec : {M : Type 1} → statement M
+put-job-spec =
+    tie.close
+    (tie.spec
+    openings-requires
+    enum-known-opened
+    put-refused-requires
+    enum-known-opened-2
+    put-proof-requires
+    same-length
+    returns
+    same-length-2
+    returns-2)
