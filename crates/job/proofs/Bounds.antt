@@ -12,8 +12,9 @@ use Rattle.protocol.specs.Circuit.{sizesOf, largest}
 use Rattle.protocol.specs.Messages.{lengths}
 use Rattle.protocol.specs.Calls.{ProverInput, entriesOf, circuitOf}
 use Rattle.circuit.proofs.Parts.{larger-is-size}
-use Rattle.varuna.specs.Inputs.{Fits}
-use Rattle.varuna.proofs.CallRounds.{round-fits, R-fits, C-fits, witness-bound}
+use Rattle.circuit.specs.Given.{Fits}
+use Rattle.circuit.proofs.Fitting.{round-fits, R-fits, C-fits}
+use Rattle.prover.proofs.CallLaws.{witness-bound}
 use Rattle.job.specs.Stages.{Free, due}
 
 pub size-most : (n : ℕ) → sizeFor n ≤ 1024
@@ -24,7 +25,8 @@ one-less m n h = omega arith
 
 module _ (i : ProverInput) {ws points : List ℕ} (free : Free i ws points) where
   pub fitting :
-      Fits babyBear (i .circuit .R) (i .circuit .C) (i .circuit .X) (i .circuit .matrices .a) (i .circuit .matrices .b) (i .circuit .matrices .c) (i .z) (i .m)
+      Fits (babyBear .p) (i .circuit .R) (i .circuit .C) (i .circuit .X) (i .circuit .matrices .a) (i .circuit .matrices .b) (i .circuit .matrices .c) (i .z)
+      (i .m)
   fitting =
       round-fits (i .circuit .R) (i .circuit .C) (i .circuit .X) (i .circuit .matrices .a) (i .circuit .matrices .b) (i .circuit .matrices .c)
       babyBear (i .z) (i .m) (i .r) [] [] ws points (free .none-refused) .fits

@@ -21,7 +21,8 @@ use Rattle.protocol.specs.Record.{wordsIn}
 use Rattle.protocol.proofs.RefusalLaws.{first-none, refuse-none}
 use Rattle.circuit.specs.Given.{given}
 use Rattle.circuit.proofs.Entries.{length-entriesOf}
-use Rattle.varuna.specs.Inputs.{proverInput, threeOf}
+use Rattle.circuit.specs.Given.{proverInput}
+use Rattle.varuna.specs.Inputs.{threeOf}
 use Rattle.job.specs.JobText.{maxBytes, headBytes, tooLong, tooShort, refusedText, unlessRefused, headRefusal, jobLength, jobOf, jobText, placeB, placeC, placeZ, placeR, placeM, placeα}
 use Rattle.job.specs.Stages.{jobGiven, jobGivenText, wordsText}
 

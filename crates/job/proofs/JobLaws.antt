@@ -31,7 +31,8 @@ use Rattle.protocol.specs.declared.Opened.{Opened}
 use Rattle.protocol.proofs.AdmissionLaws.{job-fits}
 use Rattle.protocol.proofs.Honest.{rules-kept}
 use Rattle.varuna.specs.declared.answers.IndexesOpened.{IndexesOpened}
-use Rattle.varuna.specs.Answers.{messageList, indexesList}
+use Rattle.prover.specs.CallGiven.{messageList}
+use Rattle.varuna.specs.Answers.{indexesList}
 use Rattle.prover.proofs.WitnessLaws.{public-words}
 use Rattle.job.specs.JobText.{lines, answerText, proofText, unlessRefused, refusedText}
 use Rattle.job.specs.Stages.{Free, section, publicOf, lastAnswer, afterSums, afterValues, answerAfter, firstText, sumWords, thirdText, valueWords, remainderWords, remaindersText, fifthText, restText, stagesText, openedMeaning, jobGiven, jobGivenText}

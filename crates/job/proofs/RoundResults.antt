@@ -12,7 +12,7 @@ use Rattle.protocol.specs.Calls.{ProverInput, firstRoundCall, secondRoundCall, 
 use Rattle.varuna.specs.declared.answers.Filled.{Filled}
 use Rattle.varuna.specs.declared.answers.ThreeWords.{ThreeWords}
 use Rattle.varuna.specs.Answers.{Filling, filling, fills, fillsThree, threeAnswer}
-use Rattle.varuna.specs.Inputs.{circuitIn, witnessIn, assignmentIn, lineIn}
+use Rattle.prover.specs.CallGiven.{circuitIn, witnessIn, assignmentIn, lineIn}
 use Rattle.job.specs.Stages.{Free, due, sumWords, valueWords, remainderWords, threeOrZeros}
 use Rattle.job.proofs.RoundLaws.{lent-free}
 

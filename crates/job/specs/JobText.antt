@@ -15,6 +15,7 @@ use Rattle.protocol.specs.Calls.{entriesOf}
 use Rattle.protocol.specs.Record.{wordAt, wordsIn, sections}
 use Rattle.protocol.specs.Session.{Answer, Taken, Judged, Refused}
 use Rattle.protocol.specs.Job.{Job, jobRefusal, proof, honestConversation}
+use Rattle.text.specs.Ascii.{ascii}
 use Rattle.text.specs.Decimal.{decimal}
 
 abbrev pub space : ℕ
@@ -27,11 +28,8 @@ newline = 10
 unfoldable pub line : List ℕ → List ℕ → List ℕ
 line name ws = name ++ foldr (λ w rest. space ∷ (decimal w ++ rest)) (newline ∷ []) ws
 
--- w, m, h0, s, g1, h1, o, ga, gb, gc, h2
 abbrev pub sectionNames : List (List ℕ)
-sectionNames =
-    (119 ∷ []) ∷ (109 ∷ []) ∷ (104 ∷ 48 ∷ []) ∷ (115 ∷ []) ∷ (103 ∷ 49 ∷ []) ∷ (104 ∷ 49 ∷ []) ∷ (111 ∷ [])
-    ∷ (103 ∷ 97 ∷ []) ∷ (103 ∷ 98 ∷ []) ∷ (103 ∷ 99 ∷ []) ∷ (104 ∷ 50 ∷ []) ∷ []
+sectionNames = map ascii ("w" ∷ "m" ∷ "h0" ∷ "s" ∷ "g1" ∷ "h1" ∷ "o" ∷ "ga" ∷ "gb" ∷ "gc" ∷ "h2" ∷ [])
 
 -- a line for each name with the section at its place
 unfoldable pub lines : List (List ℕ) → List (List ℕ) → List ℕ
@@ -41,27 +39,24 @@ lines (name ∷ names) (ws ∷ parts) = line name ws ++ lines names parts
 
 -- "refused", number, position
 unfoldable pub refusedText : Refusal → List ℕ
-refusedText r = line (114 ∷ 101 ∷ 102 ∷ 117 ∷ 115 ∷ 101 ∷ 100 ∷ []) (r .number ∷ r .position ∷ [])
+refusedText r = line (ascii "refused") (r .number ∷ r .position ∷ [])
 
--- "job too long"
 abbrev pub tooLong : List ℕ
-tooLong = 106 ∷ 111 ∷ 98 ∷ 32 ∷ 116 ∷ 111 ∷ 111 ∷ 32 ∷ 108 ∷ 111 ∷ 110 ∷ 103 ∷ newline ∷ []
+tooLong = ascii "job too long\n"
 
--- "job too short"
 abbrev pub tooShort : List ℕ
-tooShort = 106 ∷ 111 ∷ 98 ∷ 32 ∷ 116 ∷ 111 ∷ 111 ∷ 32 ∷ 115 ∷ 104 ∷ 111 ∷ 114 ∷ 116 ∷ newline ∷ []
+tooShort = ascii "job too short\n"
 
--- "accept", "fails row", "fails line", "fails matrix"
 abbrev pub verdictName : Verdict → List ℕ
-verdictName Accept = 97 ∷ 99 ∷ 99 ∷ 101 ∷ 112 ∷ 116 ∷ []
-verdictName (Fails Row) = 102 ∷ 97 ∷ 105 ∷ 108 ∷ 115 ∷ 32 ∷ 114 ∷ 111 ∷ 119 ∷ []
-verdictName (Fails Line) = 102 ∷ 97 ∷ 105 ∷ 108 ∷ 115 ∷ 32 ∷ 108 ∷ 105 ∷ 110 ∷ 101 ∷ []
-verdictName (Fails Matrix) = 102 ∷ 97 ∷ 105 ∷ 108 ∷ 115 ∷ 32 ∷ 109 ∷ 97 ∷ 116 ∷ 114 ∷ 105 ∷ 120 ∷ []
+verdictName Accept = ascii "accept"
+verdictName (Fails Row) = ascii "fails row"
+verdictName (Fails Line) = ascii "fails line"
+verdictName (Fails Matrix) = ascii "fails matrix"
 
 -- the last line: "verdict" and the session's last answer, or its refusal
 unfoldable pub answerText : Answer → List ℕ
 answerText Taken = []
-answerText (Judged v) = (118 ∷ 101 ∷ 114 ∷ 100 ∷ 105 ∷ 99 ∷ 116 ∷ space ∷ []) ++ (verdictName v ++ (newline ∷ []))
+answerText (Judged v) = ascii "verdict " ++ (verdictName v ++ (newline ∷ []))
 answerText (Refused r) = refusedText r
 
 -- the refusal's text, or what follows where there is none
@@ -112,13 +107,13 @@ module _ (ws : List ℕ) where
   jobOf =
       record {
         circuit =
-          record {
-            R = word 0;
-            C = word 1;
-            X = word 2;
-            matrices =
-              record { a = entriesOf (part 6 (3 * word 3)); b = entriesOf (part placeB (3 * word 4)); c = entriesOf (part placeC (3 * word 5)) };
-          };
+            record {
+              R = word 0;
+              C = word 1;
+              X = word 2;
+              matrices =
+                  record { a = entriesOf (part 6 (3 * word 3)); b = entriesOf (part placeB (3 * word 4)); c = entriesOf (part placeC (3 * word 5)) };
+            };
         z = part placeZ (word 1);
         r = word placeR;
         m = part placeM (2 * word 1);

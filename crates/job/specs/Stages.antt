@@ -19,10 +19,10 @@ use Rattle.protocol.specs.Job.{Job, jobRefusal}
 use Rattle.protocol.specs.Meanings.{three, openings}
 use Rattle.protocol.specs.declared.Opened.{Opened}
 use Rattle.varuna.specs.declared.answers.IndexesOpened.{IndexesOpened}
-use Rattle.varuna.specs.Answers.{indexList}
+use Rattle.prover.specs.CallGiven.{indexList}
 use Rattle.varuna.specs.declared.answers.ThreeWords.{ThreeWords}
 use Rattle.varuna.specs.declared.answers.ThreeWords.the-variants as three-words
-use Rattle.varuna.specs.Inputs.{circuitIn, witnessIn, assignmentIn, lineIn}
+use Rattle.prover.specs.CallGiven.{circuitIn, witnessIn, assignmentIn, lineIn}
 use Rattle.job.specs.JobText.{line, sectionNames, answerText, unlessRefused, proofText, tooLong, tooShort, headRefusal, jobLength, jobOf}
 
 -- the line of section k

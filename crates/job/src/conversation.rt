@@ -1,18 +1,15 @@
 // The verifier's session on messages of the lengths of the table.
 ghost use mathlib.Core.Path.{_≡_};
-ghost use mathlib.Core.List.{[], _∷_};
-ghost use Prim.Native.Nat.{_-_, _≤_, max};
+ghost use Prim.Native.Nat.{_-_, _≤_};
 ghost use Rattle.domain.specs.Size.{maxSize};
 ghost use Rattle.protocol.specs.Meanings.{three, sizes};
 ghost use Rattle.protocol.specs.Meanings as meanings;
-ghost use Rattle.varuna.specs.Answers.{indexList};
 ghost use Rattle.varuna.specs.Session.{sessionMeaning, lastMeaning};
 ghost use Rattle.job.specs.Stages.{afterSums, afterValues, answerAfter, lastAnswer};
 use protocol::Opened;
 use protocol::Sizes;
 use protocol::Triple;
-use varuna::answers::IndexOpened;
-use varuna::answers::IndexesOpened;
+use protocol::six_sizes::largest;
 use varuna::session::LastAnswer;
 use varuna::session::Session;
 
@@ -21,25 +18,6 @@ pub fn less(a: u32, b: u32) -> u32
     ensures { λ r. ⌜ r ≡ a - b ⌝ }
 {
     if b <= a { a - b } else { 0 }
-}
-
-pub fn larger(a: u32, b: u32) -> u32
-    ensures { λ r. ⌜ r ≡ max a b ⌝ }
-{
-    if a <= b { b } else { a }
-}
-
-fn index_words(i: IndexOpened) -> [u32; 4]
-    ensures { λ r. ⌜ r ≡ indexList i ⌝ }
-{
-    [i.row, i.col, i.rowcol, i.rowcolval]
-}
-
-// The openings of the index polynomials, an array for each matrix.
-pub fn index_array(i: IndexesOpened) -> [[u32; 4]; 3]
-    ensures { λ r. ⌜ r ≡ indexList (i .a) ∷ indexList (i .b) ∷ indexList (i .c) ∷ [] ⌝ }
-{
-    [index_words(i.a), index_words(i.b), index_words(i.c)]
 }
 
 // The session after the σ and η.
@@ -78,8 +56,7 @@ fn answer_after(
 ) -> LastAnswer
     ensures { λ r. ⌜ lastMeaning r ≡ answerAfter (sessionMeaning before) (sizes s) gamma (meanings.openings o index) ⌝ }
 {
-    let k = s.k;
-    let most = larger(k.a, larger(k.b, k.c));
+    let most = largest(s.k);
     let last = before.gamma(less(most, 1), gamma).session;
     last.openings(o, index).answer
 }

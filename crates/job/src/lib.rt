@@ -20,7 +20,7 @@ mod lines;
 mod messages;
 mod sections;
 
-use circuit::check_sizes;
+use circuit::checks::check_sizes;
 use protocol::Fault;
 use protocol::Triple;
 use record::word_at;

@@ -1,28 +1,19 @@
 // Sizes and words of a job that is not refused, by the public calls of the prover's rounds.
 ghost use mathlib.Core.Path.{_≡_};
 ghost use mathlib.Core.List.{[], _∷_, _++_};
-ghost use Prim.Native.Nat.{_*_, _≤_};
 ghost use lib.ListN.{length};
-ghost use Rattle.domain.specs.Size.{maxSize, sizeFor};
 ghost use Rattle.protocol.specs.Three.{listed};
 ghost use Rattle.protocol.specs.Circuit.{sizesOf};
-ghost use Rattle.protocol.specs.Calls.{entriesOf, circuitOf};
+ghost use Rattle.protocol.specs.Calls.{circuitOf};
 ghost use Rattle.protocol.specs.Meanings.{three, sizes as sizesMeaning};
-ghost use Rattle.circuit.specs.Given.{given, ThreeLists};
-ghost use Rattle.varuna.specs.Inputs.{proverInput, threeOf};
+ghost use Rattle.circuit.specs.Given.{given, proverInput, ThreeLists};
+ghost use Rattle.varuna.specs.Inputs.{threeOf};
 ghost use Rattle.job.specs.Stages.{Free, due, sumWords, valueWords, remainderWords, threeOrZeros};
+use circuit::matrices::size_of;
 use protocol::Sizes;
 use protocol::Triple;
 use varuna::answers::ThreeWords;
 use varuna::rounds;
-
-// |K_M|.
-fn matrix_size(entries: &[u32]) -> u32
-    requires { ⌜ length (now entries) ≤ 3 * maxSize ⌝ }
-    ensures { λ n. ⌜ n ≡ sizeFor (length (entriesOf (now (entries .entry)))) ⌝ }
-{
-    domain::size_for((entries.len() / 3) as u32)
-}
 
 pub fn sizes_of(r: u32, c: u32, x: u32, ea: &[u32], eb: &[u32], ec: &[u32]) -> Sizes
     requires { ⌜ ThreeLists (now ea) (now eb) (now ec) ⌝ }
@@ -33,9 +24,9 @@ pub fn sizes_of(r: u32, c: u32, x: u32, ea: &[u32], eb: &[u32], ec: &[u32]) -> S
         c,
         x,
         k: Triple {
-            a: matrix_size(ea),
-            b: matrix_size(eb),
-            c: matrix_size(ec),
+            a: size_of(ea),
+            b: size_of(eb),
+            c: size_of(ec),
         },
     }
 }

@@ -10,14 +10,12 @@ ghost use Rattle.protocol.specs.Circuit.{sizesOf, largest};
 ghost use Rattle.protocol.specs.Admission.{countTests};
 ghost use Rattle.protocol.specs.Calls.{circuitOf, entryListTests};
 ghost use Rattle.protocol.specs.Meanings.{three, sizes};
-ghost use Rattle.circuit.specs.Given.{given};
-ghost use Rattle.varuna.specs.Inputs.{proverInput, threeOf};
+ghost use Rattle.circuit.specs.Given.{given, proverInput};
+ghost use Rattle.varuna.specs.Inputs.{threeOf};
 ghost use Rattle.text.specs.Written.{Written};
 ghost use Rattle.job.specs.JobText.{answerText};
 ghost use Rattle.job.specs.Printed.{Printed};
 ghost use Rattle.job.specs.Stages.{Free, due, firstText, thirdText, fifthText, remaindersText, restText, stagesText, lastAnswer, publicOf, openedMeaning, jobGiven, jobGivenText, mostLine, mostLast, mostRest, mostProof};
-use crate::conversation::index_array;
-use crate::conversation::larger;
 use crate::conversation::last_answer;
 use crate::conversation::less;
 use crate::lines::put_answer;
@@ -340,7 +338,7 @@ fn put_last(
         delta,
         gamma,
         o,
-        index_array(i),
+        i.arrays(),
     );
     put_answer(answer, out, at)
 }
@@ -403,7 +401,7 @@ fn put_fourth_round(
     let named = put_three(b"o", values, out, at);
     let next = put_remainders(ga, gb, gc, out, named);
     let k = s.k;
-    let most = larger(k.a, larger(k.b, k.c));
+    let most = protocol::six_sizes::largest(k);
     let last = put_fifth(
         r,
         c,

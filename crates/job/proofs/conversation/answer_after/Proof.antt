@@ -1,22 +1,19 @@
 -- `job::conversation::answer_after` meets its contract. Assumes nothing.
 use mathlib.Core.Path.{_≡_, ap, _∙_}
-use Prim.Native.Nat.{ℕ, _-_, max}
+use Prim.Native.Nat.{ℕ, _-_}
 use Rattle.domain.specs.BabyBear.{babyBear}
 use Rattle.protocol.specs.Circuit.{largest}
 use Rattle.protocol.specs.Messages.{lengths}
 use Rattle.protocol.specs.Session.{Stepped, gammaStep, openingsStep}
-use Rattle.protocol.specs.Meanings.{openings}
+use Rattle.protocol.specs.Meanings.{three, openings}
 use Rattle.varuna.specs.Session.{sessionMeaning}
 use Rattle.job.specs.Stages.{answerAfter}
 use borrow.Author.Needs.{needs}
 use Rattle.job.proofs.conversation.answer_after.Statement.{statement}
 use Rattle.job.proofs.conversation.answer_after.Tie as tie
 
-larger-requires : tie.Need-larger-requires
-larger-requires c κs = search needs
-
-larger-requires-2 : tie.Need-larger-requires-2
-larger-requires-2 c κs = search needs
+largest-requires : tie.Need-largest-requires
+largest-requires c κs = search needs
 
 less-requires : tie.Need-less-requires
 less-requires c κs = search needs
@@ -28,12 +25,11 @@ openings-requires : tie.Need-openings-requires
 openings-requires c κs = search needs
 
 returns : tie.Need-returns
-unfolding answerAfter lengths largest
+unfolding answerAfter lengths
 returns c =
-    let a = c .before .before .before .before .before .before .before .args in
-    let k = a .s .k in
-    let most : c .before .before .before .less .result ≡ max (k .a) (max (k .b) (k .c)) - 1 =
-    c .before .before .before .less .ensures ∙ ap (λ (n : ℕ). n - 1) (c .before .before .before .before .larger2 .ensures ∙ ap (max (k .a)) (c .before .before .before .before .before .larger .ensures)) in
+    let a = c .before .before .before .before .before .args in
+    let most : c .before .before .before .less .result ≡ largest (three (a .s .k)) - 1 =
+    c .before .before .before .less .ensures ∙ ap (λ (n : ℕ). n - 1) (c .before .before .before .before .largest .ensures) in
     let last = ap (λ (s : Stepped). s .session) (c .before .before .gamma .ensures ∙ ap (λ n. gammaStep babyBear (sessionMeaning (a .before)) n (a .gamma)) most) in
     ap (λ (s : Stepped). s .answer) (c .openings .ensures ∙ ap (λ s. openingsStep babyBear s (openings (a .o) (a .index))) last)
 
@@ -41,8 +37,7 @@ pub answer-after-spec : {M : Type 1} → statement M
 answer-after-spec =
     tie.close
     (tie.spec
-    larger-requires
-    larger-requires-2
+    largest-requires
     less-requires
     gamma-requires
     openings-requires

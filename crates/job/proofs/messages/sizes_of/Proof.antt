@@ -5,14 +5,14 @@ use borrow.Author.Needs.{needs}
 use Rattle.job.proofs.messages.sizes_of.Statement.{statement}
 use Rattle.job.proofs.messages.sizes_of.Tie as tie
 
-matrix-size-requires : tie.Need-matrix-size-requires
-matrix-size-requires c κs = search needs
+size-of-requires : tie.Need-size-of-requires
+size-of-requires c κs = search needs
 
-matrix-size-requires-2 : tie.Need-matrix-size-requires-2
-matrix-size-requires-2 c κs = search needs
+size-of-requires-2 : tie.Need-size-of-requires-2
+size-of-requires-2 c κs = search needs
 
-matrix-size-requires-3 : tie.Need-matrix-size-requires-3
-matrix-size-requires-3 c κs = search needs
+size-of-requires-3 : tie.Need-size-of-requires-3
+size-of-requires-3 c κs = search needs
 
 returns : tie.Need-returns
 unfolding sizesOf circuitOf
@@ -23,9 +23,9 @@ returns c =
       R = a .r;
       C = a .c;
       X = a .x;
-      K = record { a = c .before .before .matrix-size .ensures t; b = c .before .matrix-size2 .ensures t; c = c .matrix-size3 .ensures t };
+      K = record { a = c .before .before .size-of .ensures t; b = c .before .size-of2 .ensures t; c = c .size-of3 .ensures t };
     }
 
 pub sizes-of-spec : {M : Type 1} → statement M
 sizes-of-spec =
-    tie.close (tie.spec matrix-size-requires matrix-size-requires-2 matrix-size-requires-3 returns)
+    tie.close (tie.spec size-of-requires size-of-requires-2 size-of-requires-3 returns)

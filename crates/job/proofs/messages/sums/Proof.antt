@@ -1,7 +1,7 @@
 -- `job::messages::sums` meets its contract. Assumes nothing.
 use mathlib.Core.Path.{_∙_}
 use Rattle.protocol.specs.Calls.{ProverInput}
-use Rattle.varuna.specs.Inputs.{proverInput}
+use Rattle.circuit.specs.Given.{proverInput}
 use Rattle.job.proofs.RoundResults.{second-done}
 use borrow.Author.Needs.{needs}
 use Rattle.job.proofs.messages.sums.Statement.{statement}

@@ -2,7 +2,8 @@
 use mathlib.Core.Path.{_∙_}
 use Rattle.protocol.specs.Calls.{ProverInput}
 use Rattle.protocol.specs.Meanings.{three}
-use Rattle.varuna.specs.Inputs.{proverInput, threeOf}
+use Rattle.circuit.specs.Given.{proverInput}
+use Rattle.varuna.specs.Inputs.{threeOf}
 use Rattle.job.proofs.RoundResults.{fourth-done}
 use borrow.Author.Needs.{needs}
 use Rattle.job.proofs.messages.values_into.Statement.{statement}

@@ -4,7 +4,7 @@ use Prim.Native.Nat.{_-_}
 use native.Mathlib.Omega.{arith}
 use Rattle.protocol.specs.Calls.{ProverInput}
 use Rattle.protocol.specs.Meanings.{three}
-use Rattle.varuna.specs.Inputs.{proverInput}
+use Rattle.circuit.specs.Given.{proverInput}
 use Rattle.job.proofs.PrintedLaws.{printed-within, printed-as}
 use Rattle.job.specs.Stages.{section, fifthText}
 use Rattle.job.proofs.Bounds.{due-joined}

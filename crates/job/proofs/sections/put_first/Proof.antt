@@ -3,7 +3,7 @@ use mathlib.Core.Path.{sym, ap, _∙_}
 use Prim.Native.Nat.{ℕ, _+_, _-_, _≤_}
 use native.Mathlib.Omega.{arith}
 use Rattle.protocol.specs.Calls.{ProverInput}
-use Rattle.varuna.specs.Inputs.{proverInput}
+use Rattle.circuit.specs.Given.{proverInput}
 use Rattle.prover.proofs.WitnessParts.{part-length}
 use Rattle.protocol.specs.Calls.{circuitOf}
 use Rattle.protocol.specs.Circuit.{sizesOf}

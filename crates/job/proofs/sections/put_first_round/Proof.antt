@@ -3,7 +3,7 @@ use mathlib.Core.List.{_++_}
 use Prim.Native.Nat.{_+_, _-_}
 use native.Mathlib.Omega.{arith}
 use Rattle.protocol.specs.Calls.{ProverInput}
-use Rattle.varuna.specs.Inputs.{proverInput}
+use Rattle.circuit.specs.Given.{proverInput}
 use Rattle.job.proofs.PrintedLaws.{printed-then, printed-within, printed-as, printed-place, printed-length}
 use Rattle.job.specs.Stages.{section, firstText}
 use Rattle.job.proofs.Bounds.{mask-most, due-witness, due-row}

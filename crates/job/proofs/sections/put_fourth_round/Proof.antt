@@ -5,16 +5,15 @@ use Prim.Native.Nat.{_+_, _-_}
 use native.Mathlib.Omega.{arith}
 use Rattle.protocol.specs.Calls.{ProverInput}
 use Rattle.protocol.specs.Meanings.{three}
-use Rattle.varuna.specs.Inputs.{proverInput}
+use Rattle.circuit.specs.Given.{proverInput}
 use Rattle.job.proofs.PrintedLaws.{printed-then, printed-within, printed-as, printed-place, printed-length}
-use Prim.Native.Nat.{max}
 use lib.ListN.{length}
 use Rattle.domain.specs.Size.{isSize}
 use Rattle.protocol.specs.Three.{listed}
 use Rattle.protocol.specs.Circuit.{Sizes, sizesOf, largest}
 use Rattle.protocol.specs.Calls.{circuitOf}
 use Rattle.varuna.specs.Inputs.{threeOf}
-use Rattle.varuna.proofs.CallRounds.{C-fits, X-fits, X-below}
+use Rattle.circuit.proofs.Fitting.{C-fits, X-fits, X-below}
 use Rattle.job.specs.JobText.{answerText}
 use Rattle.job.specs.Stages.{section, publicOf, lastAnswer, remaindersText, fifthText, restText, openedMeaning}
 use Rattle.job.proofs.Bounds.{fitting, due-matrices}
@@ -50,23 +49,19 @@ put-remainders-requires c κs =
       omega (arith, s .pre .1 .1 .1, printed-place o, printed-length o),
     )
 
-larger-requires : tie.Need-larger-requires
-larger-requires c κs = search needs
-
-larger-requires-2 : tie.Need-larger-requires-2
-larger-requires-2 c κs = search needs
+largest-requires : tie.Need-largest-requires
+largest-requires c κs = search needs
 
 put-fifth-requires : tie.Need-put-fifth-requires
-unfolding largest
 put-fifth-requires c κs =
-    let s = c .before .before .before .before .before .before .before .before .before .before .before .before .before .before .before .before .before .before .before .before .before .before .before .before .before .before .before .before .before .before .before .before .before .before .before in
+    let s = c .before .before .before .before .before .before .before .before .before .before .before .before .before .before .before .before .before .before .before .before .before .before .before .before .before .before .before .before .before .before .before .before .before .before in
     let a = s .args in
     let i : ProverInput = proverInput (a .r) (a .c) (a .x) (a .ea .now) (a .eb .now) (a .ec .now) (a .z .now) (a .mask) (a .m .now) in
-    let o = c .before .before .before .before .before .before .before .before .before .before .before .before .before .put-three .ensures in
-    let g = c .before .before .before .before .before .before .put-remainders .ensures in (
+    let o = c .before .before .before .before .before .before .before .before .before .before .before .before .put-three .ensures in
+    let g = c .before .before .before .before .before .put-remainders .ensures in (
       fifth-free i {α = a .alpha} {η = three (a .eta)} {β = a .beta} {δ = three (a .delta)} {γ = a .gamma} (s .pre .0),
       (
-        c .before .larger2 .ensures ∙ ap (max (a .s .k .a)) (c .before .before .larger .ensures) ∙ ap (λ (s : Sizes). largest (s .K)) (s .pre .1 .0),
+        c .before .largest .ensures ∙ ap (λ (s : Sizes). largest (s .K)) (s .pre .1 .0),
         omega (arith, s .pre .1 .1 .1, printed-place o, printed-length o, printed-place g, printed-length g),
       ),
     )
@@ -74,11 +69,11 @@ put-fifth-requires c κs =
 put-last-requires : tie.Need-put-last-requires
 unfolding sizesOf circuitOf
 put-last-requires c κs =
-    let s = c .before .before .before .before .before .before .before .before .before .before .before .before .before .before .before .before .before .before .before .before .before .before .before .before .before .before .before .before .before .before .before .before .before .before .before .before .before .before .before in
+    let s = c .before .before .before .before .before .before .before .before .before .before .before .before .before .before .before .before .before .before .before .before .before .before .before .before .before .before .before .before .before .before .before .before .before .before .before .before .before .before in
     let a = s .args in
     let i : ProverInput = proverInput (a .r) (a .c) (a .x) (a .ea .now) (a .eb .now) (a .ec .now) (a .z .now) (a .mask) (a .m .now) in
-    let o = c .before .before .before .before .before .before .before .before .before .before .before .before .before .before .before .before .before .put-three .ensures in
-    let g = c .before .before .before .before .before .before .before .before .before .before .put-remainders .ensures in
+    let o = c .before .before .before .before .before .before .before .before .before .before .before .before .before .before .before .before .put-three .ensures in
+    let g = c .before .before .before .before .before .before .before .before .before .put-remainders .ensures in
     let h = c .before .before .before .put-fifth .ensures in
     let F = fitting i (s .pre .0) in
     let columns : a .s .c ≡ a .c = ap (λ (s : Sizes). s .C) (s .pre .1 .0) in
@@ -97,13 +92,13 @@ put-last-requires c κs =
     )
 
 same-length : tie.Need-same-length
-same-length c = c .before .before .before .before .before .before .before .before .before .before .before .before .before .before .before .before .before .before .before .before .before .before .before .before .before .before .before .before .before .values-into .kept .1 .1 .1 .1 .1 .1 .1 .1 .1 .1 .1 .1 .0
+same-length c = c .before .before .before .before .before .before .before .before .before .before .before .before .before .before .before .before .before .before .before .before .before .before .before .before .before .before .before .before .values-into .kept .1 .1 .1 .1 .1 .1 .1 .1 .1 .1 .1 .1 .0
 
 same-length-2 : tie.Need-same-length-2
-same-length-2 c = c .before .before .before .before .before .before .before .before .before .before .before .before .before .before .before .before .before .before .before .before .before .before .before .before .before .before .before .before .before .values-into .kept .1 .1 .1 .1 .1 .1 .1 .1 .1 .1 .1 .1 .1 .0
+same-length-2 c = c .before .before .before .before .before .before .before .before .before .before .before .before .before .before .before .before .before .before .before .before .before .before .before .before .before .before .before .before .values-into .kept .1 .1 .1 .1 .1 .1 .1 .1 .1 .1 .1 .1 .1 .0
 
 same-length-3 : tie.Need-same-length-3
-same-length-3 c = c .before .before .before .before .before .before .before .before .before .before .before .before .before .before .before .before .before .before .before .before .before .before .before .before .before .before .before .before .before .values-into .kept .1 .1 .1 .1 .1 .1 .1 .1 .1 .1 .1 .1 .1 .1 .0
+same-length-3 c = c .before .before .before .before .before .before .before .before .before .before .before .before .before .before .before .before .before .before .before .before .before .before .before .before .before .before .before .before .values-into .kept .1 .1 .1 .1 .1 .1 .1 .1 .1 .1 .1 .1 .1 .1 .0
 
 same-length-4 : tie.Need-same-length-4
 same-length-4 c = search needs
@@ -111,13 +106,13 @@ same-length-4 c = search needs
 returns : tie.Need-returns
 unfolding restText
 returns c =
-    let s = c .before .before .before .before .before .before .before .before .before .before .before .before .before .before .before .before .before .before .before .before .before .before .before .before .before .before .before .before .before .before .before .before .before .before .before .before .before .before .before .before .before .before in
+    let s = c .before .before .before .before .before .before .before .before .before .before .before .before .before .before .before .before .before .before .before .before .before .before .before .before .before .before .before .before .before .before .before .before .before .before .before .before .before .before .before .before .before in
     let a = s .args in
     let i : ProverInput = proverInput (a .r) (a .c) (a .x) (a .ea .now) (a .eb .now) (a .ec .now) (a .z .now) (a .mask) (a .m .now) in
-    let v = c .before .before .before .before .before .before .before .before .before .before .before .before .before .before .before .before .before .before .before .before .before .before .before .before .before .before .before .before .before .values-into in
+    let v = c .before .before .before .before .before .before .before .before .before .before .before .before .before .before .before .before .before .before .before .before .before .before .before .before .before .before .before .before .values-into in
     let whole =
-    printed-then (c .before .before .before .before .before .before .before .before .before .before .before .before .before .before .before .before .before .before .before .before .put-three .ensures)
-    (printed-then (c .before .before .before .before .before .before .before .before .before .before .before .before .before .put-remainders .ensures) (printed-then (c .before .before .before .before .before .before .put-fifth .ensures) (c .before .before .put-last .ensures))) in
+    printed-then (c .before .before .before .before .before .before .before .before .before .before .before .before .before .before .before .before .before .before .before .put-three .ensures)
+    (printed-then (c .before .before .before .before .before .before .before .before .before .before .before .before .put-remainders .ensures) (printed-then (c .before .before .before .before .before .before .put-fifth .ensures) (c .before .before .put-last .ensures))) in
     printed-within
     (printed-as
     (λ t.
@@ -138,8 +133,7 @@ put-fourth-round-spec =
     slice-aggregate-put-three
     put-three-requires
     put-remainders-requires
-    larger-requires
-    larger-requires-2
+    largest-requires
     put-fifth-requires
     put-last-requires
     same-length

@@ -51,8 +51,8 @@ slice-aggregate-last-answer c =
     let call = c .before .before .public-words-into in
     filled-length _ _ (size-bound _ (c .before .before .before .before .before .before .before .before .pre .0 .1)) (call .last .1 .1 .0) (call .kept .1 .1 .0)
 
-index-array-requires : tie.Need-index-array-requires
-index-array-requires c κs = search needs
+arrays-requires : tie.Need-arrays-requires
+arrays-requires c κs = search needs
 
 last-answer-requires : tie.Need-last-answer-requires
 last-answer-requires c κs = size-bound _ (c .before .before .before .before .before .before .before .before .before .pre .0 .0)
@@ -76,7 +76,7 @@ returns c =
     (c .before .before .before .before .last-answer .ensures
     ∙ (λ t.
     lastAnswer (sizes (a .s)) (public t) (a .alpha) (three (a .sums)) (three (a .eta)) (a .beta) (three (a .values)) (three (a .delta)) (a .gamma)
-    (openings (a .o) (c .before .before .before .before .before .index-array .ensures t)))))
+    (openings (a .o) (c .before .before .before .before .before .arrays .ensures t)))))
     (c .before .before .put-answer .ensures)
 
 pub put-last-spec : {M : Type 1} → statement M
@@ -91,7 +91,7 @@ put-last-spec =
     public-words-into-requires
     array-share-prefix-x
     slice-aggregate-last-answer
-    index-array-requires
+    arrays-requires
     last-answer-requires
     put-answer-requires
     same-length

@@ -4,7 +4,7 @@ use Prim.Native.Nat.{_+_, _-_}
 use native.Mathlib.Omega.{arith}
 use Rattle.protocol.specs.Calls.{ProverInput}
 use Rattle.protocol.specs.Meanings.{three}
-use Rattle.varuna.specs.Inputs.{proverInput}
+use Rattle.circuit.specs.Given.{proverInput}
 use Rattle.job.proofs.PrintedLaws.{printed-then, printed-within, printed-as, printed-place, printed-length}
 use Rattle.protocol.specs.Three.{listed}
 use Rattle.job.specs.Stages.{section, firstText, thirdText, restText, stagesText, openedMeaning}
