@@ -26,7 +26,7 @@ pub enum Damage {
 const LENT_SECTIONS: [usize; 8] = [0, 2, 4, 5, 7, 8, 9, 10];
 
 impl Case {
-    /// The lists A, B, C, z, m.
+    /// One of the lists A, B, C, z, m.
     fn list(&mut self, list: usize) -> &mut Vec<u32> {
         match list {
             0..3 => &mut self.entries[list],
@@ -35,9 +35,9 @@ impl Case {
         }
     }
 
-    fn list_lengths(&self) -> [usize; 5] {
-        let [a, b, c] = self.entries.each_ref().map(Vec::len);
-        [a, b, c, self.assignment.len(), self.mask.len()]
+    fn all_lists(&self) -> [&Vec<u32>; 5] {
+        let [a, b, c] = &self.entries;
+        [a, b, c, &self.assignment, &self.mask]
     }
 
     pub fn damage(&mut self, damage: Damage) {
@@ -69,46 +69,54 @@ impl Case {
 
     /// Every damage of a field with boundary words, with the words next to what is there, and with lengths next to the right one.
     pub fn damages(&self) -> Vec<Damage> {
-        let mut damages = Vec::new();
-        for place in 0..3 {
-            let sizes = NO_SIZES.into_iter().chain([1, 2, 1024, 2 * self.sizes[place], self.sizes[place] / 2]);
-            damages.extend(sizes.map(|size| Damage::Size(place, size)));
-        }
-        for (list, length) in self.list_lengths().into_iter().enumerate() {
-            let lengths =
-                [0, 1, 3, length.saturating_sub(3), length.saturating_sub(1), length + 1, length + 3, 3072, 3075];
-            damages.extend(lengths.map(|length| Damage::Length(list, length)));
-            for place in 0..length {
-                damages.extend(self.near_words(list, place).map(|word| Damage::Word(list, place, word)));
-            }
-        }
-        for (matrix, list) in self.entries.iter().enumerate() {
-            damages.extend((0..list.len() / 3).map(|entry| Damage::Repeated(matrix, entry)));
-            damages.extend((1..list.len() / 3).map(|entry| Damage::Order(matrix, entry - 1)));
-        }
-        damages.extend(BOUNDARY_WORDS.map(Damage::MaskWord));
-        for place in 0..9 {
-            damages.extend(BOUNDARY_WORDS.map(|word| Damage::Challenge(place, word)));
-        }
-        for section in LENT_SECTIONS {
-            let length = self.lent_sections[section];
-            damages.extend(
-                [0, length.wrapping_sub(1).min(4096), length + 1].map(|length| Damage::LentSection(section, length)),
-            );
-        }
-        for slice in 0..12 {
-            let length = self.lent_index[slice];
-            damages.extend([0, length - 1, length + 1].map(|length| Damage::LentIndex(slice, length)));
+        let words = BOUNDARY_WORDS.into_iter();
+        let challenges = words.flat_map(|word| (0..9).map(move |place| Damage::Challenge(place, word)));
+        let mut damages: Vec<Damage> = challenges.chain(BOUNDARY_WORDS.map(Damage::MaskWord)).collect();
+        damages.extend((0..3).flat_map(|place| self.size_damages(place)));
+        damages.extend((0..5).flat_map(|list| self.list_damages(list)));
+        damages.extend((0..3).flat_map(|matrix| self.order_damages(matrix)));
+        damages.extend(LENT_SECTIONS.into_iter().flat_map(|section| {
+            let lengths = near_lengths(self.lent_sections[section]);
+            lengths.map(move |length| Damage::LentSection(section, length))
+        }));
+        damages.extend((0..12).flat_map(|slice| {
+            let lengths = near_lengths(self.lent_index[slice]);
+            lengths.map(move |length| Damage::LentIndex(slice, length))
+        }));
+        damages
+    }
+
+    fn size_damages(&self, place: usize) -> impl Iterator<Item = Damage> {
+        let size = self.sizes[place];
+        let sizes = NO_SIZES.into_iter().chain([1, 2, 1024, 2 * size, size / 2]);
+        sizes.map(move |size| Damage::Size(place, size))
+    }
+
+    /// Other lengths of a list, and other words in each of its places.
+    fn list_damages(&self, list: usize) -> Vec<Damage> {
+        let [rows, columns, _] = self.sizes;
+        let words = self.all_lists()[list];
+        let lengths = [0, 1, 3, words.len() + 3, words.len().saturating_sub(3), 3072, 3075];
+        let lengths = lengths.into_iter().chain(near_lengths(words.len()));
+        let mut damages: Vec<Damage> = lengths.map(|length| Damage::Length(list, length)).collect();
+        for (place, word) in words.iter().enumerate() {
+            let near = [rows, columns, word.wrapping_add(1), word.wrapping_sub(1)];
+            let bad = BOUNDARY_WORDS.into_iter().chain(near);
+            damages.extend(bad.map(|word| Damage::Word(list, place, word)));
         }
         damages
     }
 
-    /// Words to put in place of a list's: at the boundaries, at the sizes of R and C, and next to what is there.
-    fn near_words(&self, list: usize, place: usize) -> impl Iterator<Item = u32> {
-        let word = self.clone().list(list)[place];
-        let [rows, columns, _] = self.sizes;
-        BOUNDARY_WORDS.into_iter().chain([rows, columns, word.wrapping_add(1), word.wrapping_sub(1)])
+    fn order_damages(&self, matrix: usize) -> impl Iterator<Item = Damage> {
+        let entries = self.entries[matrix].len() / 3;
+        let repeated = (0..entries).map(move |entry| Damage::Repeated(matrix, entry));
+        repeated.chain((1..entries).map(move |entry| Damage::Order(matrix, entry - 1)))
     }
+}
+
+/// None, one less and one more than a length.
+fn near_lengths(length: usize) -> [usize; 3] {
+    [0, length.saturating_sub(1), length + 1]
 }
 
 impl Random {
@@ -116,7 +124,7 @@ impl Random {
     pub fn damage(&mut self, case: &Case) -> Damage {
         let word = self.damaged();
         let list = self.place(5);
-        let (matrix, lengths) = (list % 3, case.list_lengths());
+        let (matrix, lengths) = (list % 3, case.all_lists().map(Vec::len));
         let entries = lengths[matrix] / 3;
         match self.below(14) {
             0 => Damage::Size(matrix, word),

@@ -132,46 +132,56 @@ fn round_trip() {
     }
 }
 
-/// Every refusal of the writer, and damages in several places.
+/// Every size, section and length of the writer's inputs replaced.
 #[test]
 fn damaged_inputs() {
     let mut random = Random::new(31);
     for sizes in [[1; 6], [2, 4, 2, 1, 2, 4], [4, 8, 8, 2, 1, 1]] {
         let good = Written::new(&mut random, sizes);
-        for place in 0..6 {
-            for size in NO_SIZES.into_iter().chain(SIZES) {
-                let mut bad = good.clone();
-                bad.sizes[place] = size;
-                bad.compare();
-            }
+        for (place, size) in (0..6).flat_map(|place| NO_SIZES.into_iter().chain(SIZES).map(move |size| (place, size))) {
+            let mut bad = good.clone();
+            bad.sizes[place] = size;
+            bad.compare();
         }
         for lent in [0, 1, 71, 72, good.lent - 4, good.lent - 1, good.lent + 1, good.lent + 4] {
             Written { lent, ..good.clone() }.compare();
         }
         for section in 0..11 {
-            let length = good.sections[section].len();
-            for length in [0, length.saturating_sub(1), length + 1, length + 4, 5000] {
-                let mut bad = good.clone();
-                bad.sections[section].resize(length, MODULUS);
-                bad.compare();
-            }
-            for place in 0..length {
-                for word in BOUNDARY_WORDS {
-                    let mut bad = good.clone();
-                    bad.sections[section][place] = word;
-                    bad.compare();
-                }
-            }
+            compare_section_damages(&good, section);
         }
     }
+}
+
+/// Other lengths of a section, and other words in each of its places.
+fn compare_section_damages(good: &Written, section: usize) {
+    let right = good.sections[section].len();
+    for length in [0, right.saturating_sub(1), right + 1, right + 4, 5000] {
+        let mut bad = good.clone();
+        bad.sections[section].resize(length, MODULUS);
+        bad.compare();
+    }
+    for (place, word) in (0..right).flat_map(|place| BOUNDARY_WORDS.map(|word| (place, word))) {
+        let mut bad = good.clone();
+        bad.sections[section][place] = word;
+        bad.compare();
+    }
+}
+
+#[test]
+fn inputs_damaged_in_several_places() {
+    let mut random = Random::new(36);
+    let mut refusals = [0; 7];
     for _ in 0..count(3_000) {
         let sizes = random.six_sizes(3);
         let mut bad = Written::new(&mut random, sizes);
         for _ in 0..=random.below(3) {
             damage(&mut random, &mut bad);
         }
-        bad.compare();
+        if let Err(refusal) = bad.compare().answer {
+            refusals[refusal.number as usize] += 1;
+        }
     }
+    assert!((4..=6).all(|number| refusals[number] > 50), "{refusals:?}");
 }
 
 fn damage(random: &mut Random, written: &mut Written) {
