@@ -1,6 +1,6 @@
 //! A prover's inputs as one value, with the lengths of the slices that its calls lend.
 
-use crate::job::{self, Field};
+use job::Field;
 use std::fmt;
 
 /// The places of α, η, β, δ, γ among the challenges.

@@ -2,7 +2,6 @@
 //! implementation.
 
 use crate::program;
-use compare::job;
 use std::fs;
 use std::path::{Path, PathBuf};
 

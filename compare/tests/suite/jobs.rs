@@ -3,7 +3,6 @@
 use crate::program;
 use compare::calls::Input;
 use compare::case::{uneven_case, Case};
-use compare::job;
 use compare::random::{count, elements, Random, BOUNDARY_WORDS, NO_SIZES};
 use second::MODULUS;
 use std::fmt;

@@ -19,4 +19,4 @@ mod jobs;
 mod program;
 mod records;
 mod sessions;
-mod tool;
+mod texts;

@@ -1,10 +1,10 @@
 //! Proof records: written, read, and their sections found; good and damaged.
 
+use compare::calls;
 use compare::calls::Input;
 use compare::case::{lengths, Case};
 use compare::library::{self, UNWRITTEN};
 use compare::random::{count, Random, BOUNDARY_WORDS, NO_SIZES, SIZES};
-use compare::{calls, job};
 use second::{Refusal, MODULUS};
 use std::fmt;
 

@@ -6,7 +6,6 @@
 
 #![forbid(unsafe_code)]
 
-use compare::job;
 use std::io::{self, Read, Write};
 use std::process::ExitCode;
 

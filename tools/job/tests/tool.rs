@@ -1,11 +1,18 @@
-//! The job tool: text to bytes, bytes to text, and its errors.
+//! The tool: text to bytes, bytes to text, and its errors.
 
-use compare::calls::{self, Side};
-use compare::case::Case;
-use compare::job;
-use compare::random::{count, Random};
+#![forbid(unsafe_code)]
+
 use std::io::Write;
 use std::process::{Command, Output, Stdio};
+
+const P: u32 = 2_013_265_921;
+
+/// Document 01's square case.
+fn square() -> Vec<u8> {
+    let circuit = [1, 2, 1, 1, 1, 1, 0, 1, 1, 0, 1, 1, 0, 0, 1];
+    let rest = [9, 3, 1, 1, 0, P - 1, 1, 2, 1, 1, 2, 3, 1, 1, 1, 5];
+    job::bytes(&[&circuit[..], &rest].concat())
+}
 
 fn tool(arguments: &[&str], input: &[u8]) -> Output {
     let mut command = Command::new(env!("CARGO_BIN_EXE_job"));
@@ -58,7 +65,7 @@ fn asks_for_a_command() {
 
 #[test]
 fn shows_the_square_job() {
-    let shown = String::from_utf8(good("show", &Case::square().job())).expect("a shown job is text");
+    let shown = String::from_utf8(good("show", &square())).expect("a shown job is text");
     let lines = shown.lines().map(|line| line.split_whitespace().collect::<Vec<_>>().join(" "));
     let expected = [
         "1 2 1 # |R| |C| |X|",
@@ -80,7 +87,7 @@ fn shows_the_square_job() {
 
 #[test]
 fn says_what_is_missing_or_left_over() {
-    let job = Case::square().job();
+    let job = square();
     let comments = |bytes: &[u8]| {
         let shown = job::show(bytes);
         let comments = shown.lines().filter_map(|line| line.strip_prefix("# "));
@@ -106,44 +113,16 @@ fn says_what_is_missing_or_left_over() {
     assert_eq!(comments(&job), [""; 0]);
 }
 
-/// What is shown packs to the same words, for any bytes.
 #[test]
-fn shown_text_packs_again() {
-    let mut random = Random::new(60);
-    for _ in 0..count(500) {
-        let case = random.case(3);
-        let mut words = case.job_words();
-        for _ in 0..random.below(3) {
-            let place = random.place(words.len());
-            words[place] = random.damaged();
-        }
-        let mut bytes = job::bytes(&words);
-        if random.one_in(3) {
-            bytes.truncate(random.place(bytes.len()));
-        }
-        let whole = &bytes[..bytes.len() / 4 * 4];
-        assert_eq!(job::pack(&job::show(&bytes)).as_deref(), Ok(whole), "{case}");
-    }
-    assert_eq!(good("pack", &good("show", &Case::square().job())), Case::square().job());
-}
-
-/// The text printed with the input of a comparison is the job itself.
-#[test]
-fn printed_cases_are_jobs() {
-    let mut random = Random::new(61);
-    for _ in 0..count(50) {
-        let case = random.case(4);
-        assert_eq!(job::pack(&case.to_string()), Ok(case.job()));
-    }
+fn shown_square_job_packs_again() {
+    assert_eq!(good("pack", &good("show", &square())), square());
 }
 
 #[test]
 fn shows_records() {
-    let case = Case::square();
-    let proof = calls::prove(Side::Second, &case).expect("the square case is proved");
-    let mut record = vec![0; 132];
-    let sections = proof.sections.each_ref().map(Vec::as_slice);
-    second::write_record(case.six_sizes(), sections, &mut record).expect("a proof's record is written");
+    let mut words = vec![4, 1, 1, 0, P - 1, 1, 3, 3, 9, 7, 1, 1, P - 1, P - 1, 2];
+    words.extend([0, 8, 24, 24, 36, 40, 48, 60, 60, 60, 60, 1, 2, 1, 1, 1, 1, 60]);
+    let record = job::bytes(&words);
     let shown = String::from_utf8(good("record", &record)).expect("a shown record is text");
     let lines: Vec<String> = shown.lines().map(|line| line.split_whitespace().collect::<Vec<_>>().join(" ")).collect();
     assert_eq!(lines[0], "4 1 # w");
