@@ -140,8 +140,8 @@ returns c =
     let c1 = c2 .before .before .before .before .before in
     let joined = rw (c1 .largest .ensures) at (c5 .put-figure4 .ensures) in
     let last = rw (c1 .largest .ensures) at (c6 .put-figure5 .ensures) in
-    (lines-then (c2 .put-figure .ensures)
-    (lines-then (c3 .put-figure2 .ensures) (lines-then (c4 .put-figure3 .ensures) (lines-then joined (lines-end last)))))
+    lines-then (c2 .put-figure .ensures)
+    (lines-then (c3 .put-figure2 .ensures) (lines-then (c4 .put-figure3 .ensures) (lines-then joined (lines-end last))))
 
 pub put-matrix-checks-spec : {M : Type 1} → statement M
 put-matrix-checks-spec =

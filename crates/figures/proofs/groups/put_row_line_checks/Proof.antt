@@ -83,9 +83,9 @@ returns c =
     let c3 = c4 .before .before .before .before .before .before .before in
     let c2 = c3 .before .before .before .before .before .before .before in
     let c1 = c2 .before .before .before .before .before .before .before in
-    (lines-then (c1 .put-figure .ensures)
+    lines-then (c1 .put-figure .ensures)
     (lines-then (c2 .put-figure2 .ensures)
-    (lines-then (c3 .put-figure3 .ensures) (lines-end (c4 .put-figure4 .ensures)))))
+    (lines-then (c3 .put-figure3 .ensures) (lines-end (c4 .put-figure4 .ensures))))
 
 pub put-row-line-checks-spec : {M : Type 1} → statement M
 put-row-line-checks-spec =
