@@ -1,13 +1,12 @@
 // The answers of the public calls, handed over in numbers.
 ghost use mathlib.Core.Path.{_≡_};
-ghost use Rattle.protocol.specs.Meanings.{three, verdictMeaning};
+ghost use Rattle.protocol.specs.Meanings.{verdictMeaning};
 ghost use Rattle.record.specs.Answers.{readingMeaning};
 ghost use Rattle.varuna.specs.Answers.{openingsMeaning};
-ghost use Rattle.varuna.specs.Session.{threeAt, steppedMeaning, finishedMeaning};
+ghost use Rattle.varuna.specs.Session.{steppedMeaning, finishedMeaning};
 ghost use Rattle.varuna_c.specs.Answers.{told, answered, wordMeaning, threeMeaning, filledMeaning, threeListed, sizesListed};
 ghost use Rattle.varuna_c.specs.Answers.{stepAnswered, lastAnswered, verdictNumber};
 use protocol::Check;
-use protocol::Triple;
 use protocol::Verdict;
 use record::Reading;
 use varuna::answers::Filled;
@@ -18,17 +17,6 @@ use varuna::session::Answer;
 use varuna::session::Finished;
 use varuna::session::LastAnswer;
 use varuna::session::Stepped;
-
-// The three words of an array.
-pub fn triple(words: &[u32; 3]) -> Triple
-    ensures { λ r. ⌜ three r ≡ threeAt (now (words .entry)) 0 ⌝ }
-{
-    Triple {
-        a: words[0],
-        b: words[1],
-        c: words[2],
-    }
-}
 
 // One word.
 pub fn give_word(answer: Word, result: &mut u32, position: &mut usize) -> u32

@@ -4,6 +4,7 @@
 mod answers;
 pub mod arithmetic;
 pub mod indexer;
+mod inputs;
 pub mod polynomials;
 pub mod records;
 pub mod rounds;

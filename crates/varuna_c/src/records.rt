@@ -10,7 +10,7 @@ ghost use Rattle.varuna_c.specs.Answers.{told, answered, sizesListed, se
 ghost use Rattle.varuna_c.specs.Inputs.{sizesIn};
 use crate::answers::give_filled;
 use crate::answers::give_sizes;
-use crate::session::sizes_in;
+use crate::inputs::sizes_in;
 use record::Reading;
 
 const WORD_BYTES: usize = 4;

@@ -10,7 +10,7 @@ ghost use Rattle.varuna_c.specs.Answers.{told, answered, threeListed, th
 use crate::answers::give_filled;
 use crate::answers::give_openings;
 use crate::answers::give_three;
-use crate::answers::triple;
+use crate::inputs::triple;
 
 // Round 1: ŵ and h0. Refusals 4 to 9.
 #[no_mangle]

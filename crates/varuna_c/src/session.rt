@@ -1,67 +1,20 @@
 // The verifier's session, kept by the caller as 1,046 words.
 ghost use mathlib.Core.Path.{_≡_};
 ghost use Rattle.domain.specs.BabyBear.{babyBear};
-ghost use Rattle.protocol.specs.Meanings.{sizes as sizesMeaning};
 ghost use Rattle.protocol.specs.Session.{unopened, openStep, alphaStep, etaStep, betaStep, deltaStep, gammaStep, openingsStep};
 ghost use Rattle.varuna.specs.Session.{threeAt, sessionOf, sessionWords};
 ghost use Rattle.varuna_c.specs.Answers.{told, stepAnswered, lastAnswered};
-ghost use Rattle.varuna_c.specs.Inputs.{sizesIn, openingsIn, messagesIn, indexesIn};
+ghost use Rattle.varuna_c.specs.Inputs.{sizesIn, openingsIn};
 use crate::answers::give_step;
 use crate::answers::give_verdict;
-use crate::answers::triple;
-use protocol::Opened;
-use protocol::Sizes;
-use protocol::Triple;
+use crate::inputs::indexes_in;
+use crate::inputs::messages_in;
+use crate::inputs::sizes_in;
+use crate::inputs::triple;
 use varuna::session::Session;
 
 // The words of a session.
 const SESSION_WORDS: usize = 1046;
-
-// Six sizes in trailer order.
-pub fn sizes_in(words: &[u32; 6]) -> Sizes
-    ensures { λ r. ⌜ sizesMeaning r ≡ sizesIn (now (words .entry)) ⌝ }
-{
-    Sizes {
-        r: words[0],
-        c: words[1],
-        x: words[2],
-        k: Triple {
-            a: words[3],
-            b: words[4],
-            c: words[5],
-        },
-    }
-}
-
-// The openings of the messages, the first nine of 21.
-fn messages_in(o: &[u32; 21]) -> Opened
-    ensures { λ r. ⌜ r ≡ messagesIn (now (o .entry)) ⌝ }
-{
-    Opened {
-        witness: o[0],
-        mask: o[1],
-        lineRemainder: o[2],
-        lineQuotient: o[3],
-        rowQuotient: o[4],
-        joinedQuotient: o[5],
-        matrixRemainders: Triple {
-            a: o[6],
-            b: o[7],
-            c: o[8],
-        },
-    }
-}
-
-// The openings of the index polynomials, the last twelve of 21.
-fn indexes_in(o: &[u32; 21]) -> [[u32; 4]; 3]
-    ensures { λ r. ⌜ r ≡ indexesIn (now (o .entry)) ⌝ }
-{
-    [
-        [o[9], o[10], o[11], o[12]],
-        [o[13], o[14], o[15], o[16]],
-        [o[17], o[18], o[19], o[20]],
-    ]
-}
 
 // A session before it is opened.
 #[no_mangle]

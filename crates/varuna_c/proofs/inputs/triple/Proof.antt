@@ -1,9 +1,9 @@
--- `varuna_c::answers::triple` meets its contract. Assumes nothing.
+-- `varuna_c::inputs::triple` meets its contract. Assumes nothing.
 use mathlib.Core.Path.{refl}
 use Rattle.varuna.specs.Session.{threeAt}
 use borrow.Author.Needs.{needs}
-use Rattle.varuna_c.proofs.answers.triple.Statement.{statement}
-use Rattle.varuna_c.proofs.answers.triple.Tie as tie
+use Rattle.varuna_c.proofs.inputs.triple.Statement.{statement}
+use Rattle.varuna_c.proofs.inputs.triple.Tie as tie
 
 element-copy-out-t4 : tie.Need-element-copy-out-t4
 element-copy-out-t4 c = search needs
