@@ -1,8 +1,8 @@
 -- What is handed over by the outcome of a call, from what is handed over by the call's answer. Assumes nothing.
-use mathlib.Core.Path.{_≡_, refl, ap, ap₂, _∙_}
+use mathlib.Core.Path.{_≡_, ap, _∙_}
 use mathlib.Core.List.{List}
 use Prim.Native.Nat.{ℕ}
-use Rattle.protocol.specs.Three.{Three, listed}
+use Rattle.protocol.specs.Three.{Three}
 use Rattle.protocol.specs.Refusals.{Outcome, Done, Refused}
 use Rattle.varuna.specs.declared.answers.Word.{Word}
 use Rattle.varuna.specs.declared.answers.ThreeWords.{ThreeWords}

@@ -1,5 +1,5 @@
 -- Where the sections of a record begin, by the trailer's words. Assumes nothing.
-use mathlib.Core.Path.{_≡_, refl, sym, ap, _∙_}
+use mathlib.Core.Path.{_≡_, refl, sym, _∙_}
 use mathlib.Core.Bool.{Bool, true}
 use mathlib.Core.List.{List, [], _∷_}
 use mathlib.Core.Option.{Option, none, some}
@@ -13,7 +13,7 @@ use Rattle.algebra.proofs.Counting.{all-at}
 use Rattle.algebra.proofs.PolynomialLaws.{length-tabulate, getD-tabulate}
 use Rattle.field.specs.Prime.{Prime}
 use Rattle.protocol.specs.Circuit.{Sizes}
-use Rattle.protocol.specs.Refusals.{Refusal, Outcome, Done, Refused, first, refuse, pairs, sixSizeTests, endRefusal, trailerBytes, wordRefusal}
+use Rattle.protocol.specs.Refusals.{Refusal, Done, Refused, refuse, pairs, sixSizeTests, endRefusal, trailerBytes, wordRefusal}
 use Rattle.protocol.specs.Record.{sectionLengths, startsFrom, trailerWord, sizesRead, wordsIn, recordRefusal, readRecord}
 use Rattle.protocol.proofs.RefusalLaws.{first-none, refuse-none}
 use Rattle.record.specs.Answers.{sizesFound}
