@@ -7,11 +7,12 @@ use native.Mathlib.Omega.{arith}
 use lib.Dec.{eqb, ltb}
 use lib.ListN.{length, getD, length-map}
 use Rattle.algebra.specs.Counting.{All}
+use Rattle.algebra.proofs.Counting.{all-at}
 use Rattle.protocol.specs.Circuit.{Entry, Circuit}
 use Rattle.protocol.specs.Refusals.{rises, fits, entryTestsAfter, entryTests}
 use Rattle.protocol.specs.Calls.{entriesOf}
+use Rattle.protocol.proofs.Rows.{map-at}
 use Rattle.circuit.specs.Given.{entryWords, Within}
-use Rattle.circuit.proofs.Rows.{map-at}
 
 pub length-entriesOf : (l : List ℕ) → length (entriesOf l) ≡ length l / 3
 unfolding entriesOf
@@ -125,11 +126,6 @@ module _ (k : Circuit) (l : List ℕ) where
       ∙ ap₂ (λ (m n : ℕ). rises (record { row = getD l m 0; column = getD l n 0; value = 0 }) e) er ec
 
 -- what every entry has, each entry's words have
-pub all-at : {T : Type 0} (P : T → Type 0) (l : List T) → All P l → (i : ℕ) (d : T) → i < length l → P (getD l i d)
-all-at P [] h i d within = absurd (omega arith)
-all-at P (x ∷ l) h zero d within = h .0
-all-at P (x ∷ l) h (suc i) d within = all-at P l (h .1) i d (omega arith)
-
 pub entry-within : (r c : ℕ) (l : List ℕ) → All (Within r c) (entriesOf l) → (i : ℕ) → i < length l / 3 → Within r c (entryWords l i)
 entry-within r c l h i within =
     let below : i < length (entriesOf l) = omega (arith, length-entriesOf l) in

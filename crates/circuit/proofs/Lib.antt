@@ -1,4 +1,4 @@
-pub mod Rows
+pub mod EarlyReturns
 pub mod Entries
 pub mod Sums
 pub mod Mask

@@ -2,12 +2,12 @@
 -- call; and what is known where nothing is refused. Assumes nothing.
 use mathlib.Core.Path.{_≡_, refl, sym, ap, ap₂, _∙_}
 use mathlib.Core.Bool.{Bool, true, not, _&&_}
-use mathlib.Core.List.{List, [], _∷_, _++_, map}
+use mathlib.Core.List.{List, [], _∷_, _++_, map, append-nil, map-append}
 use mathlib.Core.Option.{Option, none, some}
-use Prim.Native.Nat.{ℕ, zero, suc, _+_, _*_, _/_, _%_, _≤_, _<_, max}
+use Prim.Native.Nat.{ℕ, _+_, _*_, _/_, _%_, max}
 use native.Mathlib.Omega.{arith}
 use lib.Dec.{eqb, ltb, leb}
-use lib.ListN.{length, getD, length-append, length-map}
+use lib.ListN.{length, length-append, length-map}
 use borrow.Author.Tests.{eqb-true, ltb-true, leb-true}
 use Rattle.algebra.specs.Counting.{All}
 use Rattle.algebra.proofs.Counting.{append-all}
@@ -16,13 +16,13 @@ use Rattle.field.specs.Element.{of}
 use Rattle.domain.specs.Size.{maxSize, isSize, sizeFor}
 use Rattle.domain.proofs.SizeLaws.{sizeFor-is-size, max-is-size}
 use Rattle.protocol.specs.Circuit.{Entry, Circuit, sizesOf, largest}
-use Rattle.protocol.specs.Refusals.{Refusal, first, refuse, pairs, sizeTests, sizeRefusal, listRefusal, wordRefusal, fits, rises, entryTestsAfter, entryTests, entryRefusal, maskRefusal, assignmentRefusal, challengeRefusal}
+use Rattle.protocol.specs.Refusals.{Refusal, first, refuse, sizeTests, sizeRefusal, listRefusal, wordRefusal, fits, rises, entryTestsAfter, entryTests, entryRefusal, maskRefusal, assignmentRefusal, challengeRefusal}
 use Rattle.protocol.specs.Admission.{entryValues, assignmentTests, circuitRefusals, proverRefusal}
 use Rattle.protocol.specs.Calls.{CircuitWords, entriesOf, circuitOf, entryListTests}
 use Rattle.protocol.proofs.RefusalLaws.{refuse-none, first-none, and-true}
+use Rattle.protocol.proofs.Rows.{first-only, first-nested, first-before-last, refuse-append, refuse-map-append, refuse-three}
 use Rattle.circuit.specs.Given.{given, entryLists, Within, EachWithin, EntryWords, CircuitShaped, Shaped}
 use Rattle.circuit.specs.Judgement.{wholeAndFew, indexShapeRefusal, shapeRefusal, indexContentsRefusal, contentsRefusal}
-use Rattle.circuit.proofs.Rows.{first-only, first-nested, refuse-append, first-append, refuse-map-append, refuse-three, map-append}
 use Rattle.circuit.proofs.Entries.{length-entriesOf, values-count, length-entryTests}
 
 -- 4 and 5: the circuit's part, then the lengths of z and m
@@ -35,8 +35,7 @@ shape-in-parts c z m =
     let more : List Bool = assignmentTests (circuitOf c) z m in
     ap (λ (o : Option Refusal). first (size ∷ o ∷ [])) (refuse-append 5 0 lists more)
     ∙ first-nested size (refuse 5 0 lists ∷ refuse 5 3 more ∷ [])
-    ∙ first-append (size ∷ refuse 5 0 lists ∷ []) (refuse 5 3 more ∷ [])
-    ∙ ap (λ (o : Option Refusal). first (first (size ∷ refuse 5 0 lists ∷ []) ∷ o ∷ [])) (first-only (refuse 5 3 more))
+    ∙ first-before-last (size ∷ refuse 5 0 lists ∷ []) (refuse 5 3 more)
 
 -- the tests of the values of a list of entries, by the modulus
 abbrev pub valueTests : ℕ → List ℕ → List Bool
@@ -97,10 +96,6 @@ module _ (k : Circuit) (ea eb ec : List ℕ) (matrices : k .matrices ≡ entryLi
 
 -- 6: the circuit's words alone, and with words after them
 module _ (q : Prime) (k : Circuit) {p : ℕ} (e : q .p ≡ p) where
-  append-nil : (l : List ℕ) → l ++ [] ≡ l
-  append-nil [] = refl
-  append-nil (x ∷ l) = ap (λ m. x ∷ m) (append-nil l)
-
   pub circuit-words : refuse 6 0 (map (λ w. ltb w p) (entryValues k)) ≡ wordRefusal q (entryValues k ++ [])
   unfolding wordRefusal
   circuit-words = sym (ap₂ (λ (n : ℕ) (ws : List ℕ). refuse 6 0 (map (λ w. ltb w n) ws)) e (append-nil (entryValues k)))
@@ -140,21 +135,6 @@ prover-words p start z mask m challenges =
 pub larger-is-size : (l m n : ℕ) → isSize (max (sizeFor l) (max (sizeFor m) (sizeFor n))) ≡ true
 larger-is-size l m n =
     max-is-size (sizeFor l) (max (sizeFor m) (sizeFor n)) (sizeFor-is-size l) (max-is-size (sizeFor m) (sizeFor n) (sizeFor-is-size m) (sizeFor-is-size n))
-
--- the tests of challenges against their domains
-module _ {S T : Type 0} (t : S → T → Bool) where
-  pub length-pairs : (l : List S) (m : List T) → length m ≤ length l → length (pairs t l m) ≡ length m
-  length-pairs [] [] h = refl
-  length-pairs [] (y ∷ m) h = absurd (omega arith)
-  length-pairs (x ∷ l) [] h = refl
-  length-pairs (x ∷ l) (y ∷ m) h = ap suc (length-pairs l m (omega arith))
-
-  pub pairs-at : (l : List S) (m : List T) (i : ℕ) (d : S) (e : T) → length m ≤ length l → i < length m
-      → getD (pairs t l m) i true ≡ t (getD l i d) (getD m i e)
-  pairs-at [] m i d e h within = absurd (omega arith)
-  pairs-at (x ∷ l) [] i d e h within = absurd (omega arith)
-  pairs-at (x ∷ l) (y ∷ m) zero d e h within = refl
-  pairs-at (x ∷ l) (y ∷ m) (suc i) d e h within = pairs-at l m i d e (omega arith) (omega arith)
 
 -- entries that pass 7 are within their matrix
 module _ (k : Circuit) where

@@ -20,6 +20,8 @@ ghost use Rattle.circuit.specs.Judgement.{wholeAndFew};
 use crate::is_fine;
 use crate::matrices;
 use protocol::Fault;
+use protocol::scans::first_failed;
+use protocol::scans::judge_words;
 
 // The most words of an entry list: three for each of 1,024 entries.
 const MAX_ENTRY_WORDS: usize = 3072;
@@ -59,17 +61,12 @@ pub fn entry_list_fits(len: usize) -> bool
 pub fn check_entry_lists(ea: usize, eb: usize, ec: usize) -> Fault
     ensures { λ f. ⌜ faultRefusal f ≡ refuse 5 0 (wholeAndFew ea ∷ wholeAndFew eb ∷ wholeAndFew ec ∷ []) ⌝ }
 {
-    if !entry_list_fits(ea) {
-        return Fault::Refused(5, 0);
-    }
-    if !entry_list_fits(eb) {
-        return Fault::Refused(5, 1);
-    }
-    if entry_list_fits(ec) {
-        Fault::Fine
-    } else {
-        Fault::Refused(5, 2)
-    }
+    let tests = [
+        entry_list_fits(ea),
+        entry_list_fits(eb),
+        entry_list_fits(ec),
+    ];
+    first_failed(5, 0, &tests)
 }
 
 // 5: z has |C| words and m 2|C|; they are lists 3 and 4 of a prover call.
@@ -97,21 +94,6 @@ pub fn check_lent(start: usize, lent: &[usize], due: &[usize]) -> Fault
     while i < lent.len() {
         if lent[i] != due[i] {
             return Fault::Refused(5, start + i);
-        }
-        i += 1;
-    }
-    Fault::Fine
-}
-
-// 6: the words are below p; the first of them is word `start` of the call.
-pub fn check_words(p: u32, start: usize, words: &[u32]) -> Fault
-    requires { ⌜ start < 4294967296 ⌝ }
-    ensures { λ f. ⌜ faultRefusal f ≡ refuse 6 start (map (λ w. ltb w p) (now (words .entry))) ⌝ }
-{
-    let mut i = 0;
-    while i < words.len() {
-        if words[i] >= p {
-            return Fault::Refused(6, start + i);
         }
         i += 1;
     }
@@ -166,7 +148,7 @@ fn check_prover_words(
     ensures { λ f. ⌜ faultRefusal f
         ≡ refuse 6 start (map (λ w. ltb w p) (now (z .entry) ++ (mask ∷ (now (m .entry) ++ now (challenges .entry))))) ⌝ }
 {
-    let fault = check_words(p, start, z);
+    let fault = judge_words(p, start, z);
     if !is_fine(fault) {
         return fault;
     }
@@ -174,11 +156,11 @@ fn check_prover_words(
     if mask >= p {
         return Fault::Refused(6, place);
     }
-    let fault2 = check_words(p, place + 1, m);
+    let fault2 = judge_words(p, place + 1, m);
     if !is_fine(fault2) {
         return fault2;
     }
-    check_words(p, place + 1 + m.len(), challenges)
+    judge_words(p, place + 1 + m.len(), challenges)
 }
 
 // 6 of a prover call: the circuit's values, z, the mask word, m and the challenges.

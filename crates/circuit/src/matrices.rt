@@ -1,7 +1,7 @@
 // What is read off an entry list: |K_M|, |K|, and the sums M·z of the rows.
 ghost use mathlib.Core.Path.{_≡_};
 ghost use mathlib.Core.List.{map};
-ghost use Prim.Native.Nat.{_<_, max};
+ghost use Prim.Native.Nat.{_<_};
 ghost use lib.ListN.{length};
 ghost use Rattle.algebra.specs.Lists.{tabulate};
 ghost use Rattle.algebra.specs.Counting.{All};
@@ -12,14 +12,10 @@ ghost use Rattle.protocol.specs.Three.{MatrixName, at};
 ghost use Rattle.protocol.specs.Circuit.{Circuit, sizesOf, largest, rowSum};
 ghost use Rattle.protocol.specs.Calls.{entriesOf};
 ghost use Rattle.circuit.specs.Given.{entryLists, Within};
+use protocol::Triple;
+use protocol::six_sizes::largest;
 
 const MAX_SIZE: u32 = 1024;
-
-fn larger(m: u32, n: u32) -> u32
-    ensures { λ k. ⌜ k ≡ max m n ⌝ }
-{
-    if m <= n { n } else { m }
-}
 
 // |K_M|: the smallest size not below the entry count, and the largest size where no size is.
 pub fn size_of(entries: &[u32]) -> u32
@@ -37,7 +33,11 @@ pub fn largest_size(ea: &[u32], eb: &[u32], ec: &[u32]) -> u32
     ensures { λ n. ⌜ ((k : Circuit) → k .matrices ≡ entryLists (now (ea .entry)) (now (eb .entry)) (now (ec .entry))
         → n ≡ largest (sizesOf k .K)) ⌝ }
 {
-    larger(size_of(ea), larger(size_of(eb), size_of(ec)))
+    largest(Triple {
+        a: size_of(ea),
+        b: size_of(eb),
+        c: size_of(ec),
+    })
 }
 
 // The sum of a matrix's values in each row, each times z at its column, into the slice: one pass over the entries.

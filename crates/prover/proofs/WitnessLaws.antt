@@ -1,7 +1,7 @@
 -- What the code of the first message rests on: lists of words and back, minus as a scaled sum, the coefficients of Y^n - 1, sums with a
 -- list that is one shorter, and the public words of z. Assumes nothing.
 use mathlib.Core.Path.{_≡_, refl, sym, ap, ap₂, _∙_}
-use mathlib.Core.List.{List, [], _∷_, _++_, map}
+use mathlib.Core.List.{List, [], _∷_, _++_, map, map-append}
 use Prim.Native.Nat.{ℕ, zero, suc, _+_, _-_, _*_, _/_, _≤_, _<_}
 use mathlib.Core.Bool.{true}
 use native.Mathlib.Omega.{arith}
@@ -26,7 +26,6 @@ use Rattle.domain.proofs.Membership.{zero-word}
 use Rattle.domain.proofs.Qualification.{one-word}
 use Rattle.protocol.specs.Circuit.{Circuit, publicPart}
 use Rattle.protocol.specs.Messages.{publicPoly, witness, assignment}
-use Rattle.circuit.proofs.Rows.{map-append}
 use Rattle.prover.proofs.WitnessParts.{part-length, filled-part, filled-length, of-results}
 
 module _ {A : Type 0} (R : CommRing A) where

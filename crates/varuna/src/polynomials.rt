@@ -13,6 +13,7 @@ use crate::answers::Filled;
 use crate::answers::Word;
 use field::MODULE_PRIME;
 use protocol::Fault;
+use protocol::scans::judge_words;
 
 // The most words to evaluate.
 const MAX_WORDS: usize = 2048;
@@ -39,7 +40,7 @@ fn judge_evaluation(f: &[u32], y: u32) -> Fault
     if f.len() > MAX_WORDS {
         return Fault::Refused(5, 0);
     }
-    let fault = circuit::checks::check_words(MODULE_PRIME, 0, f);
+    let fault = judge_words(MODULE_PRIME, 0, f);
     if !circuit::is_fine(fault) {
         return fault;
     }
@@ -76,7 +77,7 @@ fn judge_interpolation(n: u32, values: &[u32], lent: usize) -> Fault
     if lent != n as usize {
         return Fault::Refused(5, 1);
     }
-    circuit::checks::check_words(MODULE_PRIME, 0, values)
+    judge_words(MODULE_PRIME, 0, values)
 }
 
 // The n coefficients of the polynomial with the given values on the domain of size n into a slice. Refusals: 4 for n, 5 for the

@@ -7,7 +7,7 @@ use lib.Dec.{ltb}
 use lib.ListN.{length}
 use borrow.Author.Tests.{not-true, not-false}
 use Rattle.protocol.specs.Refusals.{refuse}
-use Rattle.circuit.proofs.Rows.{stops, goes-on, last-answer}
+use Rattle.circuit.proofs.EarlyReturns.{stops, goes-on, last-answer}
 use Rattle.circuit.proofs.Parts.{values-length, words-in-parts}
 use Rattle.circuit.proofs.checks.check_call_words.Statement.{statement}
 use Rattle.circuit.proofs.checks.check_call_words.Tie as tie

@@ -1,13 +1,14 @@
 -- `circuit::checks::check_entries` meets its contract: the entries passed fit and rise. Assumes nothing.
 use borrow.Author.Needs.{needs}
 use mathlib.Core.Path.{_≡_, refl, sym, _∙_}
+use mathlib.Core.Bool.{true}
 use Prim.Native.Nat.{_-_, _≤_}
 use native.Mathlib.Omega.{arith}
 use borrow.Author.Tests.{not-true, not-false}
 use Rattle.protocol.specs.Circuit.{Circuit}
 use Rattle.protocol.specs.Refusals.{entryTests}
 use Rattle.protocol.specs.Calls.{entriesOf}
-use Rattle.circuit.proofs.Rows.{Passed, passed-none, passed-turn, passed-stop, passed-end}
+use Rattle.protocol.proofs.Rows.{Passed, passed-none, passed-turn, passed-stop, passed-end}
 use Rattle.circuit.proofs.Entries.{length-entriesOf, length-entryTests}
 use Rattle.circuit.proofs.checks.check_entries.Statement.{statement}
 use Rattle.circuit.proofs.checks.check_entries.Tie as tie
@@ -32,7 +33,7 @@ returns c k er ec =
     let l = c .before .before .before .loop in
     let a = c .before .before .before .before .before .args in
     let es = entriesOf (a .entries .now) in
-    passed-stop 7 (a .start) (entryTests k es) (l .i) (l .inv .1 k er ec) (omega (arith, length-entryTests k es, length-entriesOf (a .entries .now))) _ refl
+    passed-stop 7 (a .start) (entryTests k es) (l .i) (l .inv .1 k er ec) (omega (arith, length-entryTests k es, length-entriesOf (a .entries .now))) true _ refl
     (sym (c .before .entry-passes .ensures k er ec) ∙ not-true _ (c .if1 .taken))
 
 add-i : tie.Need-add-i Inv-loop μ-loop
@@ -48,7 +49,7 @@ loop-again c =
     let es = entriesOf (a .entries .now) in (
       omega arith,
       λ k er ec.
-          passed-turn 7 (a .start) (entryTests k es) (l .i) (l .inv .1 k er ec) (omega (arith, length-entryTests k es, length-entriesOf (a .entries .now)))
+          passed-turn 7 (a .start) (entryTests k es) (l .i) (l .inv .1 k er ec) (omega (arith, length-entryTests k es, length-entriesOf (a .entries .now))) true
           (sym (c .before .entry-passes .ensures k er ec) ∙ not-false _ (c .if1 .left)),
     )
 

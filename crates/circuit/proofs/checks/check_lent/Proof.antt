@@ -1,14 +1,14 @@
 -- `circuit::checks::check_lent` meets its contract. Assumes nothing.
 use borrow.Author.Needs.{needs}
 use mathlib.Core.Path.{sym, _∙_}
+use mathlib.Core.Bool.{true}
 use Prim.Native.Nat.{_-_, _≤_}
 use native.Mathlib.Omega.{arith}
 use lib.Dec.{eqb}
 use lib.ListN.{length}
 use borrow.Author.Tests.{eq-eqb, ne-eqb}
 use Rattle.protocol.specs.Refusals.{pairs}
-use Rattle.circuit.proofs.Rows.{Passed, passed-none, passed-turn, passed-stop, passed-end}
-use Rattle.circuit.proofs.Parts.{length-pairs, pairs-at}
+use Rattle.protocol.proofs.Rows.{Passed, passed-none, passed-turn, passed-stop, passed-end, length-pairs, pairs-at}
 use Rattle.circuit.proofs.checks.check_lent.Statement.{statement}
 use Rattle.circuit.proofs.checks.check_lent.Tie as tie
 
@@ -42,9 +42,9 @@ returns : tie.Need-returns Inv-loop μ-loop
 returns c =
     let s = c .before .before .before .before .before in
     let l = c .before .before .before .before .loop in
-    let count = length-pairs eqb (s .args .lent .now) (s .args .due .now) (omega (arith, s .pre .1)) in
-    passed-stop 5 (s .args .start) (pairs eqb (s .args .lent .now) (s .args .due .now)) (l .i) (l .inv .1) (omega (arith, count, s .pre .1)) _ (omega arith)
-    (pairs-at eqb (s .args .lent .now) (s .args .due .now) (l .i) 0 0 (omega (arith, s .pre .1)) (omega (arith, s .pre .1)) ∙ ne-eqb _ _ (c .if1 .taken))
+    let count = length-pairs eqb (s .args .lent .now) (s .args .due .now) in
+    passed-stop 5 (s .args .start) (pairs eqb (s .args .lent .now) (s .args .due .now)) (l .i) (l .inv .1) (omega (arith, count, s .pre .1)) true _ (omega arith)
+    (pairs-at eqb (s .args .lent .now) (s .args .due .now) (l .i) 0 0 true (omega arith) (omega (arith, s .pre .1)) ∙ ne-eqb _ _ (c .if1 .taken))
 
 add-i : tie.Need-add-i Inv-loop μ-loop
 add-i c = search needs
@@ -56,17 +56,17 @@ loop-again : tie.Need-loop-again Inv-loop μ-loop
 loop-again c =
     let s = c .before .before .before .before .before in
     let l = c .before .before .before .before .loop in
-    let count = length-pairs eqb (s .args .lent .now) (s .args .due .now) (omega (arith, s .pre .1)) in (
+    let count = length-pairs eqb (s .args .lent .now) (s .args .due .now) in (
       omega arith,
-      passed-turn 5 (s .args .start) (pairs eqb (s .args .lent .now) (s .args .due .now)) (l .i) (l .inv .1) (omega (arith, count, s .pre .1))
-          (pairs-at eqb (s .args .lent .now) (s .args .due .now) (l .i) 0 0 (omega (arith, s .pre .1)) (omega (arith, s .pre .1)) ∙ eq-eqb _ _ (c .if1 .left)),
+      passed-turn 5 (s .args .start) (pairs eqb (s .args .lent .now) (s .args .due .now)) (l .i) (l .inv .1) (omega (arith, count, s .pre .1)) true
+          (pairs-at eqb (s .args .lent .now) (s .args .due .now) (l .i) 0 0 true (omega arith) (omega (arith, s .pre .1)) ∙ eq-eqb _ _ (c .if1 .left)),
     )
 
 returns-2 : tie.Need-returns-2 Inv-loop μ-loop
 returns-2 c =
     let s = c .before .before in
     let l = c .before .loop in
-    let count = length-pairs eqb (s .args .lent .now) (s .args .due .now) (omega (arith, s .pre .1)) in
+    let count = length-pairs eqb (s .args .lent .now) (s .args .due .now) in
     sym (passed-end 5 (s .args .start) (pairs eqb (s .args .lent .now) (s .args .due .now)) (l .i) (l .inv .1) (omega (arith, count, s .pre .1)))
 
 pub check-lent-spec : {M : Type 1} → statement M

@@ -6,6 +6,7 @@ use mathlib.Core.List.{List, [], _∷_, map}
 use Prim.Native.Nat.{ℕ, _-_, _≤_, _<_}
 use native.Mathlib.Omega.{arith}
 use lib.ListN.{length, getD, length-map}
+use Rattle.algebra.proofs.Counting.{all-at}
 use Rattle.field.specs.Prime.{Prime}
 use Rattle.field.specs.Element.{Elem, of, 𝟘}
 use Rattle.domain.specs.Size.{isSize}
@@ -13,9 +14,7 @@ use Rattle.domain.specs.Domain.{inside}
 use Rattle.domain.specs.Qualifies.{Qualifies}
 use Rattle.poly.proofs.WordLists.{element-at}
 use Rattle.protocol.specs.Refusals.{pairs, challengeRefusal}
-use Rattle.circuit.proofs.Rows.{Passed, passed-none, passed-turn, passed-stop, passed-end}
-use Rattle.circuit.proofs.Entries.{all-at}
-use Rattle.circuit.proofs.Parts.{length-pairs, pairs-at}
+use Rattle.protocol.proofs.Rows.{Passed, passed-none, passed-turn, passed-stop, passed-end, length-pairs, pairs-at}
 use Rattle.circuit.proofs.checks.check_points.Statement.{statement}
 use Rattle.circuit.proofs.checks.check_points.Tie as tie
 
@@ -25,13 +24,12 @@ tests q ns points = pairs (λ (n : ℕ) (y : Elem q). not (inside n y)) ns (map 
 -- how many they are, and the test at place i
 tests-count : (q : Prime) (ns points : List ℕ) → length points ≤ length ns → length (tests q ns points) ≡ length points
 tests-count q ns points h =
-    length-pairs (λ (n : ℕ) (y : Elem q). not (inside n y)) ns (map of points) (omega (arith, length-map points (of {q = q})))
-    ∙ length-map points of
+    omega (arith, length-pairs (λ (n : ℕ) (y : Elem q). not (inside n y)) ns (map of points), length-map points (of {q = q}))
 
 test-at : (q : Prime) (ns points : List ℕ) (i : ℕ) (b : Bool) → length points ≤ length ns → i < length points
     → b ≡ inside (getD ns i 0) (of {q = q} (getD points i 0)) → getD (tests q ns points) i true ≡ not b
 test-at q ns points i b h within e =
-    pairs-at (λ (n : ℕ) (y : Elem q). not (inside n y)) ns (map of points) i 0 𝟘 (omega (arith, length-map points (of {q = q})))
+    pairs-at (λ (n : ℕ) (y : Elem q). not (inside n y)) ns (map of points) i 0 𝟘 true (omega arith)
     (omega (arith, length-map points (of {q = q})))
     ∙ ap (λ (y : Elem q). not (inside (getD ns i 0) y)) (sym (element-at points i)) ∙ ap not (sym e)
 
@@ -68,7 +66,7 @@ returns c q Q e =
     let a = c .before .before .before .before .before .before .args in
     let l = c .before .before .before .before .loop in
     let ns : List ℕ = a .r ∷ a .c ∷ a .k ∷ [] in
-    passed-stop 10 0 (tests q ns (a .points .now)) (l .i) (l .inv .1 q Q e) (omega (arith, tests-count q ns (a .points .now) (c .before .before .before .before .before .before .pre .1 .1))) (l .i) (omega arith)
+    passed-stop 10 0 (tests q ns (a .points .now)) (l .i) (l .inv .1 q Q e) (omega (arith, tests-count q ns (a .points .now) (c .before .before .before .before .before .before .pre .1 .1))) true (l .i) (omega arith)
     (test-at q ns (a .points .now) (l .i) (c .before .is-inside .result) (c .before .before .before .before .before .before .pre .1 .1) (omega arith) (c .before .is-inside .ensures q Q e) ∙ ap not (c .if1 .taken))
 
 add-i : tie.Need-add-i Inv-loop μ-loop
@@ -84,7 +82,7 @@ loop-again c =
     let ns : List ℕ = a .r ∷ a .c ∷ a .k ∷ [] in (
       omega arith,
       λ q Q e.
-          passed-turn 10 0 (tests q ns (a .points .now)) (l .i) (l .inv .1 q Q e) (omega (arith, tests-count q ns (a .points .now) (c .before .before .before .before .before .before .pre .1 .1)))
+          passed-turn 10 0 (tests q ns (a .points .now)) (l .i) (l .inv .1 q Q e) (omega (arith, tests-count q ns (a .points .now) (c .before .before .before .before .before .before .pre .1 .1))) true
           (test-at q ns (a .points .now) (l .i) (c .before .is-inside .result) (c .before .before .before .before .before .before .pre .1 .1) (omega arith) (c .before .is-inside .ensures q Q e) ∙ ap not (c .if1 .left)),
     )
 

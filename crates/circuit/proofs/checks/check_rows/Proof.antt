@@ -1,7 +1,7 @@
 -- `circuit::checks::check_rows` meets its contract: the rows passed are satisfied. Assumes nothing.
 use borrow.Author.Needs.{needs}
 use mathlib.Core.Path.{_≡_, sym, _∙_}
-use mathlib.Core.Bool.{Bool}
+use mathlib.Core.Bool.{Bool, true}
 use mathlib.Core.List.{List}
 use Prim.Native.Nat.{ℕ, _-_, _≤_}
 use native.Mathlib.Omega.{arith}
@@ -10,7 +10,7 @@ use borrow.Author.Tests.{eq-eqb, ne-eqb}
 use Rattle.algebra.specs.Lists.{tabulate}
 use Rattle.field.specs.Prime.{Prime}
 use Rattle.field.specs.Element.{Elem, words, equal, _⊗_}
-use Rattle.circuit.proofs.Rows.{Passed, passed-none, passed-turn, passed-stop, passed-end}
+use Rattle.protocol.proofs.Rows.{Passed, passed-none, passed-turn, passed-stop, passed-end}
 use Rattle.circuit.proofs.Sums.{rows-count, row-test}
 use Rattle.circuit.proofs.checks.check_rows.Statement.{statement}
 use Rattle.circuit.proofs.checks.check_rows.Tie as tie
@@ -56,7 +56,7 @@ returns c q e n s t u ea eb ec =
     let a = c .before .before .before .before .before .before .before .before .before .before .args in
     let call = c .before .before .multiply in
     passed-stop 9 0 (tests q n s t u) (l .i) (l .inv .1 q e n s t u ea eb ec)
-    (omega (arith, rows-count n s t u (a .a .now) (a .b .now) (a .c .now) ea eb ec)) (l .i) (omega arith)
+    (omega (arith, rows-count n s t u (a .a .now) (a .b .now) (a .c .now) ea eb ec)) true (l .i) (omega arith)
     (row-test n s t u (a .a .now) (a .b .now) (a .c .now) ea eb ec (l .i) (call .result) (omega arith) (call .ensures q e) ∙ ne-eqb _ _ (c .if1 .taken))
 
 add-i : tie.Need-add-i Inv-loop μ-loop
@@ -73,7 +73,7 @@ loop-again c =
       omega arith,
       λ q e n s t u ea eb ec.
           passed-turn 9 0 (tests q n s t u) (l .i) (l .inv .1 q e n s t u ea eb ec)
-          (omega (arith, rows-count n s t u (a .a .now) (a .b .now) (a .c .now) ea eb ec))
+          (omega (arith, rows-count n s t u (a .a .now) (a .b .now) (a .c .now) ea eb ec)) true
           (row-test n s t u (a .a .now) (a .b .now) (a .c .now) ea eb ec (l .i) (call .result) (omega arith) (call .ensures q e) ∙ eq-eqb _ _ (c .if1 .left)),
     )
 

@@ -9,7 +9,7 @@ use borrow.Author.Tests.{not-true, not-false}
 use Rattle.protocol.specs.Circuit.{Circuit}
 use Rattle.protocol.specs.Refusals.{Refusal, refuse, entryTests}
 use Rattle.protocol.specs.Calls.{entriesOf}
-use Rattle.circuit.proofs.Rows.{stops, goes-on, last-answer}
+use Rattle.circuit.proofs.EarlyReturns.{stops, goes-on, last-answer}
 use Rattle.circuit.proofs.Parts.{entries-in-parts}
 use Rattle.circuit.proofs.checks.check_three_entries.Statement.{statement}
 use Rattle.circuit.proofs.checks.check_three_entries.Tie as tie

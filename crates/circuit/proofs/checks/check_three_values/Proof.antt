@@ -7,7 +7,7 @@ use Prim.Native.Nat.{ℕ, _+_, _/_}
 use lib.ListN.{length}
 use borrow.Author.Tests.{not-true, not-false}
 use Rattle.protocol.specs.Refusals.{Refusal, refuse}
-use Rattle.circuit.proofs.Rows.{stops, goes-on, last-answer}
+use Rattle.circuit.proofs.EarlyReturns.{stops, goes-on, last-answer}
 use Rattle.circuit.proofs.Parts.{valueTests, values-in-parts}
 use Rattle.circuit.proofs.checks.check_three_values.Statement.{statement}
 use Rattle.circuit.proofs.checks.check_three_values.Tie as tie

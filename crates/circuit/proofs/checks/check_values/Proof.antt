@@ -1,7 +1,7 @@
 -- `circuit::checks::check_values` meets its contract: the values passed are below p. Assumes nothing.
 use borrow.Author.Needs.{needs}
 use mathlib.Core.Path.{refl, sym, _∙_}
-use mathlib.Core.Bool.{Bool}
+use mathlib.Core.Bool.{Bool, true}
 use mathlib.Core.List.{List, map}
 use Prim.Native.Nat.{ℕ, _-_, _≤_}
 use native.Mathlib.Omega.{arith}
@@ -9,7 +9,7 @@ use lib.Dec.{ltb}
 use borrow.Author.Tests.{lt-ltb, le-ltb}
 use Rattle.protocol.specs.Circuit.{Entry}
 use Rattle.protocol.specs.Calls.{entriesOf}
-use Rattle.circuit.proofs.Rows.{Passed, passed-none, passed-turn, passed-stop, passed-end}
+use Rattle.protocol.proofs.Rows.{Passed, passed-none, passed-turn, passed-stop, passed-end}
 use Rattle.circuit.proofs.Entries.{values-count, value-test}
 use Rattle.circuit.proofs.checks.check_values.Statement.{statement}
 use Rattle.circuit.proofs.checks.check_values.Tie as tie
@@ -45,7 +45,7 @@ returns : tie.Need-returns Inv-loop μ-loop
 returns c =
     let l = c .before .before .before .loop in
     let a = c .before .before .before .before .args in
-    passed-stop 6 (a .start) (tests (a .p) (a .entries .now)) (l .i) (l .inv .1) (omega (arith, values-count (a .p) (a .entries .now))) _ refl
+    passed-stop 6 (a .start) (tests (a .p) (a .entries .now)) (l .i) (l .inv .1) (omega (arith, values-count (a .p) (a .entries .now))) true _ refl
     (value-test (a .p) (a .entries .now) (l .i) (omega arith) ∙ le-ltb _ _ (c .if1 .taken))
 
 add-i : tie.Need-add-i Inv-loop μ-loop
@@ -59,7 +59,7 @@ loop-again c =
     let l = c .before .before .before .loop in
     let a = c .before .before .before .before .args in (
       omega arith,
-      passed-turn 6 (a .start) (tests (a .p) (a .entries .now)) (l .i) (l .inv .1) (omega (arith, values-count (a .p) (a .entries .now)))
+      passed-turn 6 (a .start) (tests (a .p) (a .entries .now)) (l .i) (l .inv .1) (omega (arith, values-count (a .p) (a .entries .now))) true
           (value-test (a .p) (a .entries .now) (l .i) (omega arith) ∙ lt-ltb _ _ (c .if1 .left)),
     )
 

@@ -9,7 +9,7 @@ use Rattle.protocol.specs.Refusals.{Refusal, refuse, pairs}
 use Rattle.protocol.specs.Calls.{CircuitWords, circuitOf, roundRefusal}
 use Rattle.circuit.specs.Given.{given}
 use Rattle.circuit.specs.Judgement.{contentsRefusal}
-use Rattle.circuit.proofs.Rows.{stops, goes-on, fine-none, last-answer}
+use Rattle.circuit.proofs.EarlyReturns.{stops, goes-on, fine-none, last-answer}
 use Rattle.circuit.proofs.Parts.{prover-in-parts, shape-fits}
 use borrow.Author.Needs.{needs}
 use Rattle.circuit.proofs.judging.judge_round.Statement.{statement}

@@ -13,8 +13,8 @@ returns : tie.Need-returns
 unfolding listRefusal
 returns c = simp (lt-leb _ _ (c .if1 .taken))
 
-check-words-requires : tie.Need-check-words-requires
-check-words-requires c κs = search needs
+judge-words-requires : tie.Need-judge-words-requires
+judge-words-requires c κs = search needs
 
 is-fine-requires : tie.Need-is-fine-requires
 is-fine-requires c κs = search needs
@@ -22,24 +22,24 @@ is-fine-requires c κs = search needs
 returns-2 : tie.Need-returns-2
 returns-2 c =
     let s = c .before .before .before .before .before in
-    evaluation-stops babyBear (s .args .f .now) (s .args .y) (c .before .before .before .if1 .left) (c .before .before .check-words .result)
-    (c .before .before .check-words .ensures) (sym (c .before .is-fine .ensures) ∙ not-true _ (c .if2 .taken))
+    evaluation-stops babyBear (s .args .f .now) (s .args .y) (c .before .before .before .if1 .left) (c .before .before .judge-words .result)
+    (c .before .before .judge-words .ensures) (sym (c .before .is-fine .ensures) ∙ not-true _ (c .if2 .taken))
 
 returns-3 : tie.Need-returns-3
 returns-3 c =
     let s = c .before .before .before .before .before .before in
-    evaluation-goes babyBear (s .args .f .now) (s .args .y) (c .before .before .before .before .if1 .left) (c .before .before .before .check-words .result)
-    (c .before .before .before .check-words .ensures) (sym (c .before .before .is-fine .ensures) ∙ not-false _ (c .before .if2 .left)) true
+    evaluation-goes babyBear (s .args .f .now) (s .args .y) (c .before .before .before .before .if1 .left) (c .before .before .before .judge-words .result)
+    (c .before .before .before .judge-words .ensures) (sym (c .before .before .is-fine .ensures) ∙ not-false _ (c .before .if2 .left)) true
     (lt-ltb _ _ (c .if3 .taken))
 
 returns-4 : tie.Need-returns-4
 returns-4 c =
     let s = c .before .before .before .before .before .before in
-    evaluation-goes babyBear (s .args .f .now) (s .args .y) (c .before .before .before .before .if1 .left) (c .before .before .before .check-words .result)
-    (c .before .before .before .check-words .ensures) (sym (c .before .before .is-fine .ensures) ∙ not-false _ (c .before .if2 .left)) false
+    evaluation-goes babyBear (s .args .f .now) (s .args .y) (c .before .before .before .before .if1 .left) (c .before .before .before .judge-words .result)
+    (c .before .before .before .judge-words .ensures) (sym (c .before .before .is-fine .ensures) ∙ not-false _ (c .before .if2 .left)) false
     (le-ltb _ _ (c .if3 .left))
 
 pub judge-evaluation-spec : {M : Type 1} → statement M
 judge-evaluation-spec =
     tie.close
-    (tie.spec returns check-words-requires is-fine-requires returns-2 returns-3 returns-4)
+    (tie.spec returns judge-words-requires is-fine-requires returns-2 returns-3 returns-4)

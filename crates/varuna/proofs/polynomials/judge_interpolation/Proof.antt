@@ -27,17 +27,17 @@ returns-3 c =
       ne-eqb _ _ (c .if3 .taken),
     )
 
-check-words-requires : tie.Need-check-words-requires
-check-words-requires c κs = search needs
+judge-words-requires : tie.Need-judge-words-requires
+judge-words-requires c κs = search needs
 
 returns-4 : tie.Need-returns-4
 unfolding wordRefusal
 returns-4 c =
-    c .check-words .ensures
+    c .judge-words .ensures
     ∙ interpolation-goes _ _ _ _ (sym (c .before .before .before .before .is-size .ensures) ∙ not-false _ (c .before .before .before .if1 .left))
     (c .before .before .if2 .left) (c .before .if3 .left)
 
 pub judge-interpolation-spec : {M : Type 1} → statement M
 judge-interpolation-spec =
     tie.close
-    (tie.spec is-size-requires returns returns-2 returns-3 check-words-requires returns-4)
+    (tie.spec is-size-requires returns returns-2 returns-3 judge-words-requires returns-4)
