@@ -24,7 +24,7 @@ use Rattle.protocol.proofs.MatrixCheck.{matrix-length, length-matrixQuotient}
 use Rattle.protocol.proofs.JoinedRule.{length-joinedQuotient}
 use Rattle.poly.proofs.Coefficients.{coefficient-add}
 use Rattle.prover.specs.MatrixGiven.{Given, Challenged, lists}
-use Rattle.prover.proofs.MatrixLists.{zeros-at}
+use Rattle.prover.proofs.MatrixLists.{replicate-at}
 use Rattle.prover.proofs.MatrixTerms.{given-size, well-formed-at}
 
 module _ {q : Prime} where
@@ -49,7 +49,7 @@ module _ {q : Prime} where
       ∙ ap (λ x. x ⊕ getD c i 𝟘)
       (coefficient-add R (plus zeros a) b i
       ∙ ap (λ x. x ⊕ getD b i 𝟘)
-      (coefficient-add R zeros a i ∙ ap (λ x. x ⊕ getD a i 𝟘) (zeros-at n i) ∙ zero-add R (getD a i 𝟘))
+      (coefficient-add R zeros a i ∙ ap (λ x. x ⊕ getD a i 𝟘) (replicate-at 𝟘 n i) ∙ zero-add R (getD a i 𝟘))
       ∙ sym (coefficient-add R a b i))
       ∙ sym (coefficient-add R (plus a b) c i))
 

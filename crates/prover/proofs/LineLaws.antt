@@ -8,7 +8,7 @@ use native.Mathlib.Numerals.{add-one}
 use native.Mathlib.Decide.{ℕ-discrete}
 use borrow.Author.Tests.{eq-eqb, ne-eqb}
 use lib.Dec.{eqb}
-use lib.ListN.{length, getD, take, drop, set, replicate, length-map, drop-of-length-le, List·getD-map}
+use lib.ListN.{length, getD, take, drop, set, length-map, drop-of-length-le, List·getD-map}
 use lib.Seq.{drop-cons, getD-set-same, getD-set-other, getD-take}
 use Rattle.algebra.specs.Counting.{All}
 use Rattle.algebra.specs.Lists.{pick, tabulate}
@@ -131,11 +131,6 @@ module _ {q : Prime} where
       ap (λ (m : ℕ). tabulate m (λ j. of (getD (take n d) j 0) ⊕ f j)) (sym (part-length n d within))
       ∙ tabulate-ext n _ f (λ j below.
       ap (λ (w : ℕ). of w ⊕ f j) (getD-take n d j 0 below ∙ zeros j) ∙ zero-add (primeRing q) (f j))
-
-pub zeros-at : (n j : ℕ) → getD {A = ℕ} (replicate n 0) j 0 ≡ 0
-zeros-at zero j = refl
-zeros-at (suc n) zero = refl
-zeros-at (suc n) (suc j) = zeros-at n j
 
 -- L of each row at α
 abbrev pub rowValues : {q : Prime} → ℕ → Elem q → List (Elem q)

@@ -21,7 +21,8 @@ use Rattle.protocol.specs.Circuit.{Circuit}
 use Rattle.protocol.specs.Index.{Index, index}
 use Rattle.protocol.specs.Messages.{numerator, denominator}
 use Rattle.poly.proofs.Coefficients.{coefficient-add, coefficient-scale}
-use Rattle.prover.proofs.MatrixLists.{of-list, of-zeros, zeros-at, zeros-after}
+use Rattle.prover.proofs.WitnessParts.{of-results}
+use Rattle.prover.proofs.MatrixLists.{replicate-at, of-zeros, zeros-after}
 
 module _ {q : Prime} where
   abbrev R : CommRing (Elem q)
@@ -31,7 +32,7 @@ module _ {q : Prime} where
   pub added : (f g : List ℕ) (k : ℕ) {s : List ℕ} {F G : Poly q} {K : Elem q}
       → s ≡ words (plus (map (of {q = q}) f) (scale (of k) (map of g))) → map of f ≡ F → of k ≡ K → map of g ≡ G → map of s ≡ plus F (scale K G)
   added f g k {s} {F} {G} {K} made first factor second =
-      of-list _ made ∙ ap₂ plus first (ap₂ scale factor second)
+      of-results _ made ∙ ap₂ plus first (ap₂ scale factor second)
 
   -- a word before zeros
   pub before-zeros : (m : ℕ) {n v : ℕ} {zeros : List ℕ} (x : Elem q) → n ≡ suc m → zeros ≡ replicate n 0 → v ≡ x .word
@@ -50,7 +51,7 @@ module _ {q : Prime} where
   pub zeros-plus : (n : ℕ) (f : Poly q) → length f ≡ n → plus (replicate n 𝟘) f ≡ f
   zeros-plus n f e =
       equal-entries 𝟘 _ f (omega (arith, length-add R (replicate n 𝟘) f, length-replicate n (𝟘 {q = q})))
-      (λ i _. coefficient-add R (replicate n 𝟘) f i ∙ ap (λ x. x ⊕ getD f i 𝟘) (zeros-at n i) ∙ zero-add R (getD f i 𝟘))
+      (λ i _. coefficient-add R (replicate n 𝟘) f i ∙ ap (λ x. x ⊕ getD f i 𝟘) (replicate-at 𝟘 n i) ∙ zero-add R (getD f i 𝟘))
 
   -- f - g, as long as g
   module _ (n : ℕ) (f g : Poly q) where
@@ -69,7 +70,7 @@ module _ {q : Prime} where
         ))
         (λ i _.
         sum-at (plus zeros (scale 𝟙 f)) g (𝟘 ⊖ 𝟙) i
-        ∙ ap (λ x. x ⊕ (𝟘 ⊖ 𝟙) ⊗ getD g i 𝟘) (sum-at zeros f 𝟙 i ∙ ap (λ x. x ⊕ 𝟙 ⊗ getD f i 𝟘) (zeros-at n i))
+        ∙ ap (λ x. x ⊕ (𝟘 ⊖ 𝟙) ⊗ getD g i 𝟘) (sum-at zeros f 𝟙 i ∙ ap (λ x. x ⊕ 𝟙 ⊗ getD f i 𝟘) (replicate-at 𝟘 n i))
         ∙ ring R (getD f i 𝟘 ∷ getD g i 𝟘 ∷ []) (λ f g. :0 :+ :1 :* f :+ (:0 :- :1) :* g := f :+ (:- :1) :* g) tt
         ∙ sym (sum-at f g (neg 𝟙) i))
 

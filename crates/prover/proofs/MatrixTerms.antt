@@ -4,7 +4,7 @@ use mathlib.Core.Path.{_≡_, refl, sym, ap, ap₂, _∙_, subst}
 use mathlib.Core.List.{List, [], _∷_, _++_, map}
 use Prim.Native.Nat.{ℕ, zero, suc, _-_, _/_, _≤_, _<_}
 use native.Mathlib.Omega.{arith}
-use lib.ListN.{length, getD, drop, replicate, length-map}
+use lib.ListN.{length, getD, drop, replicate, length-map, List·getD-eq-default}
 use lib.Seq.{drop-cons}
 use Rattle.algebra.specs.Sum.{sumList}
 use Rattle.field.specs.Prime.{Prime}
@@ -18,10 +18,10 @@ use Rattle.protocol.specs.Messages.{ratio}
 use Rattle.protocol.specs.Calls.{entriesOf}
 use Rattle.protocol.proofs.AdmissionLaws.{WellFormed}
 use Rattle.protocol.proofs.ProverForms.{ratio-by-entries}
+use Rattle.protocol.proofs.Rows.{map-at}
 use Rattle.circuit.specs.Given.{entryWords, EntryWords}
 use Rattle.circuit.proofs.Entries.{length-entriesOf, entry-at}
 use Rattle.prover.specs.MatrixGiven.{Given, Challenged, termOf, terms, padded}
-use Rattle.prover.proofs.MatrixLists.{getD-past, getD-map}
 
 -- 1,024 entries at most
 pub few-entries : {l : List ℕ} → EntryWords l → length (entriesOf l) ≤ maxSize
@@ -34,10 +34,10 @@ module _ {q : Prime} (r c : ℕ) (α β : Elem q) (l : List ℕ) where
   pub term-at-entry : (i : ℕ) → i < length l / 3 → getD (terms r c α β l) i 𝟘 ≡ termOf r c α β (entryWords l i)
   term-at-entry i h =
       let below : i < length (entriesOf l) = omega (arith, length-entriesOf l) in
-      getD-map (termOf r c α β) (entriesOf l) i (entryWords l i) 𝟘 below ∙ ap (termOf r c α β) (entry-at l i (entryWords l i) below)
+      map-at (termOf r c α β) (entriesOf l) i (entryWords l i) 𝟘 below ∙ ap (termOf r c α β) (entry-at l i (entryWords l i) below)
 
   pub term-past : (i : ℕ) → length l / 3 ≤ i → getD (terms r c α β l) i 𝟘 ≡ 𝟘
-  term-past i h = getD-past (terms r c α β l) i 𝟘 (omega (arith, length-terms))
+  term-past i h = List·getD-eq-default (terms r c α β l) 𝟘 (omega (arith, length-terms))
 
   -- the sum of the terms from the i-th on
   unfoldable pub sumFrom : ℕ → Elem q

@@ -1,15 +1,15 @@
 -- The first n entries of an array, lent to a call that fills them and lent again: e is what the call left there, d the array before.
 -- Also words that a call computed, as elements. Assumes nothing.
-use mathlib.Core.Path.{_≡_, refl, sym, ap, ap₂, _∙_}
-use mathlib.Core.List.{List, [], _∷_, _++_, map}
+use mathlib.Core.Path.{_≡_, sym, ap, ap₂, _∙_}
+use mathlib.Core.List.{List, _++_, map}
 use Prim.Native.Nat.{ℕ, _+_, _-_, _≤_, _<_}
 use native.Mathlib.Omega.{arith}
 use lib.ListN.{length, take, drop}
 use lib.Seq.{length-take-le, length-front, take-at}
 use Rattle.field.specs.Prime.{Prime}
 use Rattle.field.specs.Element.{Elem, of, words}
-use Rattle.field.proofs.ElementLaws.{of-word}
 use Rattle.domain.specs.Polynomial.{interpolate}
+use Rattle.circuit.proofs.IndexValues.{map-of-words}
 
 module _ (n : ℕ) (d : List ℕ) (within : n ≤ length d) where
   pub part-length : n ≡ length (take n d)
@@ -26,13 +26,9 @@ module _ (n : ℕ) (d : List ℕ) (within : n ≤ length d) where
     filled-length = part-length ∙ sym kept ∙ ap length (sym filled-part)
 
 module _ {q : Prime} where
-  pub of-words : (l : List (Elem q)) → map of (words l) ≡ l
-  of-words [] = refl
-  of-words (a ∷ l) = ap₂ _∷_ (of-word a) (of-words l)
-
   -- the elements of words that were computed
   pub of-results : {ws : List ℕ} (l : List (Elem q)) → ws ≡ words l → map of ws ≡ l
-  of-results l e = ap (map of) e ∙ of-words l
+  of-results l e = ap (map of) e ∙ map-of-words l
 
   -- and of those in the first n entries of an array
   pub of-filled : (n : ℕ) (d : List ℕ) → n ≤ length d → (e : List ℕ) → length e ≡ length (take n d) → (l : List (Elem q)) → e ≡ words l

@@ -10,7 +10,8 @@ use Rattle.domain.specs.Polynomial.{Poly, plus}
 use Rattle.protocol.specs.Three.{MatrixName, A, B, C, Three, mapThree}
 use Rattle.protocol.specs.Meanings.{three}
 use Rattle.prover.specs.MatrixGiven.{lists}
-use Rattle.prover.proofs.MatrixLists.{of-list, of-zeros}
+use Rattle.prover.proofs.WitnessParts.{of-results}
+use Rattle.prover.proofs.MatrixLists.{of-zeros}
 use Rattle.prover.proofs.JoinedForms.{joinedTerm, joined-fits, joined-made}
 use Rattle.prover.proofs.joined.joined_quotient_into.Statement.{statement}
 use Rattle.prover.proofs.joined.joined_quotient_into.Tie as tie
@@ -78,10 +79,10 @@ returns c q k G H =
     let zeros : map of (at-clear .clear .last .0) ≡ replicate n (𝟘 {q = q}) =
     ap (map of) (at-clear .clear .ensures) ∙ of-zeros n in
     let one : map of (at-add-matrix .add-matrix .last .1 .1 .1 .1 .1 .1 .1 .0) ≡ plus (replicate n 𝟘) (term n A) =
-    of-list _ (at-add-matrix .add-matrix .ensures q k A (G A) H) ∙ ap₂ plus zeros
+    of-results _ (at-add-matrix .add-matrix .ensures q k A (G A) H) ∙ ap₂ plus zeros
     (ap (λ z. term z A) (at-clear .clear .kept .0)) in
     let two : map of (at-add-matrix2 .add-matrix2 .last .1 .1 .1 .1 .1 .1 .1 .0) ≡ plus (plus (replicate n 𝟘) (term n A)) (term n B) =
-    of-list _ (at-add-matrix2 .add-matrix2 .ensures q k B (G B) H) ∙ ap₂ plus one
+    of-results _ (at-add-matrix2 .add-matrix2 .ensures q k B (G B) H) ∙ ap₂ plus one
     (ap (λ z. term z B) (at-add-matrix .add-matrix .kept .1 .1 .1 .1 .1 .1 .1 .0 ∙ at-clear .clear .kept .0)) in
     at-add-matrix3 .add-matrix3 .ensures q k C (G C) H
     ∙ ap words

@@ -14,7 +14,8 @@ use Rattle.protocol.specs.Checks.{weighted}
 use Rattle.protocol.specs.Meanings.{three}
 use Rattle.protocol.proofs.ProverForms.{columnSum}
 use Rattle.prover.proofs.WitnessParts.{part-length, filled-within, filled-length, of-filled, interpolate-part}
-use Rattle.prover.proofs.LineLaws.{zeros-at, rowValues, weights-made, each-within}
+use Rattle.prover.proofs.MatrixLists.{replicate-at}
+use Rattle.prover.proofs.LineLaws.{rowValues, weights-made, each-within}
 use Rattle.prover.proofs.line.weights_into.Statement.{statement}
 use Rattle.prover.proofs.line.weights_into.Tie as tie
 
@@ -104,7 +105,7 @@ returns c q known Q k eR matrices =
     (call .ensures q (known .value)
     ∙ weights-made q k (a .c) eR α η (a .a .now) (a .b .now) (a .m .now) matrices (start .pre .1 .1 .1)
     (of-filled _ _ (r-bound start) (values .last .1 .1 .1 .0) (values .kept .1 .1 .1 .0) (rowValues (a .r) α) (values .ensures q known Q))
-    (replicate 1024 0) (c-bound start) (zeros-at 1024))
+    (replicate 1024 0) (c-bound start) (replicate-at 0 1024))
 
 pub weights-into-spec : {M : Type 1} → statement M
 weights-into-spec =

@@ -11,7 +11,7 @@ use Rattle.field.proofs.Words.{of-result}
 use Rattle.domain.specs.Polynomial.{Poly, scale}
 use Rattle.domain.proofs.Fill.{length-words}
 use Rattle.protocol.specs.Index.{Index, index}
-use Rattle.prover.proofs.MatrixLists.{of-list}
+use Rattle.prover.proofs.WitnessParts.{of-results}
 use Rattle.prover.proofs.MatrixForms.{added, before-zeros, factors-form, denominator-made}
 use Rattle.prover.proofs.matrix.denominator_into.Statement.{statement}
 use Rattle.prover.proofs.matrix.denominator_into.Tie as tie
@@ -118,13 +118,13 @@ returns c q k M e rows columns e-row e-col e-rowcol =
     let first : List ℕ = set (at-clear .clear .last .0) 0 (at-multiply .multiply .result) in
     let one = before-zeros (n - 1) (α ⊗ β) next (at-clear .clear .ensures) (at-multiply .multiply .ensures q e) in
     let two = added first (a .col .now) (at-subtract .subtract .result) (at-add-scaled .add-scaled .ensures q e) one
-    (of-result (𝟘 ⊖ α) (at-subtract .subtract .ensures q e)) (of-list (i .col) e-col) in
+    (of-result (𝟘 ⊖ α) (at-subtract .subtract .ensures q e)) (of-results (i .col) e-col) in
     let three =
     added (at-add-scaled .add-scaled .last .1 .0) (a .row .now) (at-subtract2 .subtract2 .result)
     (at-add-scaled2 .add-scaled2 .ensures q e) two
-    (of-result (𝟘 ⊖ β) (at-subtract2 .subtract2 .ensures q e)) (of-list (i .row) e-row) in
+    (of-result (𝟘 ⊖ β) (at-subtract2 .subtract2 .ensures q e)) (of-results (i .row) e-row) in
     let four = added (at-add-scaled2 .add-scaled2 .last .1 .0) (a .rowcol .now) 1 (at-add-scaled3 .add-scaled3 .ensures q e) three refl
-    (of-list (i .rowcol) e-rowcol) in
+    (of-results (i .rowcol) e-rowcol) in
     let row-length : length (i .row) ≡ suc (n - 1) = sym (length-words (i .row)) ∙ ap length (sym e-row) ∙ start .pre .1 .1 .0 ∙ next in
     let col-length : length (i .col) ≡ suc (n - 1) = sym (length-words (i .col)) ∙ ap length (sym e-col) ∙ start .pre .1 .1 .1 .0 ∙ next in
     let rowcol-length : length (i .rowcol) ≡ suc (n - 1) =

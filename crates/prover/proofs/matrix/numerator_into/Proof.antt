@@ -12,7 +12,8 @@ use Rattle.domain.specs.Domain.{vanishing}
 use Rattle.domain.specs.Polynomial.{Poly, plus, scale}
 use Rattle.domain.proofs.Fill.{length-words}
 use Rattle.protocol.specs.Index.{index}
-use Rattle.prover.proofs.MatrixLists.{of-list, of-zeros}
+use Rattle.prover.proofs.WitnessParts.{of-results}
+use Rattle.prover.proofs.MatrixLists.{of-zeros}
 use Rattle.prover.proofs.MatrixForms.{zeros-plus, numerator-made}
 use Rattle.prover.proofs.matrix.numerator_into.Statement.{statement}
 use Rattle.prover.proofs.matrix.numerator_into.Tie as tie
@@ -58,7 +59,7 @@ returns c q k M e rows columns index-words =
     length-scale (primeRing q) _ rowcolval ∙ sym (length-words rowcolval) ∙ ap length (sym index-words) ∙ start .pre .1 in
     at-add-scaled .add-scaled .ensures q e
     ∙ ap words
-    (ap₂ plus zeros (ap₂ scale factor (of-list rowcolval index-words)) ∙ zeros-plus n _ long ∙ numerator-made k M α β rows columns)
+    (ap₂ plus zeros (ap₂ scale factor (of-results rowcolval index-words)) ∙ zeros-plus n _ long ∙ numerator-made k M α β rows columns)
 
 pub numerator-into-spec : {M : Type 1} → statement M
 numerator-into-spec =
