@@ -4,7 +4,6 @@ use mathlib.Core.Path.{_≡_, sym, ap, ap₂, _∙_}
 use mathlib.Core.Option.{Option, none}
 use Prim.Native.Nat.{ℕ}
 use Rattle.protocol.specs.declared.Fault.{Fault}
-use Rattle.protocol.specs.declared.Fault.the-variants as fault
 use Rattle.protocol.specs.Meanings.{faultRefusal}
 use Rattle.protocol.specs.Three.{Three}
 use Rattle.protocol.specs.Refusals.{Refusal, Done, judged}
@@ -14,9 +13,9 @@ use Rattle.varuna.specs.declared.answers.Filled.the-variants as filled
 use Rattle.varuna.specs.Answers.{wordAnswer, threeAnswer, filling, fills, fillsThree}
 use Rattle.varuna.specs.Inputs.{threeOf}
 
--- a judgement that is matched: it is told to be Fine, or Refused
-pub free : {f : Fault} {o : Option Refusal} → fault.Fine ≡ f → faultRefusal f ≡ o → o ≡ none
-free told e = sym (ap faultRefusal told ∙ e)
+-- a judgement that is matched: where the code is told that it is g, Fine or Refused, the first refusal is g's
+pub matched : {f g : Fault} {o : Option Refusal} → f ≡ g → faultRefusal f ≡ o → o ≡ faultRefusal g
+matched told e = sym e ∙ ap faultRefusal told
 
 pub three-same : {T : Type 0} {a b c : T} (w : Three T) → a ≡ w .a → b ≡ w .b → c ≡ w .c → threeOf a b c ≡ w
 three-same {T} {a} {b} {c} w at-a at-b at-c = ap (λ (n : T). threeOf n b c) at-a ∙ ap₂ (λ (m n : T). threeOf (w .a) m n) at-b at-c

@@ -1,13 +1,9 @@
 -- `varuna::arithmetic::add` meets its contract. Assumes nothing.
 use borrow.Author.Needs.{needs}
-use mathlib.Core.Path.{refl, sym, ap, ap₂, _∙_}
-use mathlib.Core.Option.{Option}
-use Prim.Native.Nat.{ℕ}
+use mathlib.Core.Path.{refl}
 use Rattle.domain.specs.BabyBear.{babyBear}
-use Rattle.protocol.specs.Refusals.{Refusal, judged}
 use Rattle.protocol.specs.Calls.{operationCall}
-use Rattle.protocol.specs.Meanings.{faultRefusal}
-use Rattle.varuna.specs.Answers.{wordAnswer}
+use Rattle.varuna.proofs.AnswerLaws.{matched, word-done}
 use Rattle.varuna.proofs.arithmetic.add.Statement.{statement}
 use Rattle.varuna.proofs.arithmetic.add.Tie as tie
 
@@ -25,13 +21,11 @@ enum-known-fault c = search needs
 
 returns : tie.Need-returns
 unfolding operationCall
-returns c =
-    ap₂ (λ (o : Option Refusal) (w : ℕ). wordAnswer (judged o w))
-    (ap faultRefusal (sym (c .before .enum-told .given .1)) ∙ c .before .before .before .check-pair .ensures) (c .add .ensures babyBear refl)
+returns c = word-done (matched (c .before .enum-told .given .1) (c .before .before .before .check-pair .ensures)) (c .add .ensures babyBear refl)
 
 returns-2 : tie.Need-returns-2
 unfolding operationCall
-returns-2 c = rw (sym (ap faultRefusal (sym (c .before .fault .given .1)) ∙ c .before .before .before .check-pair .ensures)) refl
+returns-2 c = rw (matched (c .before .fault .given .1) (c .before .before .before .check-pair .ensures))
 
 pub add-spec : {M : Type 1} → statement M
 add-spec = tie.close (tie.spec check-pair-requires enum-told add-requires enum-known-fault returns returns-2)

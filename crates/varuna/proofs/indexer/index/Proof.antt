@@ -1,5 +1,5 @@
 -- `varuna::indexer::index` meets its contract. Assumes nothing.
-use mathlib.Core.Path.{_≡_, refl, sym, ap, ap₂, _∙_}
+use mathlib.Core.Path.{_≡_, refl, ap, ap₂, _∙_}
 use mathlib.Core.List.{List, [], _∷_, _++_}
 use Prim.Native.Nat.{ℕ}
 use lib.Dec.{eqb, lit<}
@@ -17,7 +17,7 @@ use Rattle.protocol.specs.Meanings.{faultRefusal}
 use Rattle.protocol.specs.Calls.{CircuitWords, circuitOf, entriesOf, entryListTests, indexCall}
 use Rattle.circuit.specs.Given.{given}
 use Rattle.varuna.specs.Inputs.{twelve}
-use Rattle.varuna.proofs.AnswerLaws.{free, fill-done, three-same}
+use Rattle.varuna.proofs.AnswerLaws.{matched, fill-done, three-same}
 use Rattle.circuit.proofs.Fitting.{IndexFits, index-fits}
 use Rattle.varuna.proofs.CallRounds.{known-prime}
 use mathlib.Core.Option.{Option}
@@ -49,7 +49,7 @@ judgement c =
 fits : (c : tie.After-enum-told) → IndexFits (c .before .before .before .before .before .before .before .before .before .before .before .before .before .before .before .before .before .before .before .before .before .before .before .args .r) (c .before .before .before .before .before .before .before .before .before .before .before .before .before .before .before .before .before .before .before .before .before .before .before .args .c) (c .before .before .before .before .before .before .before .before .before .before .before .before .before .before .before .before .before .before .before .before .before .before .before .args .x) (c .before .before .before .before .before .before .before .before .before .before .before .before .before .before .before .before .before .before .before .before .before .before .before .args .ea .now) (c .before .before .before .before .before .before .before .before .before .before .before .before .before .before .before .before .before .before .before .before .before .before .before .args .eb .now) (c .before .before .before .before .before .before .before .before .before .before .before .before .before .before .before .before .before .before .before .before .before .before .before .args .ec .now) babyBear (lent (c .before .before .before .before .before .before .before .before .before .before .before .before .before .before .before .before .before .before .before .before .before .before .before)) (due (c .before .before .before .before .before .before .before .before .before .before .before .before .before .before .before .before .before .before .before .before .before .before .before))
 fits c =
     let s = c .before .before .before .before .before .before .before .before .before .before .before .before .before .before .before .before .before .before .before .before .before .before .before in
-    index-fits (s .args .r) (s .args .c) (s .args .x) (s .args .ea .now) (s .args .eb .now) (s .args .ec .now) babyBear (lent s) (due s) (free (sym (c .enum-told .given .1)) (judgement (c .before .before)))
+    index-fits (s .args .r) (s .args .c) (s .args .x) (s .args .ea .now) (s .args .eb .now) (s .args .ec .now) babyBear (lent s) (due s) (matched (c .enum-told .given .1) (judgement (c .before .before)))
 
 size-of-requires : tie.Need-size-of-requires
 size-of-requires c κs = search needs
@@ -172,7 +172,7 @@ returns c =
     let s = d .before .before .before .before .before .before .before .before .before .before .before .before .before .before .before .before .before .before .before .before .before .before .before in
     let k : Circuit = circuitOf (circuit s) in
     fill-done (twelve (s .args .rowA .now) (s .args .colA .now) (s .args .rowcolA .now) (s .args .rowcolvalA .now) (s .args .rowB .now) (s .args .colB .now) (s .args .rowcolB .now) (s .args .rowcolvalB .now) (s .args .rowC .now) (s .args .colC .now) (s .args .rowcolC .now) (s .args .rowcolvalC .now))
-    (free (sym (d .enum-told .given .1)) (judgement (d .before .before)))
+    (matched (d .enum-told .given .1) (judgement (d .before .before)))
     (three-same (each (λ M. mapIndex words (index {q = babyBear} k M)))
     (c .before .before .before .before .before .before .before .before .before .before .before .before .before .before .before .before .before .before .before .before .before .before .before .before .before .before .before .before .before .before .before .before .before .before .index-matrix-into .ensures babyBear known-prime k A refl refl refl)
     (c .before .before .before .before .before .before .before .before .before .before .before .before .before .before .before .before .before .before .before .before .before .index-matrix-into2 .ensures babyBear known-prime k B refl refl refl)
@@ -180,7 +180,7 @@ returns c =
 
 returns-2 : tie.Need-returns-2
 unfolding indexCall sizesOf circuitOf
-returns-2 c = rw (sym (ap faultRefusal (sym (c .before .fault .given .1)) ∙ judgement (c .before .before .before))) refl
+returns-2 c = rw (matched (c .before .fault .given .1) (judgement (c .before .before .before)))
 
 pub index-spec : {M : Type 1} → statement M
 index-spec =

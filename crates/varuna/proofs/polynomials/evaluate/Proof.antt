@@ -1,9 +1,8 @@
 -- `varuna::polynomials::evaluate` meets its contract. Assumes nothing.
-use mathlib.Core.Path.{refl, sym, ap, _∙_}
+use mathlib.Core.Path.{refl}
 use Rattle.domain.specs.BabyBear.{babyBear}
 use Rattle.protocol.specs.Calls.{evaluateCall}
-use Rattle.protocol.specs.Meanings.{faultRefusal}
-use Rattle.varuna.proofs.AnswerLaws.{free, word-done}
+use Rattle.varuna.proofs.AnswerLaws.{matched, word-done}
 use borrow.Author.Needs.{needs}
 use Rattle.varuna.proofs.polynomials.evaluate.Statement.{statement}
 use Rattle.varuna.proofs.polynomials.evaluate.Tie as tie
@@ -22,11 +21,11 @@ enum-known-fault c = search needs
 
 returns : tie.Need-returns
 unfolding evaluateCall
-returns c = word-done (free (sym (c .before .enum-told .given .1)) (c .before .before .before .judge-evaluation .ensures)) (c .evaluate .ensures babyBear refl)
+returns c = word-done (matched (c .before .enum-told .given .1) (c .before .before .before .judge-evaluation .ensures)) (c .evaluate .ensures babyBear refl)
 
 returns-2 : tie.Need-returns-2
 unfolding evaluateCall
-returns-2 c = rw (sym (ap faultRefusal (sym (c .before .fault .given .1)) ∙ c .before .before .before .judge-evaluation .ensures)) refl
+returns-2 c = rw (matched (c .before .fault .given .1) (c .before .before .before .judge-evaluation .ensures))
 
 pub evaluate-spec : {M : Type 1} → statement M
 evaluate-spec =

@@ -12,8 +12,7 @@ use Rattle.domain.specs.Domain.{root}
 use Rattle.domain.specs.Polynomial.{interpolate}
 use Rattle.protocol.specs.Refusals.{wordRefusal}
 use Rattle.protocol.specs.Calls.{interpolateCall}
-use Rattle.protocol.specs.Meanings.{faultRefusal}
-use Rattle.varuna.proofs.AnswerLaws.{free, fill-done}
+use Rattle.varuna.proofs.AnswerLaws.{matched, fill-done}
 use Rattle.varuna.proofs.CallPolynomials.{Interpolated, interpolation-free}
 use borrow.Author.Needs.{needs}
 use Rattle.varuna.proofs.polynomials.interpolate.Statement.{statement}
@@ -26,7 +25,7 @@ let-through : (c : tie.After-enum-told) →
 let-through c =
     let s = c .before .before .before .before .before in
     interpolation-free (s .args .n) (length (s .args .values .now)) (length (s .args .out .now)) (wordRefusal babyBear (s .args .values .now))
-    (free (sym (c .enum-told .given .1)) (c .before .before .judge-interpolation .ensures))
+    (matched (c .enum-told .given .1) (c .before .before .judge-interpolation .ensures))
 
 judge-interpolation-requires : tie.Need-judge-interpolation-requires
 judge-interpolation-requires c κs = search needs
@@ -56,7 +55,7 @@ returns c =
     let t = let-through d in
     let s = d .before .before .before .before .before in
     let vs = s .args .values .now in
-    fill-done (s .args .out .now) (free (sym (d .enum-told .given .1)) (d .before .before .judge-interpolation .ensures))
+    fill-done (s .args .out .now) (matched (d .enum-told .given .1) (d .before .before .judge-interpolation .ensures))
     (c .before .before .interpolate-into .ensures babyBear refl
     (c .before .before .before .before .root-of .ensures babyBear (record { is-module = refl; value = refl })
     ∙ ap (λ (n : ℕ). root {q = babyBear} n .word) (sym (t .each-value)))
@@ -64,7 +63,7 @@ returns c =
 
 returns-2 : tie.Need-returns-2
 unfolding interpolateCall
-returns-2 c = rw (sym (ap faultRefusal (sym (c .before .fault .given .1)) ∙ c .before .before .before .judge-interpolation .ensures)) refl
+returns-2 c = rw (matched (c .before .fault .given .1) (c .before .before .before .judge-interpolation .ensures))
 
 pub interpolate-spec : {M : Type 1} → statement M
 interpolate-spec =

@@ -1,5 +1,5 @@
 -- `varuna::rounds::fifth_round` meets its contract. Assumes nothing.
-use mathlib.Core.Path.{_≡_, refl, sym, ap, _∙_}
+use mathlib.Core.Path.{_≡_, refl, ap, _∙_}
 use mathlib.Core.List.{List, [], _∷_}
 use Prim.Native.Nat.{ℕ, _-_, max}
 use lib.Dec.{lit<}
@@ -13,7 +13,7 @@ use Rattle.protocol.specs.Meanings.{faultRefusal}
 use Rattle.protocol.specs.Calls.{ProverInput, circuitOf, entriesOf, roundRefusal, fifthRoundCall}
 use Rattle.circuit.specs.Given.{given, proverInput}
 use Rattle.circuit.proofs.Parts.{largest-by-counts}
-use Rattle.varuna.proofs.AnswerLaws.{free, fill-done}
+use Rattle.varuna.proofs.AnswerLaws.{matched, fill-done}
 use Rattle.circuit.proofs.Fitting.{RoundFits, round-fits, shaped}
 use Rattle.prover.proofs.CallLaws.{challenged, matrix-given}
 use Rattle.varuna.proofs.CallRounds.{one-below-largest, known-prime}
@@ -58,7 +58,7 @@ fits : (c : tie.After-enum-told) → Fitting (c .before .before .before .before 
 fits c =
     let s = c .before .before .before .before .before .before .before .before .before .before .before .before .before .before .before in
     round-fits (s .args .r) (s .args .c) (s .args .x) (s .args .ea .now) (s .args .eb .now) (s .args .ec .now) babyBear (s .args .z .now) (s .args .m .now) (s .args .mask) (lent s) (due s) (challenges s) (points s)
-    (free (sym (c .enum-told .given .1)) (judgement (c .before .before)))
+    (matched (c .enum-told .given .1) (judgement (c .before .before)))
 
 largest-size-requires : tie.Need-largest-size-requires
 largest-size-requires c κs = search needs
@@ -103,13 +103,13 @@ returns c =
     let s = d .before .before .before .before .before .before .before .before .before .before .before .before .before .before .before in
     let F = fits d in
     let k : Circuit = circuitOf (given (s .args .r) (s .args .c) (s .args .x) (s .args .ea .now) (s .args .eb .now) (s .args .ec .now)) in
-    fill-done (s .args .out .now) (free (sym (d .enum-told .given .1)) (judgement (d .before .before)))
+    fill-done (s .args .out .now) (matched (d .enum-told .given .1) (judgement (d .before .before)))
     (c .before .before .joined-quotient-into .ensures babyBear k (matrix-given known-prime babyBear-qualifies (s .args .r) (s .args .c) (s .args .x) (s .args .ea .now) (s .args .eb .now) (s .args .ec .now))
     (challenged (F .fits) (s .args .alpha) (s .args .beta) [] (F .outside)))
 
 returns-2 : tie.Need-returns-2
 unfolding fifthRoundCall lengths sizesOf circuitOf largest
-returns-2 c = rw (sym (ap faultRefusal (sym (c .before .fault .given .1)) ∙ judgement (c .before .before .before))) refl
+returns-2 c = rw (matched (c .before .fault .given .1) (judgement (c .before .before .before)))
 
 pub fifth-round-spec : {M : Type 1} → statement M
 fifth-round-spec =

@@ -1,5 +1,5 @@
 -- `varuna::rounds::first_round` meets its contract. Assumes nothing.
-use mathlib.Core.Path.{_≡_, refl, sym, ap, ap₂, _∙_}
+use mathlib.Core.Path.{_≡_, refl, ap₂, _∙_}
 use mathlib.Core.List.{List, [], _∷_}
 use Prim.Native.Nat.{ℕ, _+_, _-_}
 use lib.Dec.{lit<}
@@ -13,7 +13,7 @@ use Rattle.protocol.specs.Meanings.{faultRefusal}
 use Rattle.protocol.specs.Calls.{ProverInput, circuitOf, roundRefusal, firstRoundCall}
 use Rattle.circuit.specs.Given.{given, proverInput}
 use Rattle.prover.specs.CallGiven.{assignmentIn}
-use Rattle.varuna.proofs.AnswerLaws.{free, fill-done}
+use Rattle.varuna.proofs.AnswerLaws.{matched, fill-done}
 use Rattle.circuit.proofs.Fitting.{RoundFits, round-fits, R-fits, C-fits, X-fits, X-below, shares}
 use Rattle.prover.proofs.CallLaws.{assignment-on-C}
 use Rattle.varuna.proofs.CallRounds.{known-prime}
@@ -53,7 +53,7 @@ fits : (c : tie.After-enum-told) → Fitting (c .before .before .before .before 
 fits c =
     let s = c .before .before .before .before .before .before .before .before .before .before .before .before .before .before .before in
     round-fits (s .args .r) (s .args .c) (s .args .x) (s .args .ea .now) (s .args .eb .now) (s .args .ec .now) babyBear (s .args .z .now) (s .args .m .now) (s .args .mask) (lent s) (due s) (challenges s) (points s)
-    (free (sym (c .enum-told .given .1)) (judgement (c .before .before)))
+    (matched (c .enum-told .given .1) (judgement (c .before .before)))
 
 less-requires : tie.Need-less-requires
 less-requires c κs = search needs
@@ -105,14 +105,14 @@ returns c =
     let s = d .before .before .before .before .before .before .before .before .before .before .before .before .before .before .before in
     let F = fits d in
     let k : Circuit = circuitOf (given (s .args .r) (s .args .c) (s .args .x) (s .args .ea .now) (s .args .eb .now) (s .args .ec .now)) in
-    fill-done (s .args .witness .now, s .args .rowQuotient .now) (free (sym (d .enum-told .given .1)) (judgement (d .before .before)))
+    fill-done (s .args .witness .now, s .args .rowQuotient .now) (matched (d .enum-told .given .1) (judgement (d .before .before)))
     (ap₂ (λ (l m : List ℕ). (l, m)) (c .before .before .before .before .before .before .witness-into .ensures babyBear known-prime k refl refl)
     (c .before .before .row-quotient-into .ensures babyBear known-prime babyBear-qualifies k (F .fits .well-formed) refl refl (assignmentIn babyBear (input s))
     (assignment-on-C (F .fits) refl babyBear-qualifies (s .args .mask))))
 
 returns-2 : tie.Need-returns-2
 unfolding firstRoundCall lengths sizesOf circuitOf
-returns-2 c = rw (sym (ap faultRefusal (sym (c .before .fault .given .1)) ∙ judgement (c .before .before .before))) refl
+returns-2 c = rw (matched (c .before .fault .given .1) (judgement (c .before .before .before)))
 
 pub first-round-spec : {M : Type 1} → statement M
 first-round-spec =

@@ -1,5 +1,5 @@
 -- `varuna::rounds::fourth_round` meets its contract. Assumes nothing.
-use mathlib.Core.Path.{_≡_, refl, sym, ap, ap₂, _∙_}
+use mathlib.Core.Path.{_≡_, refl, ap, ap₂, _∙_}
 use mathlib.Core.List.{List, [], _∷_}
 use Prim.Native.Nat.{ℕ, _-_}
 use lib.Dec.{lit<}
@@ -15,7 +15,7 @@ use Rattle.protocol.specs.Meanings.{faultRefusal}
 use Rattle.protocol.specs.Calls.{ProverInput, circuitOf, entriesOf, roundRefusal, fourthRoundCall}
 use Rattle.circuit.specs.Given.{given, proverInput}
 use Rattle.varuna.specs.Inputs.{threeOf}
-use Rattle.varuna.proofs.AnswerLaws.{free, fill-three-done, three-same}
+use Rattle.varuna.proofs.AnswerLaws.{matched, fill-three-done, three-same}
 use Rattle.circuit.proofs.Fitting.{RoundFits, round-fits, R-fits, C-fits}
 use Rattle.prover.proofs.CallLaws.{challenged, matrix-given}
 use Rattle.varuna.proofs.CallRounds.{one-below, known-prime}
@@ -60,7 +60,7 @@ fits : (c : tie.After-enum-told) → Fitting (c .before .before .before .before 
 fits c =
     let s = c .before .before .before .before .before .before .before .before .before .before .before .before .before .before .before .before .before .before .before .before .before in
     round-fits (s .args .r) (s .args .c) (s .args .x) (s .args .ea .now) (s .args .eb .now) (s .args .ec .now) babyBear (s .args .z .now) (s .args .m .now) (s .args .mask) (lent s) (due s) (challenges s) (points s)
-    (free (sym (c .enum-told .given .1)) (judgement (c .before .before)))
+    (matched (c .enum-told .given .1) (judgement (c .before .before)))
 
 size-of-requires : tie.Need-size-of-requires
 size-of-requires c κs = search needs
@@ -149,7 +149,7 @@ returns c =
     let k : Circuit = circuitOf (given (s .args .r) (s .args .c) (s .args .x) (s .args .ea .now) (s .args .eb .now) (s .args .ec .now)) in
     let outside = challenged (F .fits) (s .args .alpha) (s .args .beta) [] (F .outside) in
     fill-three-done (mapThree (λ (a : Elem babyBear). a .word) (values k (of (s .args .alpha)) (of (s .args .beta))))
-    (free (sym (d .enum-told .given .1)) (judgement (d .before .before)))
+    (matched (d .enum-told .given .1) (judgement (d .before .before)))
     (c .before .before .matrix-value .ensures babyBear k A (matrix-given known-prime babyBear-qualifies (s .args .r) (s .args .c) (s .args .x) (s .args .ea .now) (s .args .eb .now) (s .args .ec .now) A))
     (c .before .matrix-value2 .ensures babyBear k B (matrix-given known-prime babyBear-qualifies (s .args .r) (s .args .c) (s .args .x) (s .args .ea .now) (s .args .eb .now) (s .args .ec .now) B))
     (c .matrix-value3 .ensures babyBear k C (matrix-given known-prime babyBear-qualifies (s .args .r) (s .args .c) (s .args .x) (s .args .ea .now) (s .args .eb .now) (s .args .ec .now) C))
@@ -161,7 +161,7 @@ returns c =
 
 returns-2 : tie.Need-returns-2
 unfolding fourthRoundCall lengths sizesOf circuitOf
-returns-2 c = rw (sym (ap faultRefusal (sym (c .before .fault .given .1)) ∙ judgement (c .before .before .before))) refl
+returns-2 c = rw (matched (c .before .fault .given .1) (judgement (c .before .before .before)))
 
 pub fourth-round-spec : {M : Type 1} → statement M
 fourth-round-spec =

@@ -1,5 +1,5 @@
 -- `varuna::rounds::openings` meets its contract. Assumes nothing.
-use mathlib.Core.Path.{_≡_, refl, sym, ap, ap₂, _∙_}
+use mathlib.Core.Path.{_≡_, refl, ap₂}
 use mathlib.Core.List.{List, [], _∷_, _++_}
 use Prim.Native.Nat.{ℕ}
 use lib.Dec.{lit<}
@@ -11,7 +11,7 @@ use Rattle.protocol.specs.Messages.{openings}
 use Rattle.protocol.specs.Meanings.{faultRefusal}
 use Rattle.protocol.specs.Calls.{ProverInput, circuitOf, roundRefusal, openingsCall}
 use Rattle.circuit.specs.Given.{given, proverInput}
-use Rattle.varuna.proofs.AnswerLaws.{free, done}
+use Rattle.varuna.proofs.AnswerLaws.{matched, done}
 use Rattle.circuit.proofs.Fitting.{RoundFits, round-fits, R-fits, C-fits}
 use Rattle.prover.proofs.CallLaws.{challenged}
 use Rattle.varuna.proofs.CallRounds.{known-prime}
@@ -51,7 +51,7 @@ fits : (c : tie.After-enum-told) → Fitting (c .before .before .before .before 
 fits c =
     let s = c .before .before .before .before .before .before .before .before .before .before .before in
     round-fits (s .args .r) (s .args .c) (s .args .x) (s .args .ea .now) (s .args .eb .now) (s .args .ec .now) babyBear (s .args .z .now) (s .args .m .now) (s .args .mask) (lent s) (due s) (challenges s) (points s)
-    (free (sym (c .enum-told .given .1)) (judgement (c .before .before)))
+    (matched (c .enum-told .given .1) (judgement (c .before .before)))
 
 array-share-prefix-lengths : tie.Need-array-share-prefix-lengths
 array-share-prefix-lengths c = search needs
@@ -98,7 +98,7 @@ returns c =
     let d = c .before .before .before .before in
     let s = d .before .before .before .before .before .before .before .before .before .before .before in
     let k : Circuit = circuitOf (given (s .args .r) (s .args .c) (s .args .x) (s .args .ea .now) (s .args .eb .now) (s .args .ec .now)) in
-    done _ (free (sym (d .enum-told .given .1)) (judgement (d .before .before)))
+    done _ (matched (d .enum-told .given .1) (judgement (d .before .before)))
     (append
     (c .before .before .before .messages-opened .ensures babyBear known-prime babyBear-qualifies
     (challenged (fits d .fits) (s .args .alpha) (s .args .beta) (s .args .gamma ∷ []) (fits d .outside)))
@@ -108,7 +108,7 @@ returns c =
 
 returns-2 : tie.Need-returns-2
 unfolding openingsCall
-returns-2 c = rw (sym (ap faultRefusal (sym (c .before .fault .given .1)) ∙ judgement (c .before .before .before))) refl
+returns-2 c = rw (matched (c .before .fault .given .1) (judgement (c .before .before .before)))
 
 pub openings-spec : {M : Type 1} → statement M
 openings-spec =

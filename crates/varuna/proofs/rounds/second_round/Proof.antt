@@ -1,5 +1,5 @@
 -- `varuna::rounds::second_round` meets its contract. Assumes nothing.
-use mathlib.Core.Path.{_≡_, refl, sym, ap, _∙_}
+use mathlib.Core.Path.{_≡_, refl}
 use mathlib.Core.List.{List, [], _∷_}
 use Prim.Native.Nat.{ℕ}
 use lib.Dec.{lit<}
@@ -13,7 +13,7 @@ use Rattle.protocol.specs.Meanings.{faultRefusal}
 use Rattle.protocol.specs.Calls.{ProverInput, circuitOf, roundRefusal, secondRoundCall}
 use Rattle.circuit.specs.Given.{given, proverInput}
 use Rattle.prover.specs.CallGiven.{assignmentIn}
-use Rattle.varuna.proofs.AnswerLaws.{free, three-done}
+use Rattle.varuna.proofs.AnswerLaws.{matched, three-done}
 use Rattle.circuit.proofs.Fitting.{RoundFits, round-fits, R-fits, shares}
 use Rattle.prover.proofs.CallLaws.{assignment-on-C}
 use Rattle.varuna.proofs.CallRounds.{known-prime}
@@ -50,7 +50,7 @@ fits : (c : tie.After-enum-told) → Fitting (c .before .before .before .before 
 fits c =
     let s = c .before .before .before .before .before .before .before .before .before .before .before in
     round-fits (s .args .r) (s .args .c) (s .args .x) (s .args .ea .now) (s .args .eb .now) (s .args .ec .now) babyBear (s .args .z .now) (s .args .m .now) (s .args .mask) (lent s) (due s) (challenges s) (points s)
-    (free (sym (c .enum-told .given .1)) (judgement (c .before .before)))
+    (matched (c .enum-told .given .1) (judgement (c .before .before)))
 
 array-share-prefix-lengths : tie.Need-array-share-prefix-lengths
 array-share-prefix-lengths c = search needs
@@ -97,14 +97,14 @@ returns c =
     let k : Circuit = circuitOf (given (s .args .r) (s .args .c) (s .args .x) (s .args .ea .now) (s .args .eb .now) (s .args .ec .now)) in
     let on = assignment-on-C (F .fits) refl babyBear-qualifies (s .args .mask) in
     three-done (mapThree (λ (a : Elem babyBear). a .word) (sums k (assignmentIn babyBear (input s)) (of (s .args .alpha))))
-    (free (sym (d .enum-told .given .1)) (judgement (d .before .before)))
+    (matched (d .enum-told .given .1) (judgement (d .before .before)))
     (c .before .before .row-sum-value .ensures babyBear known-prime babyBear-qualifies k (F .fits .well-formed) refl A refl (assignmentIn babyBear (input s)) on)
     (c .before .row-sum-value2 .ensures babyBear known-prime babyBear-qualifies k (F .fits .well-formed) refl B refl (assignmentIn babyBear (input s)) on)
     (c .row-sum-value3 .ensures babyBear known-prime babyBear-qualifies k (F .fits .well-formed) refl C refl (assignmentIn babyBear (input s)) on)
 
 returns-2 : tie.Need-returns-2
 unfolding secondRoundCall
-returns-2 c = rw (sym (ap faultRefusal (sym (c .before .fault .given .1)) ∙ judgement (c .before .before .before))) refl
+returns-2 c = rw (matched (c .before .fault .given .1) (judgement (c .before .before .before)))
 
 pub second-round-spec : {M : Type 1} → statement M
 second-round-spec =

@@ -16,7 +16,7 @@ use Rattle.protocol.specs.Calls.{ProverInput, circuitOf, roundRefusal, thirdRou
 use Rattle.circuit.specs.Given.{given, proverInput}
 use Rattle.prover.proofs.WitnessParts.{part-length, filled-within, filled-length, of-filled}
 use Rattle.prover.specs.CallGiven.{lineIn}
-use Rattle.varuna.proofs.AnswerLaws.{free, fill-done}
+use Rattle.varuna.proofs.AnswerLaws.{matched, fill-done}
 use Rattle.circuit.proofs.Fitting.{RoundFits, round-fits, C-fits}
 use Rattle.prover.proofs.CallLaws.{line-bound}
 use Rattle.varuna.proofs.CallRounds.{known-prime}
@@ -56,7 +56,7 @@ fits : (c : tie.After-enum-told) → Fitting (c .before .before .before .before 
 fits c =
     let s = c .before .before .before .before .before .before .before .before .before .before .before .before .before .before .before in
     round-fits (s .args .r) (s .args .c) (s .args .x) (s .args .ea .now) (s .args .eb .now) (s .args .ec .now) babyBear (s .args .z .now) (s .args .m .now) (s .args .mask) (lent s) (due s) (challenges s) (points s)
-    (free (sym (c .enum-told .given .1)) (judgement (c .before .before)))
+    (matched (c .enum-told .given .1) (judgement (c .before .before)))
 
 less-requires : tie.Need-less-requires
 less-requires c κs = search needs
@@ -131,14 +131,14 @@ returns c =
     let s = d .before .before .before .before .before .before .before .before .before .before .before .before .before .before .before in
     let k : Circuit = circuitOf (given (s .args .r) (s .args .c) (s .args .x) (s .args .ea .now) (s .args .eb .now) (s .args .ec .now)) in
     let made = (of-filled _ _ (line-bound (fits (c .before .before .before .before .before .before .before .before .before .before .before .before .before) .fits)) (c .before .before .before .before .before .before .before .before .before .before .before .line-of .last .1 .1 .1 .1 .1 .1 .1 .1 .1 .1 .1 .1 .0) (c .before .before .before .before .before .before .before .before .before .before .before .line-of .kept .1 .1 .1 .1 .1 .1 .1 .1 .1 .1 .1 .1 .0) (lineIn babyBear (input s) (s .args .alpha) (three (s .args .eta))) (c .before .before .before .before .before .before .before .before .before .before .before .line-of .ensures babyBear known-prime babyBear-qualifies)) in
-    fill-done (s .args .remainder .now, s .args .quotient .now) (free (sym (d .enum-told .given .1)) (judgement (d .before .before)))
+    fill-done (s .args .remainder .now, s .args .quotient .now) (matched (d .enum-told .given .1) (judgement (d .before .before)))
     (ap₂ (λ (l m : List ℕ). (l, m))
     (c .before .before .before .before .before .before .before .line-remainder-into .ensures babyBear refl k refl ∙ ap (λ (f : Poly babyBear). words (lineRemainder k f)) made)
     (c .before .before .line-quotient-into .ensures babyBear refl k refl ∙ ap (λ (f : Poly babyBear). words (lineQuotient k f)) made))
 
 returns-2 : tie.Need-returns-2
 unfolding thirdRoundCall lengths sizesOf circuitOf
-returns-2 c = rw (sym (ap faultRefusal (sym (c .before .fault .given .1)) ∙ judgement (c .before .before .before))) refl
+returns-2 c = rw (matched (c .before .fault .given .1) (judgement (c .before .before .before)))
 
 pub third-round-spec : {M : Type 1} → statement M
 third-round-spec =
