@@ -9,9 +9,9 @@ use lib.ListN.{length, getD, replicate}
 use Rattle.algebra.specs.Lists.{tabulate}
 use Rattle.algebra.proofs.RingLaws.{mul-zero}
 use Rattle.field.specs.Prime.{Prime}
-use Rattle.field.specs.Element.{Elem, of, 𝟘, 𝟙, words, _⊗_}
+use Rattle.field.specs.Element.{Elem, of, 𝟘, 𝟙, _⊗_}
 use Rattle.field.specs.Power.{power}
-use Rattle.field.proofs.ElementLaws.{of-word, mul-one, primeRing}
+use Rattle.field.proofs.ElementLaws.{mul-one, primeRing}
 use Rattle.field.proofs.Field.{power-is-pow}
 use Rattle.field.proofs.Words.{of-result}
 use Rattle.domain.specs.Size.{maxSize, sizeFor}
@@ -32,10 +32,6 @@ pub element-word : (q : Prime) (n i g x : ℕ) → g ≡ root {q = q} n .word �
 unfolding element
 element-word q n i g x e made =
     made ∙ ap (λ r. power r i .word) (of-result (root n) e) ∙ ap (λ (a : Elem q). a .word) (power-is-pow (root n) i)
-
-pub map-of-words : {q : Prime} (l : List (Elem q)) → map of (words l) ≡ l
-map-of-words [] = refl
-map-of-words (a ∷ l) = ap₂ _∷_ (of-word a) (map-of-words l)
 
 -- a list with a filling after it, as a rule over its places
 filling : {S T : Type 0} (f : S → T) (d : S) (n : ℕ) → replicate n (f d) ≡ tabulate n (λ i. f d)

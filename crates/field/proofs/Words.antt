@@ -1,11 +1,12 @@
 -- The words of sums, products and differences of the elements that two numbers stand for, and a number that is an element's
--- word. Assumes nothing.
-use mathlib.Core.Path.{_≡_, sym, ap, _∙_, subst, subst⁻¹}
+-- word, or a list of them. Assumes nothing.
+use mathlib.Core.Path.{_≡_, refl, sym, ap, ap₂, _∙_, subst, subst⁻¹}
+use mathlib.Core.List.{List, [], _∷_, map}
 use Prim.Native.Nat.{ℕ, _+_, _-_, _*_, _%_, _^_, _<_}
 use native.Mathlib.Nat.{mod-eq-of-lt, le-of-lt, lt-of-le-of-lt, mul-le-mul-left, mul-lt-mul-of-pos-right}
 use lib.Pow.{pow-pos, pow-add}
 use Rattle.field.specs.Prime.{Prime}
-use Rattle.field.specs.Element.{Elem, of, _⊕_, _⊗_, _⊖_, neg}
+use Rattle.field.specs.Element.{Elem, of, words, _⊕_, _⊗_, _⊖_, neg}
 use Rattle.field.proofs.ElementLaws.{of-word, of-add, of-mul, word-below}
 
 module _ (q : Prime) where
@@ -30,6 +31,14 @@ module _ {q : Prime} where
   -- the element of a number that is an element's word
   pub of-result : {r : ℕ} (x : Elem q) → r ≡ x .word → of r ≡ x
   of-result x e = ap of e ∙ of-word x
+
+  -- the same of a list
+  pub of-words : (l : List (Elem q)) → map of (words l) ≡ l
+  of-words [] = refl
+  of-words (a ∷ l) = ap₂ _∷_ (of-word a) (of-words l)
+
+  pub of-results : {ws : List ℕ} (l : List (Elem q)) → ws ≡ words l → map of ws ≡ l
+  of-results l e = ap (map of) e ∙ of-words l
 
   pub result-below : {r : ℕ} (x : Elem q) → r ≡ x .word → r < q .p
   result-below x e = subst (λ (n : ℕ). n < q .p) (sym e) (word-below x)

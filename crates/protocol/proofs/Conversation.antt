@@ -15,6 +15,7 @@ use Rattle.algebra.proofs.PolynomialLaws.{length-tabulate}
 use Rattle.field.specs.Prime.{Prime}
 use Rattle.field.specs.Element.{Elem, of, words}
 use Rattle.field.proofs.ElementLaws.{of-word, word-below}
+use Rattle.field.proofs.Words.{of-words}
 use Rattle.domain.specs.Size.{maxSize}
 use Rattle.domain.specs.Domain.{inside, Outside}
 use Rattle.domain.specs.Polynomial.{Poly}
@@ -42,10 +43,6 @@ module _ {q : Prime} where
   words-below : (l : List (Elem q)) → All (λ w. w < q .p) (words l)
   words-below [] = tt
   words-below (a ∷ l) = (word-below a, words-below l)
-
-  of-words : (l : List (Elem q)) → map of (words l) ≡ l
-  of-words [] = refl
-  of-words (a ∷ l) = ap₂ _∷_ (of-word a) (of-words l)
 
   abbrev word : Elem q → ℕ
   word a = a .word

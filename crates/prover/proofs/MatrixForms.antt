@@ -12,7 +12,7 @@ use Rattle.algebra.proofs.Solver.{_:+_, _:-_, _:*_, :-_, :0, :1, _:=_, ring}
 use Rattle.field.specs.Prime.{Prime}
 use Rattle.field.specs.Element.{Elem, of, 𝟘, 𝟙, _⊕_, _⊗_, _⊖_, neg, words}
 use Rattle.field.proofs.ElementLaws.{primeRing}
-use Rattle.field.proofs.Words.{of-result}
+use Rattle.field.proofs.Words.{of-result, of-results}
 use Rattle.domain.specs.Domain.{vanishing}
 use Rattle.domain.specs.Polynomial.{Poly, plus, minus, scale}
 use Rattle.domain.proofs.ListLaws.{equal-entries}
@@ -21,7 +21,6 @@ use Rattle.protocol.specs.Circuit.{Circuit}
 use Rattle.protocol.specs.Index.{Index, index}
 use Rattle.protocol.specs.Messages.{numerator, denominator}
 use Rattle.poly.proofs.Coefficients.{coefficient-add, coefficient-scale}
-use Rattle.prover.proofs.WitnessParts.{of-results}
 use Rattle.prover.proofs.MatrixLists.{replicate-at, of-zeros, zeros-after}
 
 module _ {q : Prime} where

@@ -16,7 +16,7 @@ use Rattle.algebra.proofs.RingLaws.{one-mul, zero-add}
 use Rattle.field.specs.Prime.{Prime}
 use Rattle.field.specs.Element.{Elem, of, 𝟘, 𝟙, words, neg}
 use Rattle.field.proofs.ElementLaws.{primeRing}
-use Rattle.field.proofs.Words.{of-result, word-of}
+use Rattle.field.proofs.Words.{of-result, word-of, of-results}
 use Rattle.domain.specs.Size.{isSize}
 use Rattle.domain.specs.Polynomial.{Poly, plus, minus, scale, times, quotient, vanishingPoly, interpolate}
 use Rattle.domain.proofs.Fill.{word-at}
@@ -26,7 +26,7 @@ use Rattle.domain.proofs.Membership.{zero-word}
 use Rattle.domain.proofs.Qualification.{one-word}
 use Rattle.protocol.specs.Circuit.{Circuit, publicPart}
 use Rattle.protocol.specs.Messages.{publicPoly, witness, assignment}
-use Rattle.prover.proofs.WitnessParts.{part-length, filled-part, filled-length, of-results}
+use Rattle.prover.proofs.WitnessParts.{part-length, filled-part, filled-length}
 
 module _ {A : Type 0} (R : CommRing A) where
   open CommRing R using (𝟘, 𝟙, add-comm)

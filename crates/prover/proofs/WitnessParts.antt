@@ -8,8 +8,8 @@ use lib.ListN.{length, take, drop}
 use lib.Seq.{length-take-le, length-front, take-at}
 use Rattle.field.specs.Prime.{Prime}
 use Rattle.field.specs.Element.{Elem, of, words}
+use Rattle.field.proofs.Words.{of-results}
 use Rattle.domain.specs.Polynomial.{interpolate}
-use Rattle.circuit.proofs.IndexValues.{map-of-words}
 
 module _ (n : ℕ) (d : List ℕ) (within : n ≤ length d) where
   pub part-length : n ≡ length (take n d)
@@ -26,11 +26,7 @@ module _ (n : ℕ) (d : List ℕ) (within : n ≤ length d) where
     filled-length = part-length ∙ sym kept ∙ ap length (sym filled-part)
 
 module _ {q : Prime} where
-  -- the elements of words that were computed
-  pub of-results : {ws : List ℕ} (l : List (Elem q)) → ws ≡ words l → map of ws ≡ l
-  of-results l e = ap (map of) e ∙ map-of-words l
-
-  -- and of those in the first n entries of an array
+  -- the elements of words that were computed in the first n entries of an array
   pub of-filled : (n : ℕ) (d : List ℕ) → n ≤ length d → (e : List ℕ) → length e ≡ length (take n d) → (l : List (Elem q)) → e ≡ words l
       → map of (take n (e ++ drop n d)) ≡ l
   of-filled n d within e kept l made = of-results l (filled-part n d within e kept ∙ made)

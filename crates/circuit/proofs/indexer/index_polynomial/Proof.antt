@@ -7,6 +7,7 @@ use native.Mathlib.Omega.{arith}
 use lib.ListN.{length}
 use Rattle.algebra.specs.Lists.{tabulate}
 use Rattle.field.specs.Element.{Elem, of, words}
+use Rattle.field.proofs.Words.{of-words}
 use Rattle.domain.specs.Size.{isSize}
 use Rattle.domain.specs.Domain.{root}
 use Rattle.domain.specs.Polynomial.{interpolate}
@@ -15,7 +16,7 @@ use Rattle.protocol.specs.Calls.{entriesOf}
 use Rattle.protocol.proofs.IndexPolynomials.{entryIndex}
 use Rattle.circuit.specs.Given.{entryWords}
 use Rattle.circuit.specs.IndexParts.{indexPart}
-use Rattle.circuit.proofs.IndexValues.{K-bound, map-of-words, index-by-words}
+use Rattle.circuit.proofs.IndexValues.{K-bound, index-by-words}
 use Rattle.circuit.proofs.indexer.index_polynomial.Statement.{statement}
 use Rattle.circuit.proofs.indexer.index_polynomial.Tie as tie
 
@@ -68,7 +69,7 @@ returns c q known k M er ec matrix =
     c .before .before .interpolate-into .ensures q (known .value) (c .before .before .before .before .before .root-of3 .ensures q known)
     ∙ ap₂ (λ (m : ℕ) (l : List ℕ). words (interpolate m (map (of {q = q}) l))) (c .before .before .before .before .before .before .before .before .fill-index-values .kept .1 .1 .1 .1 .1 .0)
     (c .before .before .before .before .before .before .before .before .fill-index-values .ensures q (known .value) k gr gc)
-    ∙ ap (λ l. words (interpolate n l)) (map-of-words (tabulate n f))
+    ∙ ap (λ l. words (interpolate n l)) (of-words (tabulate n f))
     ∙ ap words (index-by-words k M (a .entries .now) n (s .pre .1 .1 .0 .1) matrix (s .pre .1 .1 .1 .0) (a .which))
 
 pub index-polynomial-spec : {M : Type 1} → statement M

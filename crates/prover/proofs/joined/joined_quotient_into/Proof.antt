@@ -6,11 +6,11 @@ use Prim.Native.Nat.{ℕ, _+_, _≤_, _<_}
 use native.Mathlib.Omega.{arith}
 use lib.ListN.{length, replicate}
 use Rattle.field.specs.Element.{Elem, of, 𝟘, words}
+use Rattle.field.proofs.Words.{of-results}
 use Rattle.domain.specs.Polynomial.{Poly, plus}
 use Rattle.protocol.specs.Three.{MatrixName, A, B, C, Three, mapThree}
 use Rattle.protocol.specs.Meanings.{three}
 use Rattle.prover.specs.MatrixGiven.{lists}
-use Rattle.prover.proofs.WitnessParts.{of-results}
 use Rattle.prover.proofs.MatrixLists.{of-zeros}
 use Rattle.prover.proofs.JoinedForms.{joinedTerm, joined-fits, joined-made}
 use Rattle.prover.proofs.joined.joined_quotient_into.Statement.{statement}

@@ -7,13 +7,14 @@ use native.Mathlib.Omega.{arith}
 use lib.ListN.{length}
 use Rattle.algebra.specs.Lists.{tabulate}
 use Rattle.field.specs.Element.{Elem, of, words}
+use Rattle.field.proofs.Words.{of-results}
 use Rattle.domain.specs.Polynomial.{Poly, times, interpolate}
 use Rattle.domain.proofs.SizeLaws.{size-positive, size-bound}
 use Rattle.protocol.specs.Three.{Three, each, mapThree}
 use Rattle.protocol.specs.Checks.{weighted}
 use Rattle.protocol.specs.Meanings.{three}
 use Rattle.protocol.proofs.ProverForms.{columnSum}
-use Rattle.prover.proofs.WitnessParts.{part-length, filled-within, filled-length, parts-order, of-results, of-filled}
+use Rattle.prover.proofs.WitnessParts.{part-length, filled-within, filled-length, parts-order, of-filled}
 use Rattle.prover.proofs.WitnessLaws.{plus-made}
 use Rattle.prover.proofs.RowLaws.{known-formed}
 use Rattle.prover.proofs.LineLaws.{line-made}

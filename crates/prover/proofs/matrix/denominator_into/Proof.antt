@@ -7,11 +7,10 @@ use Prim.Native.Nat.{ℕ, suc, _-_}
 use native.Mathlib.Omega.{arith}
 use lib.ListN.{length, set, length-set}
 use Rattle.field.specs.Element.{Elem, of, 𝟘, _⊗_, _⊖_, words}
-use Rattle.field.proofs.Words.{of-result}
+use Rattle.field.proofs.Words.{of-result, of-results}
 use Rattle.domain.specs.Polynomial.{Poly, scale}
 use Rattle.domain.proofs.Fill.{length-words}
 use Rattle.protocol.specs.Index.{Index, index}
-use Rattle.prover.proofs.WitnessParts.{of-results}
 use Rattle.prover.proofs.MatrixForms.{added, before-zeros, factors-form, denominator-made}
 use Rattle.prover.proofs.matrix.denominator_into.Statement.{statement}
 use Rattle.prover.proofs.matrix.denominator_into.Tie as tie

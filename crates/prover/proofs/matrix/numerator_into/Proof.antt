@@ -7,12 +7,11 @@ use lib.ListN.{length, replicate}
 use Rattle.algebra.proofs.PolynomialLaws.{length-scale}
 use Rattle.field.specs.Element.{Elem, of, 𝟘, _⊗_, words}
 use Rattle.field.proofs.ElementLaws.{primeRing}
-use Rattle.field.proofs.Words.{of-result}
+use Rattle.field.proofs.Words.{of-result, of-results}
 use Rattle.domain.specs.Domain.{vanishing}
 use Rattle.domain.specs.Polynomial.{Poly, plus, scale}
 use Rattle.domain.proofs.Fill.{length-words}
 use Rattle.protocol.specs.Index.{index}
-use Rattle.prover.proofs.WitnessParts.{of-results}
 use Rattle.prover.proofs.MatrixLists.{of-zeros}
 use Rattle.prover.proofs.MatrixForms.{zeros-plus, numerator-made}
 use Rattle.prover.proofs.matrix.numerator_into.Statement.{statement}

@@ -7,12 +7,13 @@ use native.Mathlib.Omega.{arith}
 use lib.ListN.{length, replicate}
 use Rattle.algebra.specs.Lists.{tabulate}
 use Rattle.field.specs.Element.{Elem, of, words}
+use Rattle.field.proofs.Words.{of-results}
 use Rattle.domain.specs.Size.{isSize}
 use Rattle.domain.specs.Domain.{root}
 use Rattle.domain.proofs.SizeLaws.{size-bound}
 use Rattle.protocol.specs.Circuit.{Entry, rowSum}
 use Rattle.protocol.specs.Calls.{entriesOf}
-use Rattle.prover.proofs.WitnessParts.{part-length, filled-within, filled-length, of-results, interpolate-part}
+use Rattle.prover.proofs.WitnessParts.{part-length, filled-within, filled-length, interpolate-part}
 use Rattle.prover.proofs.RowLaws.{rows-within}
 use Rattle.prover.proofs.rows.image_into.Statement.{statement}
 use Rattle.prover.proofs.rows.image_into.Tie as tie

@@ -3,8 +3,8 @@ use borrow.Author.Needs.{needs}
 use mathlib.Core.Path.{refl}
 use mathlib.Core.List.{map}
 use Rattle.field.specs.Element.{of}
+use Rattle.field.proofs.Words.{of-results}
 use Rattle.domain.specs.Polynomial.{Poly, times}
-use Rattle.prover.proofs.WitnessParts.{of-results}
 use Rattle.prover.proofs.WitnessLaws.{minus-made}
 use Rattle.prover.proofs.rows.product_minus_into.Statement.{statement}
 use Rattle.prover.proofs.rows.product_minus_into.Tie as tie
