@@ -22,6 +22,7 @@ use crate::matrices;
 use protocol::Fault;
 use protocol::scans::first_failed;
 use protocol::scans::judge_words;
+use protocol::six_sizes::is_public_size;
 
 // The most words of an entry list: three for each of 1,024 entries.
 const MAX_ENTRY_WORDS: usize = 3072;
@@ -30,20 +31,8 @@ const MAX_ENTRY_WORDS: usize = 3072;
 pub fn check_sizes(r: u32, c: u32, x: u32) -> Fault
     ensures { λ f. ⌜ faultRefusal f ≡ sizeRefusal (sizeTests r c x []) ⌝ }
 {
-    if !domain::is_size(r) {
-        return Fault::Refused(4, 0);
-    }
-    if !domain::is_size(c) {
-        return Fault::Refused(4, 1);
-    }
-    if !domain::is_size(x) {
-        return Fault::Refused(4, 2);
-    }
-    if x <= c {
-        Fault::Fine
-    } else {
-        Fault::Refused(4, 2)
-    }
+    let tests = [domain::is_size(r), domain::is_size(c), is_public_size(x, c)];
+    first_failed(4, 0, &tests)
 }
 
 // 5: whole entries, and not over 1,024 of them.

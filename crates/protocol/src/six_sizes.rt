@@ -26,7 +26,7 @@ pub fn largest(k: Triple) -> u32
 }
 
 // |X| is a size and at most |C|.
-fn is_public_size(x: u32, c: u32) -> bool
+pub fn is_public_size(x: u32, c: u32) -> bool
     ensures { λ r. ⌜ r ≡ (isSize x && leb x c) ⌝ }
 {
     if domain::is_size(x) { x <= c } else { false }
