@@ -2,7 +2,7 @@
 ghost use mathlib.Core.Path.{_≡_};
 ghost use mathlib.Core.Bool.{true};
 ghost use Prim.Native.Nat.{_<_, _≤_};
-ghost use lib.ListN.{length, getD};
+ghost use lib.ListN.{length};
 ghost use Rattle.algebra.specs.Lists.{tabulate};
 ghost use Rattle.field.specs.Prime.{Prime};
 ghost use Rattle.field.specs.Element.{words};
@@ -26,13 +26,6 @@ const ROWCOL: u32 = 2;
 
 const ROWCOLVAL: u32 = 3;
 
-// The word at a place, 0 past the end.
-fn word_or_zero(s: &[u32], i: usize) -> u32
-    ensures { λ r. ⌜ r ≡ getD (now (s .entry)) i 0 ⌝ }
-{
-    if i < s.len() { s[i] } else { 0 }
-}
-
 // The value of an index polynomial at place i of K_M. Past the last entry row, column and value are taken as 0: g^0 is 1 and the
 // weighted value 0, as document 01 has it.
 fn index_value(p: u32, gr: u32, gc: u32, which: u32, entries: &[u32], i: usize) -> u32
@@ -42,11 +35,11 @@ fn index_value(p: u32, gr: u32, gc: u32, which: u32, entries: &[u32], i: usize) 
         → v ≡ (indexPart (entryIndex {q = q} k (entryWords (now (entries .entry)) i)) which) .word) ⌝ }
 {
     let place = 3 * i;
-    let row = field::raise(p, gr, word_or_zero(entries, place));
+    let row = field::raise(p, gr, poly::word_or_zero(entries, place));
     if which == ROW {
         return row;
     }
-    let column = field::raise(p, gc, word_or_zero(entries, place + 1));
+    let column = field::raise(p, gc, poly::word_or_zero(entries, place + 1));
     if which == COL {
         return column;
     }
@@ -54,7 +47,7 @@ fn index_value(p: u32, gr: u32, gc: u32, which: u32, entries: &[u32], i: usize) 
     if which == ROWCOL {
         return product;
     }
-    field::multiply(p, product, word_or_zero(entries, place + 2))
+    field::multiply(p, product, poly::word_or_zero(entries, place + 2))
 }
 
 // The values of an index polynomial on K_M into the slice.

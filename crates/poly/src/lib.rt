@@ -25,8 +25,8 @@ pub fn evaluate(p: u32, f: &[u32], x: u32) -> u32
     value
 }
 
-// The coefficient of s at i, 0 past its end.
-fn entry(s: &[u32], i: usize) -> u32
+// The word of s at i, 0 past its end.
+pub fn word_or_zero(s: &[u32], i: usize) -> u32
     ensures { λ r. ⌜ r ≡ getD (now (s .entry)) i 0 ⌝ }
 {
     if i < s.len() { s[i] } else { 0 }
@@ -52,7 +52,7 @@ pub fn add_scaled(p: u32, f: &mut [u32], k: u32, g: &[u32])
 {
     let mut i = 0;
     while i < f.len() {
-        f[i] = field::add(p, f[i], field::multiply(p, k, entry(g, i)));
+        f[i] = field::add(p, f[i], field::multiply(p, k, word_or_zero(g, i)));
         i += 1;
     }
 }
@@ -85,7 +85,7 @@ pub fn quotient_into(p: u32, n: usize, f: &[u32], out: &mut [u32])
     let mut i = out.len();
     while 0 < i {
         i -= 1;
-        let carried = entry(out, i + n);
+        let carried = word_or_zero(out, i + n);
         out[i] = field::add(p, f[i + n], carried);
     }
 }

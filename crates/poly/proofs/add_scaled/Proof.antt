@@ -58,8 +58,8 @@ mul-add c = search needs
 slice-read-add : tie.Need-slice-read-add Inv-loop μ-loop
 slice-read-add c = search needs
 
-entry-requires : tie.Need-entry-requires Inv-loop μ-loop
-entry-requires c κs = search needs
+word-or-zero-requires : tie.Need-word-or-zero-requires Inv-loop μ-loop
+word-or-zero-requires c κs = search needs
 
 multiply-requires : tie.Need-multiply-requires Inv-loop μ-loop
 multiply-requires c κs = search needs
@@ -94,7 +94,7 @@ loop-again c =
           let old : of {q = q} (getD (l .f) i 0) ≡ of (getD f i 0) =
           ap (λ (r : List ℕ). of (getD r i 0)) (l .inv .2 q e) ∙ ap of (joined-second (words target) f i i 0 same (omega arith)) in
           let product : of (c .before .multiply .result) ≡ of {q = q} (a .k) ⊗ of (getD (a .g .now) i 0) =
-          of-result _ (c .before .multiply .ensures q e) ∙ ap (λ (n : ℕ). of (a .k) ⊗ of n) (c .before .before .entry .ensures) in
+          of-result _ (c .before .multiply .ensures q e) ∙ ap (λ (n : ℕ). of (a .k) ⊗ of n) (c .before .before .word-or-zero .ensures) in
           store-up (words target) f (l .f) i (c .add .result) 0 same below (l .inv .2 q e)
           (c .add .ensures q e ∙ ap₂ (λ (x y : Elem q). (x ⊕ y) .word) old product ∙ sum-at q f (a .k) (a .g .now) i),
     )
@@ -120,7 +120,7 @@ add-scaled-spec =
     loop-holds
     mul-add
     slice-read-add
-    entry-requires
+    word-or-zero-requires
     multiply-requires
     add-requires
     mul-f

@@ -42,11 +42,11 @@ loop-holds c =
 sub-i : tie.Need-sub-i Inv-loop μ-loop
 sub-i c = search needs
 
-add-entry : tie.Need-add-entry Inv-loop μ-loop
-add-entry c = search needs
+add-word-or-zero : tie.Need-add-word-or-zero Inv-loop μ-loop
+add-word-or-zero c = search needs
 
-entry-requires : tie.Need-entry-requires Inv-loop μ-loop
-entry-requires c κs = search needs
+word-or-zero-requires : tie.Need-word-or-zero-requires Inv-loop μ-loop
+word-or-zero-requires c κs = search needs
 
 add-add : tie.Need-add-add Inv-loop μ-loop
 add-add c = search needs
@@ -81,8 +81,8 @@ loop-again c =
       λ q e.
           let target : Poly q = quotient n (map of f) in
           let same : length (words target) ≡ length (a .out .now) = omega (arith, length-target q n f (omega arith)) in
-          let carried : of {q = q} (c .before .before .entry .result) ≡ getD target (i - 1 + n) 𝟘 =
-          ap of (c .before .before .entry .ensures ∙ ap (λ (r : List ℕ). getD r (i - 1 + n) 0) (l .inv .2 q e)
+          let carried : of {q = q} (c .before .before .word-or-zero .result) ≡ getD target (i - 1 + n) 𝟘 =
+          ap of (c .before .before .word-or-zero .ensures ∙ ap (λ (r : List ℕ). getD r (i - 1 + n) 0) (l .inv .2 q e)
           ∙ joined-second (a .out .now) (words target) i (i - 1 + n) 0 (sym same) (omega arith))
           ∙ of-result _ (word-at target (i - 1 + n)) in
           store-down (words target) (a .out .now) (l .out) i (c .add .result) 0 same (omega arith) (omega arith) (l .inv .2 q e)
@@ -109,8 +109,8 @@ quotient-into-spec =
     μ-loop
     loop-holds
     sub-i
-    add-entry
-    entry-requires
+    add-word-or-zero
+    word-or-zero-requires
     add-add
     mul-add
     shared-slice-read-add

@@ -1,9 +1,9 @@
--- `circuit::indexer::word_or_zero` meets its contract. Assumes nothing.
+-- `poly::word_or_zero` meets its contract: past the end a list has 0 there. Assumes nothing.
 use borrow.Author.Needs.{needs}
 use mathlib.Core.Path.{sym}
 use lib.ListN.{List·getD-eq-default}
-use Rattle.circuit.proofs.indexer.word_or_zero.Statement.{statement}
-use Rattle.circuit.proofs.indexer.word_or_zero.Tie as tie
+use Rattle.poly.proofs.word_or_zero.Statement.{statement}
+use Rattle.poly.proofs.word_or_zero.Tie as tie
 
 mul-result : tie.Need-mul-result
 mul-result c = search needs
