@@ -5,7 +5,7 @@ use lib.Dec.{leb}
 use lib.ListN.{getD}
 use Rattle.domain.specs.Size.{maxSize}
 use Rattle.protocol.specs.Refusals.{listRefusal}
-use Rattle.circuit.proofs.Rows.{stops, goes-on, last-answer}
+use Rattle.circuit.proofs.EarlyReturns.{stops, goes-on, last-answer}
 use Rattle.job.specs.JobText.{headRefusal}
 use borrow.Author.Needs.{needs}
 use Rattle.job.proofs.judge_head.Statement.{statement}
