@@ -20,7 +20,7 @@ use Rattle.record.specs.Answers.{sizesFound}
 use Rattle.record.specs.Layout.{startsRow, totalRow, startsRefusal, trailerRefusalOf, layoutRefusal}
 use Rattle.record.proofs.Rows.{record-rows, read-refused, read-whole}
 use Rattle.record.proofs.Starts.{trailer-rows}
-use Rattle.circuit.proofs.Parts.{length-pairs, pairs-at}
+use Rattle.protocol.proofs.Rows.{length-pairs, pairs-at}
 use Rattle.varuna_c.specs.Answers.{sectionStart}
 
 module _ (q : Prime) (bytes : List ℕ) where
@@ -84,9 +84,9 @@ module _ (q : Prime) (bytes : List ℕ) where
       let all = refuse-none 3 0 tests (lasts .0) in
       let fits : length given ≤ length found = omega (arith, eleven-starts, length-tabulate 11 (trailerWord bytes)) in
       let same : getD tests k true ≡ true =
-      all-at (λ t. t ≡ true) tests all k true (omega (arith, length-pairs eqb found given fits, eleven-starts)) in
+      all-at (λ t. t ≡ true) tests all k true (omega (arith, length-pairs eqb found given, fits, eleven-starts)) in
       sym (getD-tabulate 11 k (trailerWord bytes) 0 below)
-      ∙ eqb-true (getD found k 0) (getD given k 0) (sym (pairs-at eqb found given k 0 0 fits (omega (arith, eleven-starts))) ∙ same)
+      ∙ eqb-true (getD found k 0) (getD given k 0) (sym (pairs-at eqb found given k 0 0 true (omega (arith, fits, eleven-starts)) (omega (arith, eleven-starts))) ∙ same)
 
   pub start-found : recordRefusal bytes q ≡ none → (k : ℕ) → k < 11 → trailerWord bytes k ≡ sectionStart q bytes k
   start-found free k below = trailer-start free k below ∙ sym (start-whole k free)

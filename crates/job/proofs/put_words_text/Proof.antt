@@ -4,7 +4,7 @@ use Prim.Native.Nat.{_*_}
 use native.Mathlib.Omega.{arith}
 use Rattle.protocol.specs.Meanings.{faultRefusal}
 use Rattle.text.proofs.WrittenLaws.{written-as}
-use Rattle.varuna.proofs.AnswerLaws.{free}
+use Rattle.varuna.proofs.AnswerLaws.{matched}
 use Rattle.job.specs.JobText.{jobLength}
 use Rattle.job.proofs.HeadLaws.{length-most, head-refused, text-left-over, text-unfinished, text-whole}
 use borrow.Author.Needs.{needs}
@@ -29,7 +29,7 @@ job-length-requires c κs = search needs
 mul-due : tie.Need-mul-due
 mul-due c =
     let ws = c .before .before .before .before .before .before .args .words .now in
-    omega (arith, c .job-length .ensures, length-most ws (free (sym (c .before .enum-told .given .1)) (c .before .before .before .judge-head .ensures)))
+    omega (arith, c .job-length .ensures, length-most ws (matched (c .before .enum-told .given .1) (c .before .before .before .judge-head .ensures)))
 
 put-too-long-requires : tie.Need-put-too-long-requires
 put-too-long-requires c κs = search needs
@@ -40,7 +40,7 @@ same-length c = search needs
 returns : tie.Need-returns
 returns c =
     let a = c .before .before .before .before .before .before .before .before .before .before .before .args in
-    written-as (text-left-over (a .count) (a .words .now) (free (sym (c .before .before .before .before .before .before .enum-told .given .1)) (c .before .before .before .before .before .before .before .before .judge-head .ensures)) (omega (arith, c .before .before .before .before .before .job-length .ensures, c .before .before .before .before .if1 .taken)))
+    written-as (text-left-over (a .count) (a .words .now) (matched (c .before .before .before .before .before .before .enum-told .given .1) (c .before .before .before .before .before .before .before .before .judge-head .ensures)) (omega (arith, c .before .before .before .before .before .job-length .ensures, c .before .before .before .before .if1 .taken)))
     (c .before .before .put-too-long .ensures)
 
 put-too-short-requires : tie.Need-put-too-short-requires
@@ -52,14 +52,14 @@ same-length-2 c = search needs
 returns-2 : tie.Need-returns-2
 returns-2 c =
     let a = c .before .before .before .before .before .before .before .before .before .before .before .before .args in
-    written-as (text-unfinished (a .count) (a .words .now) (free (sym (c .before .before .before .before .before .before .before .enum-told .given .1)) (c .before .before .before .before .before .before .before .before .before .judge-head .ensures)) (omega (arith, c .before .before .before .before .before .before .job-length .ensures, c .before .before .before .before .if2 .taken)))
+    written-as (text-unfinished (a .count) (a .words .now) (matched (c .before .before .before .before .before .before .before .enum-told .given .1) (c .before .before .before .before .before .before .before .before .before .judge-head .ensures)) (omega (arith, c .before .before .before .before .before .before .job-length .ensures, c .before .before .before .before .if2 .taken)))
     (c .before .before .put-too-short .ensures)
 
 put-whole-requires : tie.Need-put-whole-requires
 put-whole-requires c κs =
     let s = c .before .before .before .before .before .before .before .before .before in
     let same : s .args .count ≡ 4 * jobLength (s .args .words .now) = omega (arith, c .before .before .before .job-length .ensures, c .before .if2 .left, c .before .before .if1 .left) in
-    (free (sym (c .before .before .before .before .enum-told .given .1)) (c .before .before .before .before .before .before .judge-head .ensures), (omega (arith, s .pre .0, same), search needs))
+    (matched (c .before .before .before .before .enum-told .given .1) (c .before .before .before .before .before .before .judge-head .ensures), (omega (arith, s .pre .0, same), search needs))
 
 same-length-3 : tie.Need-same-length-3
 same-length-3 c = search needs
@@ -77,7 +77,7 @@ returns-4 : tie.Need-returns-4
 returns-4 c =
     let a = c .before .before .before .before .before .before .before .before .before .before .before .before .args in
     written-as
-    (text-whole (a .count) (a .words .now) (free (sym (c .before .before .before .before .before .before .before .enum-told .given .1)) (c .before .before .before .before .before .before .before .before .before .judge-head .ensures)) (omega (arith, c .before .before .before .before .before .before .job-length .ensures, c .before .before .before .before .if2 .left, c .before .before .before .before .before .if1 .left)))
+    (text-whole (a .count) (a .words .now) (matched (c .before .before .before .before .before .before .before .enum-told .given .1) (c .before .before .before .before .before .before .before .before .before .judge-head .ensures)) (omega (arith, c .before .before .before .before .before .before .job-length .ensures, c .before .before .before .before .if2 .left, c .before .before .before .before .before .if1 .left)))
     (c .before .before .put-whole .ensures)
 
 pub put-words-text-spec : {M : Type 1} → statement M
