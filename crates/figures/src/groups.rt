@@ -3,13 +3,12 @@ use crate::line::put_digits;
 use crate::line::put_figure;
 use field::MODULE_PRIME;
 use protocol::Sizes;
-use protocol::Triple;
+use protocol::six_sizes::largest;
 ghost use mathlib.Core.Path.{_≡_};
-ghost use Prim.Native.Nat.{_+_, _*_, _≤_, max};
+ghost use Prim.Native.Nat.{_+_, _*_, _≤_};
 ghost use lib.ListN.{length, take, drop};
 ghost use Rattle.domain.specs.BabyBear.{babyBear};
-ghost use Rattle.protocol.specs.Circuit.{largest as largestOf};
-ghost use Rattle.protocol.specs.Meanings.{three, sizes as sizesMeaning};
+ghost use Rattle.protocol.specs.Meanings.{sizes as sizesMeaning};
 ghost use Rattle.protocol.specs.Record.{sectionBytes};
 ghost use Rattle.protocol.specs.Refusals.{trailerBytes};
 ghost use Rattle.figures.specs.Sheet.{figuresText, sizeFigures, lengthFigures, checkFigures, tripleFigures};
@@ -22,18 +21,6 @@ const PRIME_SQUARED: [u8; 19] = *b"4053239668659978241";
 const PRIME_CUBED: [u8; 28] = *b"8160249294558465929206824961";
 
 const TRAILER_BYTES: u32 = 72;
-
-fn larger(a: u32, b: u32) -> u32
-    ensures { λ r. ⌜ r ≡ max a b ⌝ }
-{
-    if a <= b { b } else { a }
-}
-
-fn largest(k: Triple) -> u32
-    ensures { λ r. ⌜ r ≡ largestOf (three k) ⌝ }
-{
-    larger(k.a, larger(k.b, k.c))
-}
 
 pub fn put_sizes(s: Sizes, out: &mut [u8], at: usize) -> usize
     requires { ⌜ at + lineRoom * 4 ≤ length (now out) ⌝ }
