@@ -35,7 +35,7 @@ use Rattle.prover.specs.CallGiven.{messageList}
 use Rattle.varuna.specs.Answers.{indexesList}
 use Rattle.prover.proofs.WitnessLaws.{public-words}
 use Rattle.job.specs.JobText.{lines, answerText, proofText, unlessRefused, refusedText}
-use Rattle.job.specs.Stages.{Free, section, publicOf, lastAnswer, afterSums, afterValues, answerAfter, firstText, sumWords, thirdText, valueWords, remainderWords, remaindersText, fifthText, restText, stagesText, openedMeaning, jobGiven, jobGivenText}
+use Rattle.job.specs.Stages.{Free, section, publicOf, lastAnswer, afterSums, afterValues, answerAfter, firstText, sumWords, thirdText, valueWords, remainderWords, remaindersText, fourthText, fifthText, restText, stagesText, openedMeaning, jobGiven, jobGivenText}
 
 -- the words of words that are below p
 words-back : (ws : List ℕ) → All (λ w. w < babyBear .p) ws → words (map (of {q = babyBear}) ws) ≡ ws
@@ -87,7 +87,7 @@ opened-same o x t e = ap fromList e
 
 -- the stages' lines in one line
 in-line : (a b d e f g h k l m n t : List ℕ)
-    → (a ++ (b ++ d)) ++ (e ++ ((f ++ g) ++ (h ++ ((k ++ (l ++ m)) ++ (n ++ t)))))
+    → (a ++ (b ++ d)) ++ (e ++ ((f ++ g) ++ ((h ++ (k ++ (l ++ m))) ++ (n ++ t))))
     ≡ (a ++ (b ++ (d ++ (e ++ (f ++ (g ++ (h ++ (k ++ (l ++ (m ++ (n ++ []))))))))))) ++ t
 in-line a b d e f g h k l m n t = simp (append-assoc, append-nil)
 
@@ -165,7 +165,8 @@ module _ (i : ProverInput) (α : ℕ) (η : Three ℕ) (β : ℕ) (δ : Three �
     -- all stages
     stages-same : (o : Opened) (x : IndexesOpened) → messageList o ++ indexesList x ≡ words (listOpenings (trueOpenings babyBear j p))
         → stagesText i α η β δ γ (openedMeaning o x) ≡ proofText babyBear j
-    unfolding stagesText firstText sumWords thirdText valueWords remainderWords remaindersText fifthText restText proofText lines sections proof messages
+    unfolding stagesText firstText sumWords thirdText valueWords remainderWords remaindersText fourthText fifthText restText proofText lines
+        sections proof messages
     stages-same o x e =
         let g : Three (List ℕ) = remainderWords i α β in
         let answer : Answer = lastAnswer (sizesOf c) (publicOf (sizesOf c) (i .z)) α (sumWords i α) η β (valueWords i α β) δ γ (openedMeaning o x) in

@@ -69,6 +69,10 @@ module _ (i : ProverInput) where
   unfoldable pub remainderWords : ℕ → ℕ → Three (List ℕ)
   remainderWords α β = each (λ M. words (matrixRemainder {q = babyBear} c (of α) (of β) M))
 
+  -- o, ga, gb, gc
+  unfoldable pub fourthText : ℕ → ℕ → List ℕ
+  fourthText α β = section 6 (listed (valueWords α β)) ++ remaindersText (remainderWords α β)
+
   -- h2
   unfoldable pub fifthText : ℕ → ℕ → Three ℕ → List ℕ
   fifthText α β δ = section 10 (words (joinedQuotient {q = babyBear} c (of α) (of β) (mapThree of δ)))
@@ -102,9 +106,8 @@ publicOf s z = tabulate (s .X) (λ i. getD z (i * (s .C / s .X)) 0)
 unfoldable pub restText : ProverInput → ℕ → Three ℕ → Three ℕ → ℕ → Three ℕ → ℕ → Openings ℕ → List ℕ
 restText i α σ η β δ γ o =
     let s : Sizes = sizesOf (circuitIn babyBear i) in
-    section 6 (listed (valueWords i α β))
-    ++ (remaindersText (remainderWords i α β)
-    ++ (fifthText i α β δ ++ answerText (lastAnswer s (publicOf s (i .z)) α σ η β (valueWords i α β) δ γ o)))
+    fourthText i α β
+    ++ (fifthText i α β δ ++ answerText (lastAnswer s (publicOf s (i .z)) α σ η β (valueWords i α β) δ γ o))
 
 -- the text of a job that is not refused, with its openings
 unfoldable pub stagesText : ProverInput → ℕ → Three ℕ → ℕ → Three ℕ → ℕ → Openings ℕ → List ℕ
@@ -128,9 +131,12 @@ mostThree = 35
 abbrev pub mostLast : ℕ
 mostLast = 40
 
--- of the sections from o on, and of all
+-- of o, ga, gb, gc, of all from o on, and of all
+abbrev pub mostFourth : ℕ
+mostFourth = mostThree + 3 * mostLine
+
 abbrev pub mostRest : ℕ
-mostRest = mostThree + 4 * mostLine + mostLast
+mostRest = mostFourth + mostLine + mostLast
 
 abbrev pub mostProof : ℕ
 mostProof = 6 * mostLine + mostThree + mostRest

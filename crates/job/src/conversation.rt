@@ -14,7 +14,7 @@ use varuna::session::LastAnswer;
 use varuna::session::Session;
 
 // a - b, and 0 where b is larger.
-pub fn less(a: u32, b: u32) -> u32
+fn less(a: u32, b: u32) -> u32
     ensures { λ r. ⌜ r ≡ a - b ⌝ }
 {
     if b <= a { a - b } else { 0 }

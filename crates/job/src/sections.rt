@@ -15,14 +15,15 @@ ghost use Rattle.varuna.specs.Inputs.{threeOf};
 ghost use Rattle.text.specs.Written.{Written};
 ghost use Rattle.job.specs.JobText.{answerText};
 ghost use Rattle.job.specs.Printed.{Printed};
-ghost use Rattle.job.specs.Stages.{Free, due, firstText, thirdText, fifthText, remaindersText, restText, stagesText, lastAnswer, publicOf, openedMeaning, jobGiven, jobGivenText, mostLine, mostLast, mostRest, mostProof};
+ghost use Rattle.job.specs.Stages.{Free, due, firstText, thirdText, valueWords, remaindersText, fourthText, fifthText, restText, stagesText, lastAnswer, publicOf, openedMeaning, jobGiven, jobGivenText, mostLine, mostFourth, mostLast, mostRest, mostProof};
 use crate::conversation::last_answer;
-use crate::conversation::less;
 use crate::lines::put_answer;
 use crate::lines::put_line;
 use crate::lines::put_refused;
 use crate::lines::put_three;
 use crate::messages;
+use circuit::judging::less;
+use circuit::matrices::size_of;
 use protocol::Opened;
 use protocol::Sizes;
 use protocol::Triple;
@@ -80,8 +81,8 @@ fn put_first(
         (firstText (proverInput r c x (now (ea .entry)) (now (eb .entry)) (now (ec .entry)) (now (z .entry)) mask (now (m .entry))))
         (4 * mostLine) p (now (out .exit)) ⌝ }
 {
-    let n = (less(c, x) + 1) as usize;
-    let k = less(r, 1) as usize;
+    let n = less(c, x) + 1;
+    let k = less(r, 1);
     let mut witness = [0u32; 1024];
     let mut quotient = [0u32; 1024];
     put_first_round(
@@ -170,7 +171,7 @@ fn put_third(
         alpha (three eta))
         (2 * mostLine) p (now (out .exit)) ⌝ }
 {
-    let n = less(c, 1) as usize;
+    let n = less(c, 1);
     let k = c as usize;
     let mut remainder = [0u32; 1024];
     let mut quotient = [0u32; 1024];
@@ -188,6 +189,134 @@ fn put_third(
         eta,
         &mut remainder[..n],
         &mut quotient[..k],
+        out,
+        at,
+    )
+}
+
+// ga, gb, gc.
+fn put_remainders(ga: &[u32], gb: &[u32], gc: &[u32], out: &mut [u8], at: usize) -> usize
+    requires { ⌜ (length (now ga) ≤ 1024) × (length (now gb) ≤ 1024) × (length (now gc) ≤ 1024) ⌝ }
+    requires { ⌜ at + 3 * mostLine ≤ length (now out) ⌝ }
+    ensures { λ p. ⌜ Printed (now (out .entry)) at (remaindersText (threeOf (now (ga .entry)) (now (gb .entry)) (now (gc .entry))))
+        (3 * mostLine) p (now (out .exit)) ⌝ }
+{
+    let first = put_line(b"ga", ga, out, at);
+    let second = put_line(b"gb", gb, out, first);
+    put_line(b"gc", gc, out, second)
+}
+
+// The ω, and the place after the sections of round 4.
+struct FourthRound {
+    values: Triple,
+    place: usize,
+}
+
+// Round 4 into slices, and o, ga, gb, gc.
+fn put_fourth_round(
+    r: u32,
+    c: u32,
+    x: u32,
+    ea: &[u32],
+    eb: &[u32],
+    ec: &[u32],
+    z: &[u32],
+    mask: u32,
+    m: &[u32],
+    alpha: u32,
+    eta: Triple,
+    beta: u32,
+    ga: &mut [u32],
+    gb: &mut [u32],
+    gc: &mut [u32],
+    out: &mut [u8],
+    at: usize,
+) -> FourthRound
+    requires { ⌜ Free (proverInput r c x (now ea) (now eb) (now ec) (now z) mask (now m))
+        (alpha ∷ (listed (three eta) ++ (beta ∷ []))) (alpha ∷ beta ∷ []) ⌝ }
+    requires { ⌜ threeOf (length (now ga)) (length (now gb)) (length (now gc))
+        ≡ due (proverInput r c x (now ea) (now eb) (now ec) (now z) mask (now m)) .matrixRemainders ⌝ }
+    requires { ⌜ at + mostFourth ≤ length (now out) ⌝ }
+    ensures { λ f. ⌜ three (f .values)
+        ≡ valueWords (proverInput r c x (now (ea .entry)) (now (eb .entry)) (now (ec .entry)) (now (z .entry)) mask (now (m .entry)))
+        alpha beta ⌝ }
+    ensures { λ f. ⌜ Printed (now (out .entry)) at
+        (fourthText (proverInput r c x (now (ea .entry)) (now (eb .entry)) (now (ec .entry)) (now (z .entry)) mask (now (m .entry)))
+        alpha beta)
+        mostFourth (f .place) (now (out .exit)) ⌝ }
+{
+    let values = messages::values_into(
+        r,
+        c,
+        x,
+        ea,
+        eb,
+        ec,
+        z,
+        mask,
+        m,
+        alpha,
+        eta,
+        beta,
+        ga,
+        gb,
+        gc,
+    );
+    let named = put_three(b"o", values, out, at);
+    let place = put_remainders(ga, gb, gc, out, named);
+    FourthRound { values, place }
+}
+
+// o, ga, gb, gc.
+fn put_fourth(
+    r: u32,
+    c: u32,
+    x: u32,
+    ea: &[u32],
+    eb: &[u32],
+    ec: &[u32],
+    z: &[u32],
+    mask: u32,
+    m: &[u32],
+    alpha: u32,
+    eta: Triple,
+    beta: u32,
+    out: &mut [u8],
+    at: usize,
+) -> FourthRound
+    requires { ⌜ Free (proverInput r c x (now ea) (now eb) (now ec) (now z) mask (now m))
+        (alpha ∷ (listed (three eta) ++ (beta ∷ []))) (alpha ∷ beta ∷ []) ⌝ }
+    requires { ⌜ at + mostFourth ≤ length (now out) ⌝ }
+    ensures { λ f. ⌜ three (f .values)
+        ≡ valueWords (proverInput r c x (now (ea .entry)) (now (eb .entry)) (now (ec .entry)) (now (z .entry)) mask (now (m .entry)))
+        alpha beta ⌝ }
+    ensures { λ f. ⌜ Printed (now (out .entry)) at
+        (fourthText (proverInput r c x (now (ea .entry)) (now (eb .entry)) (now (ec .entry)) (now (z .entry)) mask (now (m .entry)))
+        alpha beta)
+        mostFourth (f .place) (now (out .exit)) ⌝ }
+{
+    let na = less(size_of(ea), 1);
+    let nb = less(size_of(eb), 1);
+    let nc = less(size_of(ec), 1);
+    let mut ga = [0u32; 1024];
+    let mut gb = [0u32; 1024];
+    let mut gc = [0u32; 1024];
+    put_fourth_round(
+        r,
+        c,
+        x,
+        ea,
+        eb,
+        ec,
+        z,
+        mask,
+        m,
+        alpha,
+        eta,
+        beta,
+        &mut ga[..na],
+        &mut gb[..nb],
+        &mut gc[..nc],
         out,
         at,
     )
@@ -268,7 +397,7 @@ fn put_fifth(
         alpha beta (three delta))
         mostLine p (now (out .exit)) ⌝ }
 {
-    let n = less(k, 1) as usize;
+    let n = less(k, 1);
     let mut quotient = [0u32; 1024];
     put_fifth_round(
         r,
@@ -288,18 +417,6 @@ fn put_fifth(
         out,
         at,
     )
-}
-
-// ga, gb, gc.
-fn put_remainders(ga: &[u32], gb: &[u32], gc: &[u32], out: &mut [u8], at: usize) -> usize
-    requires { ⌜ (length (now ga) ≤ 1024) × (length (now gb) ≤ 1024) × (length (now gc) ≤ 1024) ⌝ }
-    requires { ⌜ at + 3 * mostLine ≤ length (now out) ⌝ }
-    ensures { λ p. ⌜ Printed (now (out .entry)) at (remaindersText (threeOf (now (ga .entry)) (now (gb .entry)) (now (gc .entry))))
-        (3 * mostLine) p (now (out .exit)) ⌝ }
-{
-    let first = put_line(b"ga", ga, out, at);
-    let second = put_line(b"gb", gb, out, first);
-    put_line(b"gc", gc, out, second)
 }
 
 // The last line.
@@ -343,100 +460,6 @@ fn put_last(
     put_answer(answer, out, at)
 }
 
-// Round 4 into slices, and o, ga, gb, gc, h2 and the last line.
-fn put_fourth_round(
-    r: u32,
-    c: u32,
-    x: u32,
-    ea: &[u32],
-    eb: &[u32],
-    ec: &[u32],
-    z: &[u32],
-    mask: u32,
-    m: &[u32],
-    alpha: u32,
-    sums: Triple,
-    eta: Triple,
-    beta: u32,
-    delta: Triple,
-    gamma: u32,
-    o: Opened,
-    i: IndexesOpened,
-    ga: &mut [u32],
-    gb: &mut [u32],
-    gc: &mut [u32],
-    s: Sizes,
-    out: &mut [u8],
-    at: usize,
-) -> usize
-    requires { ⌜ Free (proverInput r c x (now ea) (now eb) (now ec) (now z) mask (now m))
-        (alpha ∷ (listed (three eta) ++ (beta ∷ (listed (three delta) ++ (gamma ∷ []))))) (alpha ∷ beta ∷ gamma ∷ []) ⌝ }
-    requires { ⌜ sizes s ≡ sizesOf (circuitOf (given r c x (now ea) (now eb) (now ec))) ⌝ }
-    requires { ⌜ threeOf (length (now ga)) (length (now gb)) (length (now gc))
-        ≡ due (proverInput r c x (now ea) (now eb) (now ec) (now z) mask (now m)) .matrixRemainders ⌝ }
-    requires { ⌜ at + mostRest ≤ length (now out) ⌝ }
-    ensures { λ p. ⌜ Printed (now (out .entry)) at
-        (restText (proverInput r c x (now (ea .entry)) (now (eb .entry)) (now (ec .entry)) (now (z .entry)) mask (now (m .entry)))
-        alpha (three sums) (three eta) beta (three delta) gamma
-        (openedMeaning o i))
-        mostRest p (now (out .exit)) ⌝ }
-{
-    let values = messages::values_into(
-        r,
-        c,
-        x,
-        ea,
-        eb,
-        ec,
-        z,
-        mask,
-        m,
-        alpha,
-        eta,
-        beta,
-        ga,
-        gb,
-        gc,
-    );
-    let named = put_three(b"o", values, out, at);
-    let next = put_remainders(ga, gb, gc, out, named);
-    let k = s.k;
-    let most = protocol::six_sizes::largest(k);
-    let last = put_fifth(
-        r,
-        c,
-        x,
-        ea,
-        eb,
-        ec,
-        z,
-        mask,
-        m,
-        alpha,
-        eta,
-        beta,
-        delta,
-        most,
-        out,
-        next,
-    );
-    put_last(
-        s,
-        z,
-        alpha,
-        sums,
-        eta,
-        beta,
-        values,
-        delta,
-        gamma,
-        o,
-        i,
-        out,
-        last,
-    )
-}
-
 // o, ga, gb, gc, h2 and the last line.
 fn put_rest(
     r: u32,
@@ -468,15 +491,10 @@ fn put_rest(
         (openedMeaning o i))
         mostRest p (now (out .exit)) ⌝ }
 {
+    let fourth = put_fourth(r, c, x, ea, eb, ec, z, mask, m, alpha, eta, beta, out, at);
     let s = messages::sizes_of(r, c, x, ea, eb, ec);
-    let k = s.k;
-    let na = less(k.a, 1) as usize;
-    let nb = less(k.b, 1) as usize;
-    let nc = less(k.c, 1) as usize;
-    let mut ga = [0u32; 1024];
-    let mut gb = [0u32; 1024];
-    let mut gc = [0u32; 1024];
-    put_fourth_round(
+    let most = protocol::six_sizes::largest(s.k);
+    let last = put_fifth(
         r,
         c,
         x,
@@ -487,19 +505,27 @@ fn put_rest(
         mask,
         m,
         alpha,
+        eta,
+        beta,
+        delta,
+        most,
+        out,
+        fourth.place,
+    );
+    put_last(
+        s,
+        z,
+        alpha,
         sums,
         eta,
         beta,
+        fourth.values,
         delta,
         gamma,
         o,
         i,
-        &mut ga[..na],
-        &mut gb[..nb],
-        &mut gc[..nc],
-        s,
         out,
-        at,
+        last,
     )
 }
 

@@ -14,9 +14,6 @@ use Rattle.job.proofs.sections.put_fifth.Tie as tie
 less-requires : tie.Need-less-requires
 less-requires c κs = search needs
 
-cast-n : tie.Need-cast-n
-cast-n c = search needs
-
 array-borrow-prefix-quotient : tie.Need-array-borrow-prefix-quotient
 unfolding lengths
 array-borrow-prefix-quotient c =
@@ -57,7 +54,6 @@ put-fifth-spec =
     tie.close
     (tie.spec
     less-requires
-    cast-n
     array-borrow-prefix-quotient
     slice-aggregate-put-fifth-round
     put-fifth-round-requires

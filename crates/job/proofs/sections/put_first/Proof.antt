@@ -22,14 +22,8 @@ add-n c =
     let a = s .args in
     let i : ProverInput = proverInput (a .r) (a .c) (a .x) (a .ea .now) (a .eb .now) (a .ec .now) (a .z .now) (a .mask) (a .m .now) in omega (arith, c .less .ensures, columns-most i (s .pre .0))
 
-cast-n : tie.Need-cast-n
-cast-n c = search needs
-
 less-requires-2 : tie.Need-less-requires-2
 less-requires-2 c κs = search needs
-
-cast-k : tie.Need-cast-k
-cast-k c = search needs
 
 array-borrow-prefix-witness : tie.Need-array-borrow-prefix-witness
 array-borrow-prefix-witness c =
@@ -83,9 +77,7 @@ put-first-spec =
     (tie.spec
     less-requires
     add-n
-    cast-n
     less-requires-2
-    cast-k
     array-borrow-prefix-witness
     slice-aggregate-put-first-round
     array-borrow-prefix-quotient

@@ -16,9 +16,6 @@ use Rattle.job.proofs.sections.put_third.Tie as tie
 less-requires : tie.Need-less-requires
 less-requires c κs = search needs
 
-cast-n : tie.Need-cast-n
-cast-n c = search needs
-
 array-borrow-prefix-remainder : tie.Need-array-borrow-prefix-remainder
 array-borrow-prefix-remainder c =
     let s = c .before .before .before .before .before .before .before in
@@ -66,7 +63,6 @@ put-third-spec =
     tie.close
     (tie.spec
     less-requires
-    cast-n
     array-borrow-prefix-remainder
     slice-aggregate-put-third-round
     array-borrow-prefix-quotient
