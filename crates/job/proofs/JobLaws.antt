@@ -2,7 +2,7 @@
 -- those of its proof and the last answer is that of its session. Assumes nothing.
 use mathlib.Core.Path.{_≡_, refl, sym, ap, ap₂, _∙_}
 use mathlib.Core.List.{List, [], _∷_, _++_, map, append-assoc, append-nil}
-use mathlib.Core.Option.{none, some}
+use mathlib.Core.Option.{Option, none, some}
 use Prim.Native.Nat.{ℕ, zero, suc, _*_, _/_, _<_}
 use lib.Dec.{lit<}
 use native.Mathlib.Omega.{arith}
@@ -53,11 +53,11 @@ tabulated-below zero f h = tt
 tabulated-below (suc n) f h = (h 0, tabulated-below n (λ k. f (suc k)) (λ k. h (suc k)))
 
 -- a call that is done was not refused
-pub done-free : {T : Type 0} (o : _) {v : T} (w : T) → Done v ≡ judged o w → (o ≡ none) × (v ≡ w)
+pub done-free : {T : Type 0} (o : Option Refusal) {v : T} (w : T) → Done v ≡ judged o w → (o ≡ none) × (v ≡ w)
 done-free none {v} w e = (refl, cc)
 done-free (some r) {v} w e = let z : _≡_ {A = ℕ} 0 1 = cc in absurd (omega arith)
 
-pub refused-some : {T : Type 0} (o : _) {r : Refusal} (w : T) → Refused r ≡ judged o w → o ≡ some r
+pub refused-some : {T : Type 0} (o : Option Refusal) {r : Refusal} (w : T) → Refused r ≡ judged o w → o ≡ some r
 refused-some none {r} w e = let z : _≡_ {A = ℕ} 0 1 = cc in absurd (omega arith)
 refused-some (some s) {r} w e = let same : r ≡ s = cc in sym (ap some same)
 
