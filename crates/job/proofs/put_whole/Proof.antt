@@ -2,7 +2,7 @@
 use mathlib.Core.Path.{_≡_, ap, _∙_}
 use Prim.Native.Nat.{ℕ, _+_, _-_, _*_}
 use native.Mathlib.Omega.{arith}
-use lib.ListN.{getD}
+use lib.ListN.{length, getD}
 use Rattle.text.proofs.WrittenLaws.{written-as}
 use Rattle.job.specs.JobText.{placeB, placeC, placeZ, placeR, placeM, placeα}
 use Rattle.job.specs.Stages.{jobGivenText}
@@ -55,8 +55,10 @@ add-z c = search needs
 
 shared-slice-read-wide-4 : tie.Need-shared-slice-read-wide-4
 shared-slice-read-wide-4 c =
-    let s = c .before .before .before .before .before .before .before .before .before in
-    omega (arith, s .pre .1 .0, whole-length (s .args .ws .now), c .before .before .before .before .before .wide .ensures .0, c .before .before .before .wide2 .ensures .0, c .before .wide3 .ensures .0)
+    let at-wide2 = c .before .before .before in
+    let at-wide = at-wide2 .before .before in
+    let s = at-wide .before .before .before .before in
+    omega (arith, s .pre .1 .0, whole-length (s .args .ws .now), at-wide .wide .ensures .0, at-wide2 .wide2 .ensures .0, c .before .wide3 .ensures .0)
 
 wide-requires-4 : tie.Need-wide-requires-4
 wide-requires-4 c κs = search needs
@@ -69,8 +71,19 @@ add-m c = search needs
 
 shared-slice-read-wide-5 : tie.Need-shared-slice-read-wide-5
 shared-slice-read-wide-5 c =
-    let s = c .before .before .before .before .before .before .before .before .before .before .before in
-    omega (arith, s .pre .1 .0, whole-length (s .args .ws .now), c .before .before .before .before .before .before .before .wide .ensures .0, c .before .before .before .before .before .wide2 .ensures .0, c .before .before .before .wide3 .ensures .0, c .before .wide4 .ensures .0)
+    let at-wide3 = c .before .before .before in
+    let at-wide2 = at-wide3 .before .before in
+    let at-wide = at-wide2 .before .before in
+    let s = at-wide .before .before .before .before in
+    omega (
+      arith,
+      s .pre .1 .0,
+      whole-length (s .args .ws .now),
+      at-wide .wide .ensures .0,
+      at-wide2 .wide2 .ensures .0,
+      at-wide3 .wide3 .ensures .0,
+      c .before .wide4 .ensures .0,
+    )
 
 wide-requires-5 : tie.Need-wide-requires-5
 wide-requires-5 c κs = search needs
@@ -81,20 +94,37 @@ mul-at c = search needs
 add-at : tie.Need-add-at
 add-at c = search needs
 
+-- the counts that are read, and the length of the whole job
+counts-whole : (c : tie.After-wide5)
+    → 6 + 3 * c .before .before .before .before .before .before .before .before .wide .result
+    + 3 * c .before .before .before .before .before .before .wide2 .result + 3 * c .before .before .before .before .wide3 .result
+    + c .before .before .wide4 .result + 1 + 2 * c .wide5 .result + 9
+    ≡ length (c .before .before .before .before .before .before .before .before .before .before .before .before .args .ws .now)
+counts-whole c =
+    let at-wide4 = c .before .before in
+    let at-wide3 = at-wide4 .before .before in
+    let at-wide2 = at-wide3 .before .before in
+    let at-wide = at-wide2 .before .before in
+    let s = at-wide .before .before .before .before in
+    omega (
+      arith,
+      s .pre .1 .0,
+      whole-length (s .args .ws .now),
+      at-wide .wide .ensures .0,
+      at-wide2 .wide2 .ensures .0,
+      at-wide3 .wide3 .ensures .0,
+      at-wide4 .wide4 .ensures .0,
+      c .wide5 .ensures .0,
+    )
+
 shared-slice-read-put-job : tie.Need-shared-slice-read-put-job
-shared-slice-read-put-job c =
-    let s = c .before .before .before .before .before .before .before .before .before .before .before .before .before in
-    omega (arith, s .pre .1 .0, whole-length (s .args .ws .now), c .before .before .before .before .before .before .before .before .before .wide .ensures .0, c .before .before .before .before .before .before .before .wide2 .ensures .0, c .before .before .before .before .before .wide3 .ensures .0, c .before .before .before .wide4 .ensures .0, c .before .wide5 .ensures .0)
+shared-slice-read-put-job c = omega (arith, counts-whole (c .before))
 
 shared-slice-read-put-job-2 : tie.Need-shared-slice-read-put-job-2
-shared-slice-read-put-job-2 c =
-    let s = c .before .before .before .before .before .before .before .before .before .before .before .before .before .before in
-    omega (arith, s .pre .1 .0, whole-length (s .args .ws .now), c .before .before .before .before .before .before .before .before .before .before .wide .ensures .0, c .before .before .before .before .before .before .before .before .wide2 .ensures .0, c .before .before .before .before .before .before .wide3 .ensures .0, c .before .before .before .before .wide4 .ensures .0, c .before .before .wide5 .ensures .0)
+shared-slice-read-put-job-2 c = omega (arith, counts-whole (c .before .before))
 
 shared-slice-read-put-job-3 : tie.Need-shared-slice-read-put-job-3
-shared-slice-read-put-job-3 c =
-    let s = c .before .before .before .before .before .before .before .before .before .before .before .before .before .before .before in
-    omega (arith, s .pre .1 .0, whole-length (s .args .ws .now), c .before .before .before .before .before .before .before .before .before .before .before .wide .ensures .0, c .before .before .before .before .before .before .before .before .before .wide2 .ensures .0, c .before .before .before .before .before .before .before .wide3 .ensures .0, c .before .before .before .before .before .wide4 .ensures .0, c .before .before .before .wide5 .ensures .0)
+shared-slice-read-put-job-3 c = omega (arith, counts-whole (c .before .before .before))
 
 sub-put-job : tie.Need-sub-put-job
 sub-put-job c = search needs
@@ -103,9 +133,7 @@ part-put-job-start : tie.Need-part-put-job-start
 part-put-job-start c = search needs
 
 part-put-job-end : tie.Need-part-put-job-end
-part-put-job-end c =
-    let s = c .before .before .before .before .before .before .before .before .before .before .before .before .before .before .before in
-    omega (arith, s .pre .1 .0, whole-length (s .args .ws .now), c .before .before .before .before .before .before .before .before .before .before .before .wide .ensures .0, c .before .before .before .before .before .before .before .before .before .wide2 .ensures .0, c .before .before .before .before .before .before .before .wide3 .ensures .0, c .before .before .before .before .before .wide4 .ensures .0, c .before .before .before .wide5 .ensures .0)
+part-put-job-end c = omega (arith, counts-whole (c .before .before .before))
 
 mul-put-job : tie.Need-mul-put-job
 mul-put-job c = search needs
@@ -117,9 +145,7 @@ part-put-job-start-2 : tie.Need-part-put-job-start-2
 part-put-job-start-2 c = search needs
 
 part-put-job-end-2 : tie.Need-part-put-job-end-2
-part-put-job-end-2 c =
-    let s = c .before .before .before .before .before .before .before .before .before .before .before .before .before .before .before .before in
-    omega (arith, s .pre .1 .0, whole-length (s .args .ws .now), c .before .before .before .before .before .before .before .before .before .before .before .before .wide .ensures .0, c .before .before .before .before .before .before .before .before .before .before .wide2 .ensures .0, c .before .before .before .before .before .before .before .before .wide3 .ensures .0, c .before .before .before .before .before .before .wide4 .ensures .0, c .before .before .before .before .wide5 .ensures .0)
+part-put-job-end-2 c = omega (arith, counts-whole (c .before .before .before .before))
 
 mul-put-job-2 : tie.Need-mul-put-job-2
 mul-put-job-2 c = search needs
@@ -131,9 +157,7 @@ part-put-job-start-3 : tie.Need-part-put-job-start-3
 part-put-job-start-3 c = search needs
 
 part-put-job-end-3 : tie.Need-part-put-job-end-3
-part-put-job-end-3 c =
-    let s = c .before .before .before .before .before .before .before .before .before .before .before .before .before .before .before .before .before in
-    omega (arith, s .pre .1 .0, whole-length (s .args .ws .now), c .before .before .before .before .before .before .before .before .before .before .before .before .before .wide .ensures .0, c .before .before .before .before .before .before .before .before .before .before .before .wide2 .ensures .0, c .before .before .before .before .before .before .before .before .before .wide3 .ensures .0, c .before .before .before .before .before .before .before .wide4 .ensures .0, c .before .before .before .before .before .wide5 .ensures .0)
+part-put-job-end-3 c = omega (arith, counts-whole (c .before .before .before .before .before))
 
 mul-put-job-3 : tie.Need-mul-put-job-3
 mul-put-job-3 c = search needs
@@ -145,17 +169,13 @@ part-put-job-start-4 : tie.Need-part-put-job-start-4
 part-put-job-start-4 c = search needs
 
 part-put-job-end-4 : tie.Need-part-put-job-end-4
-part-put-job-end-4 c =
-    let s = c .before .before .before .before .before .before .before .before .before .before .before .before .before .before .before .before .before .before in
-    omega (arith, s .pre .1 .0, whole-length (s .args .ws .now), c .before .before .before .before .before .before .before .before .before .before .before .before .before .before .wide .ensures .0, c .before .before .before .before .before .before .before .before .before .before .before .before .wide2 .ensures .0, c .before .before .before .before .before .before .before .before .before .before .wide3 .ensures .0, c .before .before .before .before .before .before .before .before .wide4 .ensures .0, c .before .before .before .before .before .before .wide5 .ensures .0)
+part-put-job-end-4 c = omega (arith, counts-whole (c .before .before .before .before .before .before))
 
 mul-put-job-4 : tie.Need-mul-put-job-4
 mul-put-job-4 c = search needs
 
 shared-slice-read-put-job-4 : tie.Need-shared-slice-read-put-job-4
-shared-slice-read-put-job-4 c =
-    let s = c .before .before .before .before .before .before .before .before .before .before .before .before .before .before .before .before .before .before .before .before in
-    omega (arith, s .pre .1 .0, whole-length (s .args .ws .now), c .before .before .before .before .before .before .before .before .before .before .before .before .before .before .before .before .wide .ensures .0, c .before .before .before .before .before .before .before .before .before .before .before .before .before .before .wide2 .ensures .0, c .before .before .before .before .before .before .before .before .before .before .before .before .wide3 .ensures .0, c .before .before .before .before .before .before .before .before .before .before .wide4 .ensures .0, c .before .before .before .before .before .before .before .before .wide5 .ensures .0)
+shared-slice-read-put-job-4 c = omega (arith, counts-whole (c .before .before .before .before .before .before .before .before))
 
 mul-put-job-5 : tie.Need-mul-put-job-5
 mul-put-job-5 c = search needs
@@ -167,17 +187,13 @@ part-put-job-start-5 : tie.Need-part-put-job-start-5
 part-put-job-start-5 c = search needs
 
 part-put-job-end-5 : tie.Need-part-put-job-end-5
-part-put-job-end-5 c =
-    let s = c .before .before .before .before .before .before .before .before .before .before .before .before .before .before .before .before .before .before .before .before in
-    omega (arith, s .pre .1 .0, whole-length (s .args .ws .now), c .before .before .before .before .before .before .before .before .before .before .before .before .before .before .before .before .wide .ensures .0, c .before .before .before .before .before .before .before .before .before .before .before .before .before .before .wide2 .ensures .0, c .before .before .before .before .before .before .before .before .before .before .before .before .wide3 .ensures .0, c .before .before .before .before .before .before .before .before .before .before .wide4 .ensures .0, c .before .before .before .before .before .before .before .before .wide5 .ensures .0)
+part-put-job-end-5 c = omega (arith, counts-whole (c .before .before .before .before .before .before .before .before))
 
 mul-put-job-6 : tie.Need-mul-put-job-6
 mul-put-job-6 c = search needs
 
 shared-slice-read-put-job-5 : tie.Need-shared-slice-read-put-job-5
-shared-slice-read-put-job-5 c =
-    let s = c .before .before .before .before .before .before .before .before .before .before .before .before .before .before .before .before .before .before .before .before .before .before in
-    omega (arith, s .pre .1 .0, whole-length (s .args .ws .now), c .before .before .before .before .before .before .before .before .before .before .before .before .before .before .before .before .before .before .wide .ensures .0, c .before .before .before .before .before .before .before .before .before .before .before .before .before .before .before .before .wide2 .ensures .0, c .before .before .before .before .before .before .before .before .before .before .before .before .before .before .wide3 .ensures .0, c .before .before .before .before .before .before .before .before .before .before .before .before .wide4 .ensures .0, c .before .before .before .before .before .before .before .before .before .before .wide5 .ensures .0)
+shared-slice-read-put-job-5 c = omega (arith, counts-whole (c .before .before .before .before .before .before .before .before .before .before))
 
 add-t50 : tie.Need-add-t50
 add-t50 c = search needs
@@ -186,9 +202,7 @@ mul-t51 : tie.Need-mul-t51
 mul-t51 c = search needs
 
 shared-slice-read-t53 : tie.Need-shared-slice-read-t53
-shared-slice-read-t53 c =
-    let s = c .before .before .before .before .before .before .before .before .before .before .before .before .before .before .before .before .before .before .before .before .before .before .before in
-    omega (arith, s .pre .1 .0, whole-length (s .args .ws .now), c .before .before .before .before .before .before .before .before .before .before .before .before .before .before .before .before .before .before .before .wide .ensures .0, c .before .before .before .before .before .before .before .before .before .before .before .before .before .before .before .before .before .wide2 .ensures .0, c .before .before .before .before .before .before .before .before .before .before .before .before .before .before .before .wide3 .ensures .0, c .before .before .before .before .before .before .before .before .before .before .before .before .before .wide4 .ensures .0, c .before .before .before .before .before .before .before .before .before .before .before .wide5 .ensures .0)
+shared-slice-read-t53 c = omega (arith, counts-whole (c .before .before .before .before .before .before .before .before .before .before .before))
 
 add-t54 : tie.Need-add-t54
 add-t54 c = search needs
@@ -197,9 +211,7 @@ mul-t55 : tie.Need-mul-t55
 mul-t55 c = search needs
 
 shared-slice-read-t57 : tie.Need-shared-slice-read-t57
-shared-slice-read-t57 c =
-    let s = c .before .before .before .before .before .before .before .before .before .before .before .before .before .before .before .before .before .before .before .before .before .before .before .before in
-    omega (arith, s .pre .1 .0, whole-length (s .args .ws .now), c .before .before .before .before .before .before .before .before .before .before .before .before .before .before .before .before .before .before .before .before .wide .ensures .0, c .before .before .before .before .before .before .before .before .before .before .before .before .before .before .before .before .before .before .wide2 .ensures .0, c .before .before .before .before .before .before .before .before .before .before .before .before .before .before .before .before .wide3 .ensures .0, c .before .before .before .before .before .before .before .before .before .before .before .before .before .before .wide4 .ensures .0, c .before .before .before .before .before .before .before .before .before .before .before .before .wide5 .ensures .0)
+shared-slice-read-t57 c = omega (arith, counts-whole (c .before .before .before .before .before .before .before .before .before .before .before .before))
 
 add-t58 : tie.Need-add-t58
 add-t58 c = search needs
@@ -209,8 +221,8 @@ mul-t59 c = search needs
 
 shared-slice-read-t61 : tie.Need-shared-slice-read-t61
 shared-slice-read-t61 c =
-    let s = c .before .before .before .before .before .before .before .before .before .before .before .before .before .before .before .before .before .before .before .before .before .before .before .before .before in
-    omega (arith, s .pre .1 .0, whole-length (s .args .ws .now), c .before .before .before .before .before .before .before .before .before .before .before .before .before .before .before .before .before .before .before .before .before .wide .ensures .0, c .before .before .before .before .before .before .before .before .before .before .before .before .before .before .before .before .before .before .before .wide2 .ensures .0, c .before .before .before .before .before .before .before .before .before .before .before .before .before .before .before .before .before .wide3 .ensures .0, c .before .before .before .before .before .before .before .before .before .before .before .before .before .before .before .wide4 .ensures .0, c .before .before .before .before .before .before .before .before .before .before .before .before .before .wide5 .ensures .0)
+    let at-put-job-arg5 = c .before .before .before .before in
+    omega (arith, counts-whole (at-put-job-arg5 .before .before .before .before .before .before .before .before .before))
 
 add-put-job : tie.Need-add-put-job
 add-put-job c = search needs
@@ -220,8 +232,8 @@ mul-put-job-7 c = search needs
 
 shared-slice-read-put-job-6 : tie.Need-shared-slice-read-put-job-6
 shared-slice-read-put-job-6 c =
-    let s = c .before .before .before .before .before .before .before .before .before .before .before .before .before .before .before .before .before .before .before .before .before .before .before .before .before .before in
-    omega (arith, s .pre .1 .0, whole-length (s .args .ws .now), c .before .before .before .before .before .before .before .before .before .before .before .before .before .before .before .before .before .before .before .before .before .before .wide .ensures .0, c .before .before .before .before .before .before .before .before .before .before .before .before .before .before .before .before .before .before .before .before .wide2 .ensures .0, c .before .before .before .before .before .before .before .before .before .before .before .before .before .before .before .before .before .before .wide3 .ensures .0, c .before .before .before .before .before .before .before .before .before .before .before .before .before .before .before .before .wide4 .ensures .0, c .before .before .before .before .before .before .before .before .before .before .before .before .before .before .wide5 .ensures .0)
+    let at-put-job-arg5 = c .before .before .before .before .before in
+    omega (arith, counts-whole (at-put-job-arg5 .before .before .before .before .before .before .before .before .before))
 
 add-t67 : tie.Need-add-t67
 add-t67 c = search needs
@@ -231,8 +243,8 @@ mul-t68 c = search needs
 
 shared-slice-read-t70 : tie.Need-shared-slice-read-t70
 shared-slice-read-t70 c =
-    let s = c .before .before .before .before .before .before .before .before .before .before .before .before .before .before .before .before .before .before .before .before .before .before .before .before .before .before .before in
-    omega (arith, s .pre .1 .0, whole-length (s .args .ws .now), c .before .before .before .before .before .before .before .before .before .before .before .before .before .before .before .before .before .before .before .before .before .before .before .wide .ensures .0, c .before .before .before .before .before .before .before .before .before .before .before .before .before .before .before .before .before .before .before .before .before .wide2 .ensures .0, c .before .before .before .before .before .before .before .before .before .before .before .before .before .before .before .before .before .before .before .wide3 .ensures .0, c .before .before .before .before .before .before .before .before .before .before .before .before .before .before .before .before .before .wide4 .ensures .0, c .before .before .before .before .before .before .before .before .before .before .before .before .before .before .before .wide5 .ensures .0)
+    let at-put-job-arg5 = c .before .before .before .before .before .before in
+    omega (arith, counts-whole (at-put-job-arg5 .before .before .before .before .before .before .before .before .before))
 
 add-t71 : tie.Need-add-t71
 add-t71 c = search needs
@@ -242,8 +254,8 @@ mul-t72 c = search needs
 
 shared-slice-read-t74 : tie.Need-shared-slice-read-t74
 shared-slice-read-t74 c =
-    let s = c .before .before .before .before .before .before .before .before .before .before .before .before .before .before .before .before .before .before .before .before .before .before .before .before .before .before .before .before in
-    omega (arith, s .pre .1 .0, whole-length (s .args .ws .now), c .before .before .before .before .before .before .before .before .before .before .before .before .before .before .before .before .before .before .before .before .before .before .before .before .wide .ensures .0, c .before .before .before .before .before .before .before .before .before .before .before .before .before .before .before .before .before .before .before .before .before .before .wide2 .ensures .0, c .before .before .before .before .before .before .before .before .before .before .before .before .before .before .before .before .before .before .before .before .wide3 .ensures .0, c .before .before .before .before .before .before .before .before .before .before .before .before .before .before .before .before .before .before .wide4 .ensures .0, c .before .before .before .before .before .before .before .before .before .before .before .before .before .before .before .before .wide5 .ensures .0)
+    let at-put-job-arg5 = c .before .before .before .before .before .before .before in
+    omega (arith, counts-whole (at-put-job-arg5 .before .before .before .before .before .before .before .before .before))
 
 add-t75 : tie.Need-add-t75
 add-t75 c = search needs
@@ -253,8 +265,8 @@ mul-t76 c = search needs
 
 shared-slice-read-t78 : tie.Need-shared-slice-read-t78
 shared-slice-read-t78 c =
-    let s = c .before .before .before .before .before .before .before .before .before .before .before .before .before .before .before .before .before .before .before .before .before .before .before .before .before .before .before .before .before in
-    omega (arith, s .pre .1 .0, whole-length (s .args .ws .now), c .before .before .before .before .before .before .before .before .before .before .before .before .before .before .before .before .before .before .before .before .before .before .before .before .before .wide .ensures .0, c .before .before .before .before .before .before .before .before .before .before .before .before .before .before .before .before .before .before .before .before .before .before .before .wide2 .ensures .0, c .before .before .before .before .before .before .before .before .before .before .before .before .before .before .before .before .before .before .before .before .before .wide3 .ensures .0, c .before .before .before .before .before .before .before .before .before .before .before .before .before .before .before .before .before .before .before .wide4 .ensures .0, c .before .before .before .before .before .before .before .before .before .before .before .before .before .before .before .before .before .wide5 .ensures .0)
+    let at-put-job-arg5 = c .before .before .before .before .before .before .before .before in
+    omega (arith, counts-whole (at-put-job-arg5 .before .before .before .before .before .before .before .before .before))
 
 add-put-job-2 : tie.Need-add-put-job-2
 add-put-job-2 c = search needs
@@ -264,19 +276,23 @@ mul-put-job-8 c = search needs
 
 shared-slice-read-put-job-7 : tie.Need-shared-slice-read-put-job-7
 shared-slice-read-put-job-7 c =
-    let s = c .before .before .before .before .before .before .before .before .before .before .before .before .before .before .before .before .before .before .before .before .before .before .before .before .before .before .before .before .before .before in
-    omega (arith, s .pre .1 .0, whole-length (s .args .ws .now), c .before .before .before .before .before .before .before .before .before .before .before .before .before .before .before .before .before .before .before .before .before .before .before .before .before .before .wide .ensures .0, c .before .before .before .before .before .before .before .before .before .before .before .before .before .before .before .before .before .before .before .before .before .before .before .before .wide2 .ensures .0, c .before .before .before .before .before .before .before .before .before .before .before .before .before .before .before .before .before .before .before .before .before .before .wide3 .ensures .0, c .before .before .before .before .before .before .before .before .before .before .before .before .before .before .before .before .before .before .before .before .wide4 .ensures .0, c .before .before .before .before .before .before .before .before .before .before .before .before .before .before .before .before .before .before .wide5 .ensures .0)
+    let at-put-job-arg5 = c .before .before .before .before .before .before .before .before .before in
+    omega (arith, counts-whole (at-put-job-arg5 .before .before .before .before .before .before .before .before .before))
 
 put-job-requires : tie.Need-put-job-requires
 put-job-requires c κs =
-    let s = c .before .before .before .before .before .before .before .before .before .before .before .before .before .before .before .before .before .before .before .before .before .before .before .before .before .before .before .before .before .before .before in
+    let at-put-job-arg5 = c .before .before .before .before .before .before .before .before .before .before in
+    let at-wide3 = at-put-job-arg5 .before .before .before .before .before .before .before .before .before .before .before .before .before in
+    let at-wide2 = at-wide3 .before .before in
+    let at-wide = at-wide2 .before .before in
+    let s = at-wide .before .before .before .before in
     let ws = s .args .ws .now in
-    let b : ℕ = 6 + 3 * c .before .before .before .before .before .before .before .before .before .before .before .before .before .before .before .before .before .before .before .before .before .before .before .before .before .before .before .wide .result in
-    let d : ℕ = b + 3 * c .before .before .before .before .before .before .before .before .before .before .before .before .before .before .before .before .before .before .before .before .before .before .before .before .before .wide2 .result in
-    let z : ℕ = d + 3 * c .before .before .before .before .before .before .before .before .before .before .before .before .before .before .before .before .before .before .before .before .before .before .before .wide3 .result in
-    let eb : b ≡ placeB ws = omega (arith, c .before .before .before .before .before .before .before .before .before .before .before .before .before .before .before .before .before .before .before .before .before .before .before .before .before .before .before .wide .ensures .0) in
-    let ed : d ≡ placeC ws = omega (arith, eb, c .before .before .before .before .before .before .before .before .before .before .before .before .before .before .before .before .before .before .before .before .before .before .before .before .before .wide2 .ensures .0) in
-    let ez : z ≡ placeZ ws = omega (arith, ed, c .before .before .before .before .before .before .before .before .before .before .before .before .before .before .before .before .before .before .before .before .before .before .before .wide3 .ensures .0) in
+    let b : ℕ = 6 + 3 * at-wide .wide .result in
+    let d : ℕ = b + 3 * at-wide2 .wide2 .result in
+    let z : ℕ = d + 3 * at-wide3 .wide3 .result in
+    let eb : b ≡ placeB ws = omega (arith, at-wide .wide .ensures .0) in
+    let ed : d ≡ placeC ws = omega (arith, eb, at-wide2 .wide2 .ensures .0) in
+    let ez : z ≡ placeZ ws = omega (arith, ed, at-wide3 .wide3 .ensures .0) in
     let F = head-fits ws (s .pre .0) in
     let long = whole-length ws in
     let na : b - 6 ≡ 3 * getD ws 3 0 = omega arith in
@@ -294,19 +310,25 @@ same-length c = search needs
 
 returns : tie.Need-returns
 returns c =
-    let s = c .before .before .before .before .before .before .before .before .before .before .before .before .before .before .before .before .before .before .before .before .before .before .before .before .before .before .before .before .before .before .before .before .before .before in
+    let at-put-job-arg5 = c .before .before .before .before .before .before .before .before .before .before .before .before .before in
+    let at-wide5 = at-put-job-arg5 .before .before .before .before .before .before .before .before .before in
+    let at-wide4 = at-wide5 .before .before in
+    let at-wide3 = at-wide4 .before .before in
+    let at-wide2 = at-wide3 .before .before in
+    let at-wide = at-wide2 .before .before in
+    let s = at-wide .before .before .before .before in
     let ws = s .args .ws .now in
-    let b : ℕ = 6 + 3 * c .before .before .before .before .before .before .before .before .before .before .before .before .before .before .before .before .before .before .before .before .before .before .before .before .before .before .before .before .before .before .wide .result in
-    let d : ℕ = b + 3 * c .before .before .before .before .before .before .before .before .before .before .before .before .before .before .before .before .before .before .before .before .before .before .before .before .before .before .before .before .wide2 .result in
-    let z : ℕ = d + 3 * c .before .before .before .before .before .before .before .before .before .before .before .before .before .before .before .before .before .before .before .before .before .before .before .before .before .before .wide3 .result in
-    let eb : b ≡ placeB ws = omega (arith, c .before .before .before .before .before .before .before .before .before .before .before .before .before .before .before .before .before .before .before .before .before .before .before .before .before .before .before .before .before .before .wide .ensures .0) in
-    let ed : d ≡ placeC ws = omega (arith, eb, c .before .before .before .before .before .before .before .before .before .before .before .before .before .before .before .before .before .before .before .before .before .before .before .before .before .before .before .before .wide2 .ensures .0) in
-    let ez : z ≡ placeZ ws = omega (arith, ed, c .before .before .before .before .before .before .before .before .before .before .before .before .before .before .before .before .before .before .before .before .before .before .before .before .before .before .wide3 .ensures .0) in
-    let r : ℕ = z + c .before .before .before .before .before .before .before .before .before .before .before .before .before .before .before .before .before .before .before .before .before .before .before .before .wide4 .result in
-    let at : ℕ = r + 1 + 2 * c .before .before .before .before .before .before .before .before .before .before .before .before .before .before .before .before .before .before .before .before .before .before .wide5 .result in
-    let er : r ≡ placeR ws = omega (arith, ez, c .before .before .before .before .before .before .before .before .before .before .before .before .before .before .before .before .before .before .before .before .before .before .before .before .wide4 .ensures .0) in
+    let b : ℕ = 6 + 3 * at-wide .wide .result in
+    let d : ℕ = b + 3 * at-wide2 .wide2 .result in
+    let z : ℕ = d + 3 * at-wide3 .wide3 .result in
+    let eb : b ≡ placeB ws = omega (arith, at-wide .wide .ensures .0) in
+    let ed : d ≡ placeC ws = omega (arith, eb, at-wide2 .wide2 .ensures .0) in
+    let ez : z ≡ placeZ ws = omega (arith, ed, at-wide3 .wide3 .ensures .0) in
+    let r : ℕ = z + at-wide4 .wide4 .result in
+    let at : ℕ = r + 1 + 2 * at-wide5 .wide5 .result in
+    let er : r ≡ placeR ws = omega (arith, ez, at-wide4 .wide4 .ensures .0) in
     let em : r + 1 ≡ placeM ws = omega (arith, er) in
-    let eat : at ≡ placeα ws = omega (arith, em, c .before .before .before .before .before .before .before .before .before .before .before .before .before .before .before .before .before .before .before .before .before .before .wide5 .ensures .0) in
+    let eat : at ≡ placeα ws = omega (arith, em, at-wide5 .wide5 .ensures .0) in
     written-as (ap jobGivenText (job-in-parts ws b d z r (r + 1) at eb ed ez er em eat)) (c .before .before .put-job .ensures)
 
 pub put-whole-spec : {M : Type 1} → statement M
