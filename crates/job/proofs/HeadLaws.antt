@@ -121,7 +121,8 @@ same-tests l k e h =
     ap₂ _&&_ (eq-eqb (length l % 3) 0 (omega arith)) (le-leb (length l) (3 * maxSize) (omega arith))
     ∙ sym (le-leb (length (entriesOf l)) maxSize (omega (arith, length-entriesOf l)))
 
-pub lists-agree : (r c x : ℕ) (ea eb ec : List ℕ) (i j k : ℕ) → length ea ≡ 3 * i → i ≤ 1024 → length eb ≡ 3 * j → j ≤ 1024 → length ec ≡ 3 * k
+pub lists-agree : (r c x : ℕ) (ea eb ec : List ℕ) (i j k : ℕ)
+    → length ea ≡ 3 * i → i ≤ 1024 → length eb ≡ 3 * j → j ≤ 1024 → length ec ≡ 3 * k
     → k ≤ 1024 → entryListTests (given r c x ea eb ec) ≡ countTests (circuitOf (given r c x ea eb ec))
 unfolding entryListTests countTests circuitOf
 lists-agree r c x ea eb ec i j k ei hi ej hj ek hk = λ t. same-tests ea i ei hi t ∷ same-tests eb j ej hj t ∷ same-tests ec k ek hk t ∷ []
@@ -131,7 +132,8 @@ module _ (ws : List ℕ) where
   abbrev w : ℕ → ℕ
   w k = getD ws k 0
 
-  pub job-in-parts : (b c z r m at : ℕ) → b ≡ placeB ws → c ≡ placeC ws → z ≡ placeZ ws → r ≡ placeR ws → m ≡ placeM ws → at ≡ placeα ws
+  pub job-in-parts : (b c z r m at : ℕ)
+      → b ≡ placeB ws → c ≡ placeC ws → z ≡ placeZ ws → r ≡ placeR ws → m ≡ placeM ws → at ≡ placeα ws
       → jobGiven
       (proverInput (w 0) (w 1) (w 2) (take (b - 6) (drop 6 ws)) (take (c - b) (drop b ws)) (take (z - c) (drop c ws)) (take (r - z) (drop z ws)) (w r)
       (take (at - m) (drop m ws)))

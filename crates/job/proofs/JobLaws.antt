@@ -92,7 +92,8 @@ in-line : (a b d e f g h k l m n t : List ℕ)
 in-line a b d e f g h k l m n t = simp (append-assoc, append-nil)
 
 -- the seven steps, by what is said in each
-abbrev steps : Sizes → List ℕ → ℕ → ℕ → ℕ → ℕ → Three ℕ → Three ℕ → ℕ → ℕ → ℕ → Three ℕ → Three ℕ → Three ℕ → ℕ → ℕ → Openings ℕ → Answer
+abbrev steps : Sizes → List ℕ → ℕ → ℕ → ℕ → ℕ → Three ℕ → Three ℕ
+    → ℕ → ℕ → ℕ → Three ℕ → Three ℕ → Three ℕ → ℕ → ℕ → Openings ℕ → Answer
 steps s x w m h α σ η g1 h1 β ω g δ h2 γ o =
     let q : Prime = babyBear in
     let summed : Session = etaStep q (alphaStep q (openStep q unopened s x .session) w m h α .session) σ η .session in
@@ -115,7 +116,8 @@ module _ (i : ProverInput) (α : ℕ) (η : Three ℕ) (β : ℕ) (δ : Three �
   unfolding jobRefusal roundRefusal jobWords assignmentTests
   job-refusal e =
       ap
-      (λ tests. proverRefusal babyBear c (tests ++ assignmentTests c (i .z) (i .m)) (i .z ++ (i .r ∷ (i .m ++ challenges))) (i .z) (i .m) (α ∷ β ∷ γ ∷ []))
+      (λ tests.
+      proverRefusal babyBear c (tests ++ assignmentTests c (i .z) (i .m)) (i .z ++ (i .r ∷ (i .m ++ challenges))) (i .z) (i .m) (α ∷ β ∷ γ ∷ []))
       (sym e)
 
   module _ (free : jobRefusal babyBear j ≡ none) where

@@ -18,7 +18,8 @@ use Rattle.job.proofs.RoundLaws.{lent-free}
 
 module _ (i : ProverInput) where
   -- round 1: w, h0
-  pub first-done : {n k : ℕ} (before : List ℕ × List ℕ) {after : List ℕ × List ℕ} {f : Filled} → Free i [] [] → n ≡ due i .witness → k ≡ due i .rowQuotient
+  pub first-done : {n k : ℕ} (before : List ℕ × List ℕ) {after : List ℕ × List ℕ} {f : Filled}
+      → Free i [] [] → n ≡ due i .witness → k ≡ due i .rowQuotient
       → filling f after ≡ fills (firstRoundCall babyBear i n k) before
       → after ≡ (words (witnessIn babyBear i), words (rowQuotient (circuitIn babyBear i) (assignmentIn babyBear i)))
   unfolding firstRoundCall
@@ -29,16 +30,19 @@ module _ (i : ProverInput) where
       ∙ ap (λ (o : Option Refusal). fills (judged o result) before) (lent-free i (due i .witness ∷ due i .rowQuotient ∷ []) free))
 
   -- round 2: the σ
-  pub second-done : (α : ℕ) {f : ThreeWords} → Free i (α ∷ []) (α ∷ []) → f ≡ threeAnswer (secondRoundCall babyBear i α) → threeOrZeros f ≡ sumWords i α
+  pub second-done : (α : ℕ) {f : ThreeWords} → Free i (α ∷ []) (α ∷ [])
+      → f ≡ threeAnswer (secondRoundCall babyBear i α) → threeOrZeros f ≡ sumWords i α
   unfolding secondRoundCall sumWords
   second-done α {f} free e =
       ap threeOrZeros (e ∙ ap (λ (o : Option Refusal). threeAnswer (judged o (sumWords i α))) (lent-free i [] free))
 
   -- round 3: g1, h1
-  pub third-done : {n k : ℕ} (α : ℕ) (η : Three ℕ) (before : List ℕ × List ℕ) {after : List ℕ × List ℕ} {f : Filled} → Free i (α ∷ listed η) (α ∷ [])
+  pub third-done : {n k : ℕ} (α : ℕ) (η : Three ℕ) (before : List ℕ × List ℕ) {after : List ℕ × List ℕ} {f : Filled}
+      → Free i (α ∷ listed η) (α ∷ [])
       → n ≡ due i .lineRemainder → k ≡ due i .lineQuotient
       → filling f after ≡ fills (thirdRoundCall babyBear i α η n k) before
-      → after ≡ (words (lineRemainder (circuitIn babyBear i) (lineIn babyBear i α η)), words (lineQuotient (circuitIn babyBear i) (lineIn babyBear i α η)))
+      → after
+      ≡ (words (lineRemainder (circuitIn babyBear i) (lineIn babyBear i α η)), words (lineQuotient (circuitIn babyBear i) (lineIn babyBear i α η)))
   unfolding thirdRoundCall
   third-done {n} {k} α η before {after} {f} free at-n at-k e =
       let result : List ℕ × List ℕ =

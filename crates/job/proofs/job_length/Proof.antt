@@ -70,7 +70,18 @@ add-result-7 c = search needs
 
 returns : tie.Need-returns
 unfolding jobLength
-returns c = omega (arith, c .wide5 .ensures .0, c .before .before .wide4 .ensures .0, c .before .before .before .before .wide3 .ensures .0, c .before .before .before .before .before .before .wide2 .ensures .0, c .before .before .before .before .before .before .before .before .wide .ensures .0)
+returns c =
+    let at-wide3 = c .before .before .before .before in
+    let at-wide2 = at-wide3 .before .before in
+    let at-wide = at-wide2 .before .before in
+    omega (
+      arith,
+      c .wide5 .ensures .0,
+      c .before .before .wide4 .ensures .0,
+      at-wide3 .wide3 .ensures .0,
+      at-wide2 .wide2 .ensures .0,
+      at-wide .wide .ensures .0,
+    )
 
 pub job-length-spec : {M : Type 1} → statement M
 job-length-spec =

@@ -44,7 +44,8 @@ returns c =
     let ws = c .before .before .before .before .before .before .before .before .before .before .before .args .words .now in
     let d = c .before .before .before .before .before .before .check-sizes in
     goes-on (d .result) (d .ensures) (listRefusal (leb (getD ws 3 0) maxSize ∷ leb (getD ws 4 0) maxSize ∷ leb (getD ws 5 0) maxSize ∷ []) ∷ [])
-    (sym (c .before .before .before .before .before .is-fine .ensures) ∙ c .before .before .before .before .if1 .taken) (last-answer (c .check-counts .ensures))
+    (sym (c .before .before .before .before .before .is-fine .ensures) ∙ c .before .before .before .before .if1 .taken)
+    (last-answer (c .check-counts .ensures))
 
 returns-2 : tie.Need-returns-2
 unfolding headRefusal

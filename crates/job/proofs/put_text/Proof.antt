@@ -42,18 +42,22 @@ words-into-requires c κs = sym (part-length _ _ (few-words (length (c .before .
 
 array-share-prefix-words : tie.Need-array-share-prefix-words
 array-share-prefix-words c =
+    let start = c .before .before .before .before .before .before .before in
     let call = c .before .words-into in
-    filled-within _ _ (few-words (length (c .before .before .before .before .before .before .before .args .bytes .now)) (search needs)) (call .last .1 .0) (call .kept .1 .0)
+    filled-within _ _ (few-words (length (start .args .bytes .now)) (search needs)) (call .last .1 .0) (call .kept .1 .0)
 
 slice-aggregate-put-words-text : tie.Need-slice-aggregate-put-words-text
 slice-aggregate-put-words-text c =
+    let start = c .before .before .before .before .before .before .before .before in
     let call = c .before .before .words-into in
-    filled-length _ _ (few-words (length (c .before .before .before .before .before .before .before .before .args .bytes .now)) (search needs)) (call .last .1 .0) (call .kept .1 .0)
+    filled-length _ _ (few-words (length (start .args .bytes .now)) (search needs)) (call .last .1 .0) (call .kept .1 .0)
 
 put-words-text-requires : tie.Need-put-words-text-requires
 put-words-text-requires c κs =
-    let call = c .before .before .before .words-into in
-    (sym (filled-length _ _ (few-words (length (c .before .before .before .before .before .before .before .before .before .args .bytes .now)) (search needs)) (call .last .1 .0) (call .kept .1 .0)), (search needs, search needs))
+    let at-words-into = c .before .before .before in
+    let start = at-words-into .before .before .before .before .before .before in
+    let call = at-words-into .words-into in
+    (sym (filled-length _ _ (few-words (length (start .args .bytes .now)) (search needs)) (call .last .1 .0) (call .kept .1 .0)), (search needs, search needs))
 
 same-length-3 : tie.Need-same-length-3
 same-length-3 c = search needs

@@ -39,8 +39,14 @@ same-length c = search needs
 
 returns : tie.Need-returns
 returns c =
-    let a = c .before .before .before .before .before .before .before .before .before .before .before .args in
-    written-as (text-left-over (a .count) (a .words .now) (matched (c .before .before .before .before .before .before .enum-told .given .1) (c .before .before .before .before .before .before .before .before .judge-head .ensures)) (omega (arith, c .before .before .before .before .before .job-length .ensures, c .before .before .before .before .if1 .taken)))
+    let at-if1 = c .before .before .before .before in
+    let at-job-length = at-if1 .before in
+    let at-enum-told = at-job-length .before in
+    let at-judge-head = at-enum-told .before .before in
+    let start = at-judge-head .before .before .before in
+    let a = start .args in
+    written-as (text-left-over (a .count) (a .words .now) (matched (at-enum-told .enum-told .given .1) (at-judge-head .judge-head .ensures))
+    (omega (arith, at-job-length .job-length .ensures, at-if1 .if1 .taken)))
     (c .before .before .put-too-long .ensures)
 
 put-too-short-requires : tie.Need-put-too-short-requires
@@ -51,23 +57,36 @@ same-length-2 c = search needs
 
 returns-2 : tie.Need-returns-2
 returns-2 c =
-    let a = c .before .before .before .before .before .before .before .before .before .before .before .before .args in
-    written-as (text-unfinished (a .count) (a .words .now) (matched (c .before .before .before .before .before .before .before .enum-told .given .1) (c .before .before .before .before .before .before .before .before .before .judge-head .ensures)) (omega (arith, c .before .before .before .before .before .before .job-length .ensures, c .before .before .before .before .if2 .taken)))
+    let at-if2 = c .before .before .before .before in
+    let at-job-length = at-if2 .before .before in
+    let at-enum-told = at-job-length .before in
+    let at-judge-head = at-enum-told .before .before in
+    let start = at-judge-head .before .before .before in
+    let a = start .args in
+    written-as (text-unfinished (a .count) (a .words .now) (matched (at-enum-told .enum-told .given .1) (at-judge-head .judge-head .ensures))
+    (omega (arith, at-job-length .job-length .ensures, at-if2 .if2 .taken)))
     (c .before .before .put-too-short .ensures)
 
 put-whole-requires : tie.Need-put-whole-requires
 put-whole-requires c κs =
-    let s = c .before .before .before .before .before .before .before .before .before in
-    let same : s .args .count ≡ 4 * jobLength (s .args .words .now) = omega (arith, c .before .before .before .job-length .ensures, c .before .if2 .left, c .before .before .if1 .left) in
-    (matched (c .before .before .before .before .enum-told .given .1) (c .before .before .before .before .before .before .judge-head .ensures), (omega (arith, s .pre .0, same), search needs))
+    let at-job-length = c .before .before .before in
+    let at-enum-told = at-job-length .before in
+    let at-judge-head = at-enum-told .before .before in
+    let s = at-judge-head .before .before .before in
+    let same : s .args .count ≡ 4 * jobLength (s .args .words .now) =
+    omega (arith, at-job-length .job-length .ensures, c .before .if2 .left, c .before .before .if1 .left) in
+    (matched (at-enum-told .enum-told .given .1) (at-judge-head .judge-head .ensures), (omega (arith, s .pre .0, same), search needs))
 
 same-length-3 : tie.Need-same-length-3
 same-length-3 c = search needs
 
 returns-3 : tie.Need-returns-3
 returns-3 c =
-    let a = c .before .before .before .before .before .before .before .before .before .before .args in
-    written-as (head-refused (a .count) (a .words .now) (sym (c .before .before .before .before .before .before .before .judge-head .ensures) ∙ ap faultRefusal (c .before .before .before .before .before .head .given .1)))
+    let at-head = c .before .before .before .before .before in
+    let at-judge-head = at-head .before .before in
+    let start = at-judge-head .before .before .before in
+    let a = start .args in
+    written-as (head-refused (a .count) (a .words .now) (sym (at-judge-head .judge-head .ensures) ∙ ap faultRefusal (at-head .head .given .1)))
     (c .before .before .put-refused .ensures .written)
 
 same-length-4 : tie.Need-same-length-4
@@ -75,9 +94,16 @@ same-length-4 c = search needs
 
 returns-4 : tie.Need-returns-4
 returns-4 c =
-    let a = c .before .before .before .before .before .before .before .before .before .before .before .before .args in
+    let at-if2 = c .before .before .before .before in
+    let at-if1 = at-if2 .before in
+    let at-job-length = at-if1 .before in
+    let at-enum-told = at-job-length .before in
+    let at-judge-head = at-enum-told .before .before in
+    let start = at-judge-head .before .before .before in
+    let a = start .args in
     written-as
-    (text-whole (a .count) (a .words .now) (matched (c .before .before .before .before .before .before .before .enum-told .given .1) (c .before .before .before .before .before .before .before .before .before .judge-head .ensures)) (omega (arith, c .before .before .before .before .before .before .job-length .ensures, c .before .before .before .before .if2 .left, c .before .before .before .before .before .if1 .left)))
+    (text-whole (a .count) (a .words .now) (matched (at-enum-told .enum-told .given .1) (at-judge-head .judge-head .ensures))
+    (omega (arith, at-job-length .job-length .ensures, at-if2 .if2 .left, at-if1 .if1 .left)))
     (c .before .before .put-whole .ensures)
 
 pub put-words-text-spec : {M : Type 1} → statement M

@@ -37,13 +37,19 @@ eta-requires c κs = search needs
 returns : tie.Need-returns
 unfolding afterSums lengths
 returns c =
-    let a = c .before .before .before .before .before .before .before .before .before .before .before .args in
+    let at-alpha = c .before .before .before in
+    let at-open = at-alpha .before .before .before in
+    let at-new = at-open .before in
+    let at-less2 = at-new .before in
+    let at-less = at-less2 .before in
+    let start = at-less .before .before in
+    let a = start .args in
     let next : Stepped → Session = λ s. s .session in
-    let opened = ap next (c .before .before .before .before .before .before .«open» .ensures ∙ ap (λ s. openStep babyBear s (sizes (a .s)) (a .x .now)) (c .before .before .before .before .before .before .before .new .ensures)) in
+    let opened = ap next (at-open .«open» .ensures ∙ ap (λ s. openStep babyBear s (sizes (a .s)) (a .x .now)) (at-new .new .ensures)) in
     let first =
     ap next
-    (c .before .before .before .alpha .ensures
-    ∙ (λ t. alphaStep babyBear (opened t) (c .before .before .before .before .before .before .before .before .before .less .ensures t + 1) (2 * a .s .c) (c .before .before .before .before .before .before .before .before .less2 .ensures t) (a .alpha))) in
+    (at-alpha .alpha .ensures
+    ∙ (λ t. alphaStep babyBear (opened t) (at-less .less .ensures t + 1) (2 * a .s .c) (at-less2 .less2 .ensures t) (a .alpha))) in
     ap next (c .before .eta .ensures ∙ ap (λ s. etaStep babyBear s (three (a .sums)) (three (a .eta))) first)
 
 pub after-sums-spec : {M : Type 1} → statement M

@@ -32,10 +32,16 @@ delta-requires c κs = search needs
 returns : tie.Need-returns
 unfolding afterValues lengths
 returns c =
-    let a = c .before .before .before .before .before .before .before .before .before .args in
+    let at-beta = c .before .before .before in
+    let at-less4 = at-beta .before in
+    let at-less3 = at-less4 .before in
+    let at-less2 = at-less3 .before in
+    let at-less = at-less2 .before in
+    let start = at-less .before .before in
+    let a = start .args in
     let next : Stepped → Session = λ s. s .session in
-    let third = ap next (c .before .before .before .beta .ensures ∙ (λ t. betaStep babyBear (sessionMeaning (a .before)) (c .before .before .before .before .less4 .ensures t) (a .s .c) (a .beta))) in
-    let lens = three-same (lengths (sizes (a .s)) .matrixRemainders) (c .before .before .before .before .before .before .before .less .ensures) (c .before .before .before .before .before .before .less2 .ensures) (c .before .before .before .before .before .less3 .ensures) in
+    let third = ap next (at-beta .beta .ensures ∙ (λ t. betaStep babyBear (sessionMeaning (a .before)) (at-less4 .less4 .ensures t) (a .s .c) (a .beta))) in
+    let lens = three-same (lengths (sizes (a .s)) .matrixRemainders) (at-less .less .ensures) (at-less2 .less2 .ensures) (at-less3 .less3 .ensures) in
     ap next (c .before .delta .ensures ∙ (λ t. deltaStep babyBear (third t) (three (a .values)) (lens t) (three (a .delta))))
 
 pub after-values-spec : {M : Type 1} → statement M

@@ -27,10 +27,14 @@ openings-requires c κs = search needs
 returns : tie.Need-returns
 unfolding answerAfter lengths
 returns c =
-    let a = c .before .before .before .before .before .args in
-    let most : c .before .before .before .less .result ≡ largest (three (a .s .k)) - 1 =
-    c .before .before .before .less .ensures ∙ ap (λ (n : ℕ). n - 1) (c .before .before .before .before .largest .ensures) in
-    let last = ap (λ (s : Stepped). s .session) (c .before .before .gamma .ensures ∙ ap (λ n. gammaStep babyBear (sessionMeaning (a .before)) n (a .gamma)) most) in
+    let at-less = c .before .before .before in
+    let at-largest = at-less .before in
+    let start = at-largest .before in
+    let a = start .args in
+    let most : at-less .less .result ≡ largest (three (a .s .k)) - 1 =
+    at-less .less .ensures ∙ ap (λ (n : ℕ). n - 1) (at-largest .largest .ensures) in
+    let last = ap (λ (s : Stepped). s .session)
+    (c .before .before .gamma .ensures ∙ ap (λ n. gammaStep babyBear (sessionMeaning (a .before)) n (a .gamma)) most) in
     ap (λ (s : Stepped). s .answer) (c .openings .ensures ∙ ap (λ s. openingsStep babyBear s (openings (a .o) (a .index))) last)
 
 pub answer-after-spec : {M : Type 1} → statement M

@@ -23,14 +23,18 @@ same-length : tie.Need-same-length
 same-length c = search needs
 
 returns : tie.Need-returns
-returns c = printed-as (sym (ap (λ a. answerText (lastMeaning a)) (c .before .before .before .before .before .answer .given .1))) (c .before .before .put-verdict .ensures)
+returns c =
+    let at-answer = c .before .before .before .before .before in
+    printed-as (sym (ap (λ a. answerText (lastMeaning a)) (at-answer .answer .given .1))) (c .before .before .put-verdict .ensures)
 
 same-length-2 : tie.Need-same-length-2
 same-length-2 c = search needs
 
 returns-2 : tie.Need-returns-2
 unfolding answerText
-returns-2 c = printed-as (sym (ap (λ a. answerText (lastMeaning a)) (c .before .before .before .before .before .answer2 .given .1))) (c .before .before .put-refused .ensures)
+returns-2 c =
+    let at-answer2 = c .before .before .before .before .before in
+    printed-as (sym (ap (λ a. answerText (lastMeaning a)) (at-answer2 .answer2 .given .1))) (c .before .before .put-refused .ensures)
 
 pub put-answer-spec : {M : Type 1} → statement M
 put-answer-spec =

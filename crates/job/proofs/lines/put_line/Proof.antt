@@ -19,9 +19,12 @@ same-length c = search needs
 
 returns : tie.Need-returns
 returns c =
-    let a = c .before .before .before .before .before .before .before .before .before .before .before .before .before .before .before .args in
-    line-printed (a .name .now) (a .words .now) (c .before .before .before .before .before .before .put-numbers .ensures .short)
-    (written-then (c .before .before .before .before .before .before .before .before .before .before .put-bytes .ensures) (written-then (c .before .before .before .before .before .before .put-numbers .ensures .written) (c .before .before .put-byte .ensures)))
+    let at-put-numbers = c .before .before .before .before .before .before in
+    let at-put-bytes = at-put-numbers .before .before .before .before in
+    let start = at-put-bytes .before .before .before .before .before in
+    let a = start .args in
+    line-printed (a .name .now) (a .words .now) (at-put-numbers .put-numbers .ensures .short)
+    (written-then (at-put-bytes .put-bytes .ensures) (written-then (at-put-numbers .put-numbers .ensures .written) (c .before .before .put-byte .ensures)))
 
 pub put-line-spec : {M : Type 1} → statement M
 put-line-spec =

@@ -71,11 +71,15 @@ same-length c = search needs
 returns : tie.Need-returns
 unfolding refusedText line
 returns c =
-    let b = c .before .before .before .before .before .before .before .before .before .before .before .before .before .before .before .put-bytes .ensures in
-    let n = c .before .before .before .before .before .before .before .before .before .before .put-number .ensures in
-    let m = c .before .before .before .before .before .before .put-number2 .ensures in
-    let w = c .before .before .before .before .before .before .before .before .before .before .before .before .wide in
-    let s = c .before .before .before .before .before .before .before .before .before .before .before .before .before .before .before .before .before .before .before in
+    let at-put-number2 = c .before .before .before .before .before .before in
+    let at-put-number = at-put-number2 .before .before .before .before in
+    let at-wide = at-put-number .before .before in
+    let at-put-bytes = at-wide .before .before .before in
+    let s = at-put-bytes .before .before .before .before in
+    let b = at-put-bytes .put-bytes .ensures in
+    let n = at-put-number .put-number .ensures in
+    let m = at-put-number2 .put-number2 .ensures in
+    let w = at-wide .wide in
     let numbered = written-as (ap number (w .ensures .0)) n in
     let whole = written-then b (written-then numbered (written-then m (c .before .before .put-byte .ensures))) in
     let first : length (decimal (s .args .number)) ≤ 10 = word-digits (s .args .number) (search needs) in

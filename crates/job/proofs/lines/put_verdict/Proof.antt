@@ -64,7 +64,12 @@ same-length-2 c = search needs
 returns-2 : tie.Need-returns-2
 unfolding answerText
 returns-2 c =
-    printed-as (sym (ap (λ v. answerText (Judged (verdictMeaning v))) (c .before .before .before .before .before .before .before .before .verdict .given .1) ∙ ap (λ k. answerText (Judged (Fails (checkOf k)))) (c .before .before .before .before .before .enum-told2 .given .1)))
+    let at-enum-told2 = c .before .before .before .before .before in
+    let at-verdict = at-enum-told2 .before .before .before in
+    printed-as
+    (sym
+    (ap (λ v. answerText (Judged (verdictMeaning v))) (at-verdict .verdict .given .1)
+    ∙ ap (λ k. answerText (Judged (Fails (checkOf k)))) (at-enum-told2 .enum-told2 .given .1)))
     (record { written = c .before .before .put-bytes2 .ensures; short = omega arith })
 
 same-length-3 : tie.Need-same-length-3
@@ -73,7 +78,12 @@ same-length-3 c = search needs
 returns-3 : tie.Need-returns-3
 unfolding answerText
 returns-3 c =
-    printed-as (sym (ap (λ v. answerText (Judged (verdictMeaning v))) (c .before .before .before .before .before .before .before .before .verdict .given .1) ∙ ap (λ k. answerText (Judged (Fails (checkOf k)))) (c .before .before .before .before .before .enum-told3 .given .1)))
+    let at-enum-told3 = c .before .before .before .before .before in
+    let at-verdict = at-enum-told3 .before .before .before in
+    printed-as
+    (sym
+    (ap (λ v. answerText (Judged (verdictMeaning v))) (at-verdict .verdict .given .1)
+    ∙ ap (λ k. answerText (Judged (Fails (checkOf k)))) (at-enum-told3 .enum-told3 .given .1)))
     (record { written = c .before .before .put-bytes3 .ensures; short = omega arith })
 
 same-length-4 : tie.Need-same-length-4
@@ -82,7 +92,12 @@ same-length-4 c = search needs
 returns-4 : tie.Need-returns-4
 unfolding answerText
 returns-4 c =
-    printed-as (sym (ap (λ v. answerText (Judged (verdictMeaning v))) (c .before .before .before .before .before .before .before .before .verdict .given .1) ∙ ap (λ k. answerText (Judged (Fails (checkOf k)))) (c .before .before .before .before .before .enum-told4 .given .1)))
+    let at-enum-told4 = c .before .before .before .before .before in
+    let at-verdict = at-enum-told4 .before .before .before in
+    printed-as
+    (sym
+    (ap (λ v. answerText (Judged (verdictMeaning v))) (at-verdict .verdict .given .1)
+    ∙ ap (λ k. answerText (Judged (Fails (checkOf k)))) (at-enum-told4 .enum-told4 .given .1)))
     (record { written = c .before .before .put-bytes4 .ensures; short = omega arith })
 
 pub put-verdict-spec : {M : Type 1} → statement M

@@ -26,12 +26,13 @@ same-length-3 c = search needs
 
 returns : tie.Need-returns
 returns c =
-    let s = c .before .before .before .before .before .before .before .before .before .before .before .before .before .before .before .before .before .before .before in
+    let at-fourth-round = c .before .before .before .before .before .before .before in
+    let s = at-fourth-round .before .before .before .before .before .before .before .before .before .before .before .before in
     let a = s .args in
     let i : ProverInput = proverInput (a .r) (a .c) (a .x) (a .ea .now) (a .eb .now) (a .ec .now) (a .z .now) (a .mask) (a .m .now) in
     let done =
     fourth-done i (a .alpha) (three (a .eta)) (a .beta) (threeOf (a .ga .now) (a .gb .now) (a .gc .now)) (s .pre .0) (s .pre .1)
-    (c .before .before .before .before .before .before .before .fourth-round .ensures) in
+    (at-fourth-round .fourth-round .ensures) in
     (c .words-or-zeros .ensures ∙ done .0, done .1)
 
 pub values-into-spec : {M : Type 1} → statement M

@@ -21,9 +21,11 @@ slice-aggregate-put-line c = search needs
 
 put-line-requires : tie.Need-put-line-requires
 put-line-requires c κs =
-    let s = c .before .before .before .before .before .before .before .before .before .before .before .before .before .before in
+    let at-fifth-round = c .before .before .before .before .before in
+    let s = at-fifth-round .before .before .before .before .before .before .before .before .before in
     let a = s .args in
-    let i : ProverInput = proverInput (a .r) (a .c) (a .x) (a .ea .now) (a .eb .now) (a .ec .now) (a .z .now) (a .mask) (a .m .now) in omega (arith, s .pre .1 .1, s .pre .1 .0, c .before .before .before .before .before .fifth-round .kept .1 .1 .1 .1 .1 .1 .1 .1 .1 .1 .1 .1 .1 .0, due-joined i (s .pre .0))
+    let i : ProverInput = proverInput (a .r) (a .c) (a .x) (a .ea .now) (a .eb .now) (a .ec .now) (a .z .now) (a .mask) (a .m .now) in
+    omega (arith, s .pre .1 .1, s .pre .1 .0, at-fifth-round .fifth-round .kept .1 .1 .1 .1 .1 .1 .1 .1 .1 .1 .1 .1 .1 .0, due-joined i (s .pre .0))
 
 same-length : tie.Need-same-length
 same-length c = search needs

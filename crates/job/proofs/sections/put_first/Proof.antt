@@ -20,7 +20,8 @@ add-n : tie.Need-add-n
 add-n c =
     let s = c .before .before .before .before .before .before .before in
     let a = s .args in
-    let i : ProverInput = proverInput (a .r) (a .c) (a .x) (a .ea .now) (a .eb .now) (a .ec .now) (a .z .now) (a .mask) (a .m .now) in omega (arith, c .less .ensures, columns-most i (s .pre .0))
+    let i : ProverInput = proverInput (a .r) (a .c) (a .x) (a .ea .now) (a .eb .now) (a .ec .now) (a .z .now) (a .mask) (a .m .now) in
+    omega (arith, c .less .ensures, columns-most i (s .pre .0))
 
 less-requires-2 : tie.Need-less-requires-2
 less-requires-2 c κs = search needs
@@ -29,7 +30,8 @@ array-borrow-prefix-witness : tie.Need-array-borrow-prefix-witness
 array-borrow-prefix-witness c =
     let s = c .before .before .before .before .before .before .before .before in
     let a = s .args in
-    let i : ProverInput = proverInput (a .r) (a .c) (a .x) (a .ea .now) (a .eb .now) (a .ec .now) (a .z .now) (a .mask) (a .m .now) in omega (arith, c .before .less .ensures, witness-most i (s .pre .0))
+    let i : ProverInput = proverInput (a .r) (a .c) (a .x) (a .ea .now) (a .eb .now) (a .ec .now) (a .z .now) (a .mask) (a .m .now) in
+    omega (arith, c .before .less .ensures, witness-most i (s .pre .0))
 
 slice-aggregate-put-first-round : tie.Need-slice-aggregate-put-first-round
 slice-aggregate-put-first-round c =
@@ -43,7 +45,8 @@ array-borrow-prefix-quotient : tie.Need-array-borrow-prefix-quotient
 array-borrow-prefix-quotient c =
     let s = c .before .before .before .before .before .before .before .before .before in
     let a = s .args in
-    let i : ProverInput = proverInput (a .r) (a .c) (a .x) (a .ea .now) (a .eb .now) (a .ec .now) (a .z .now) (a .mask) (a .m .now) in omega (arith, c .before .less2 .ensures, rows-most i (s .pre .0))
+    let i : ProverInput = proverInput (a .r) (a .c) (a .x) (a .ea .now) (a .eb .now) (a .ec .now) (a .z .now) (a .mask) (a .m .now) in
+    omega (arith, c .before .less2 .ensures, rows-most i (s .pre .0))
 
 slice-aggregate-put-first-round-2 : tie.Need-slice-aggregate-put-first-round-2
 slice-aggregate-put-first-round-2 c =

@@ -37,16 +37,18 @@ slice-aggregate-put-line-2 c = search needs
 
 put-line-requires-2 : tie.Need-put-line-requires-2
 put-line-requires-2 c κs =
-    let s = c .before .before .before .before .before .before .before .before .before .before .before .before .before .before .before .before .before .before .before .before .before .before .before in
+    let at-put-line = c .before .before .before .before in
+    let at-first-round = at-put-line .before .before .before .before .before .before .before .before in
+    let s = at-first-round .before .before .before .before .before .before .before .before .before .before .before in
     let a = s .args in
     let i : ProverInput = proverInput (a .r) (a .c) (a .x) (a .ea .now) (a .eb .now) (a .ec .now) (a .z .now) (a .mask) (a .m .now) in
-    let w = c .before .before .before .before .put-line .ensures in
+    let w = at-put-line .put-line .ensures in
     omega (
       arith,
       s .pre .1 .1 .1,
       s .pre .1 .0,
       s .pre .1 .1 .0,
-      c .before .before .before .before .before .before .before .before .before .before .before .before .first-round .kept .1 .1 .1 .1 .1 .1 .1 .1 .1 .0,
+      at-first-round .first-round .kept .1 .1 .1 .1 .1 .1 .1 .1 .1 .0,
       printed-place w,
       printed-length w,
       mask-most i (s .pre .0),
@@ -58,18 +60,21 @@ slice-aggregate-put-line-3 c = search needs
 
 put-line-requires-3 : tie.Need-put-line-requires-3
 put-line-requires-3 c κs =
-    let s = c .before .before .before .before .before .before .before .before .before .before .before .before .before .before .before .before .before .before .before .before .before .before .before .before .before .before .before .before .before in
+    let at-put-line2 = c .before .before .before .before .before in
+    let at-put-line = at-put-line2 .before .before .before .before .before in
+    let at-first-round = at-put-line .before .before .before .before .before .before .before .before in
+    let s = at-first-round .before .before .before .before .before .before .before .before .before .before .before in
     let a = s .args in
     let i : ProverInput = proverInput (a .r) (a .c) (a .x) (a .ea .now) (a .eb .now) (a .ec .now) (a .z .now) (a .mask) (a .m .now) in
-    let w = c .before .before .before .before .before .before .before .before .before .before .put-line .ensures in
-    let m = c .before .before .before .before .before .put-line2 .ensures in
+    let w = at-put-line .put-line .ensures in
+    let m = at-put-line2 .put-line2 .ensures in
     omega (
       arith,
       s .pre .1 .1 .1,
       s .pre .1 .0,
       s .pre .1 .1 .0,
-      c .before .before .before .before .before .before .before .before .before .before .before .before .before .before .before .before .before .before .first-round .kept .1 .1 .1 .1 .1 .1 .1 .1 .1 .0,
-      c .before .before .before .before .before .before .before .before .before .before .before .before .before .before .before .before .before .before .first-round .kept .1 .1 .1 .1 .1 .1 .1 .1 .1 .1 .0,
+      at-first-round .first-round .kept .1 .1 .1 .1 .1 .1 .1 .1 .1 .0,
+      at-first-round .first-round .kept .1 .1 .1 .1 .1 .1 .1 .1 .1 .1 .0,
       printed-place w,
       printed-length w,
       printed-place m,
@@ -91,12 +96,15 @@ same-length-3 c = search needs
 returns : tie.Need-returns
 unfolding firstText
 returns c =
-    let s = c .before .before .before .before .before .before .before .before .before .before .before .before .before .before .before .before .before .before .before .before .before .before .before .before .before .before .before .before .before .before .before .before in
+    let at-put-line2 = c .before .before .before .before .before .before .before .before in
+    let at-put-line = at-put-line2 .before .before .before .before .before in
+    let at-first-round = at-put-line .before .before .before .before .before .before .before .before in
+    let s = at-first-round .before .before .before .before .before .before .before .before .before .before .before in
     let a = s .args in
     let i : ProverInput = proverInput (a .r) (a .c) (a .x) (a .ea .now) (a .eb .now) (a .ec .now) (a .z .now) (a .mask) (a .m .now) in
-    let call = c .before .before .before .before .before .before .before .before .before .before .before .before .before .before .before .before .before .before .before .before .before .first-round in
+    let call = at-first-round .first-round in
     let done = first-done i (a .witness .now, a .quotient .now) (s .pre .0) (s .pre .1 .0) (s .pre .1 .1 .0) (call .ensures) in
-    let whole = printed-then (c .before .before .before .before .before .before .before .before .before .before .before .before .before .put-line .ensures) (printed-then (c .before .before .before .before .before .before .before .before .put-line2 .ensures) (c .before .before .put-line3 .ensures)) in
+    let whole = printed-then (at-put-line .put-line .ensures) (printed-then (at-put-line2 .put-line2 .ensures) (c .before .before .put-line3 .ensures)) in
     printed-within (printed-as (λ t. section 0 (done t .0) ++ (section 1 (a .m .now) ++ section 2 (done t .1))) whole)
     (omega (
       arith,

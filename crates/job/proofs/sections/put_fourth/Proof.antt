@@ -40,22 +40,45 @@ less-requires-3 : tie.Need-less-requires-3
 less-requires-3 c κs = search needs
 
 array-borrow-prefix-ga : tie.Need-array-borrow-prefix-ga
-array-borrow-prefix-ga c = within (c .before .before .before .before .before .before .before .before .before .before .before .before .args .ea .now) (c .before .before .before .before .before .size-of .ensures) (c .before .before .before .before .less .ensures)
+array-borrow-prefix-ga c =
+    let at-less = c .before .before .before .before in
+    let at-size-of = at-less .before in
+    let start = at-size-of .before .before .before .before .before .before .before in
+    within (start .args .ea .now) (at-size-of .size-of .ensures) (at-less .less .ensures)
 
 slice-aggregate-put-fourth-round : tie.Need-slice-aggregate-put-fourth-round
-slice-aggregate-put-fourth-round c = part-length _ _ (within (c .before .before .before .before .before .before .before .before .before .before .before .before .before .args .ea .now) (c .before .before .before .before .before .before .size-of .ensures) (c .before .before .before .before .before .less .ensures))
+slice-aggregate-put-fourth-round c =
+    let at-less = c .before .before .before .before .before in
+    let at-size-of = at-less .before in
+    let start = at-size-of .before .before .before .before .before .before .before in
+    part-length _ _ (within (start .args .ea .now) (at-size-of .size-of .ensures) (at-less .less .ensures))
 
 array-borrow-prefix-gb : tie.Need-array-borrow-prefix-gb
-array-borrow-prefix-gb c = within (c .before .before .before .before .before .before .before .before .before .before .before .before .before .args .eb .now) (c .before .before .before .before .size-of2 .ensures) (c .before .before .before .less2 .ensures)
+array-borrow-prefix-gb c =
+    let at-less2 = c .before .before .before in
+    let at-size-of2 = at-less2 .before in
+    let start = at-size-of2 .before .before .before .before .before .before .before .before .before in
+    within (start .args .eb .now) (at-size-of2 .size-of2 .ensures) (at-less2 .less2 .ensures)
 
 slice-aggregate-put-fourth-round-2 : tie.Need-slice-aggregate-put-fourth-round-2
-slice-aggregate-put-fourth-round-2 c = part-length _ _ (within (c .before .before .before .before .before .before .before .before .before .before .before .before .before .before .args .eb .now) (c .before .before .before .before .before .size-of2 .ensures) (c .before .before .before .before .less2 .ensures))
+slice-aggregate-put-fourth-round-2 c =
+    let at-less2 = c .before .before .before .before in
+    let at-size-of2 = at-less2 .before in
+    let start = at-size-of2 .before .before .before .before .before .before .before .before .before in
+    part-length _ _ (within (start .args .eb .now) (at-size-of2 .size-of2 .ensures) (at-less2 .less2 .ensures))
 
 array-borrow-prefix-gc : tie.Need-array-borrow-prefix-gc
-array-borrow-prefix-gc c = within (c .before .before .before .before .before .before .before .before .before .before .before .before .before .before .args .ec .now) (c .before .before .before .size-of3 .ensures) (c .before .before .less3 .ensures)
+array-borrow-prefix-gc c =
+    let at-size-of3 = c .before .before .before in
+    let start = at-size-of3 .before .before .before .before .before .before .before .before .before .before .before in
+    within (start .args .ec .now) (at-size-of3 .size-of3 .ensures) (c .before .before .less3 .ensures)
 
 slice-aggregate-put-fourth-round-3 : tie.Need-slice-aggregate-put-fourth-round-3
-slice-aggregate-put-fourth-round-3 c = part-length _ _ (within (c .before .before .before .before .before .before .before .before .before .before .before .before .before .before .before .args .ec .now) (c .before .before .before .before .size-of3 .ensures) (c .before .before .before .less3 .ensures))
+slice-aggregate-put-fourth-round-3 c =
+    let at-less3 = c .before .before .before in
+    let at-size-of3 = at-less3 .before in
+    let start = at-size-of3 .before .before .before .before .before .before .before .before .before .before .before in
+    part-length _ _ (within (start .args .ec .now) (at-size-of3 .size-of3 .ensures) (at-less3 .less3 .ensures))
 
 put-fourth-round-requires : tie.Need-put-fourth-round-requires
 unfolding lengths sizesOf circuitOf

@@ -24,11 +24,13 @@ put-three-requires c κs = search needs
 
 put-remainders-requires : tie.Need-put-remainders-requires
 put-remainders-requires c κs =
-    let s = c .before .before .before .before .before .before .before .before .before .before .before .before .before .before .before .before .before .before .before .before .before .before .before .before .before .before .before .before in
+    let at-put-three = c .before .before .before .before .before .before in
+    let at-values-into = at-put-three .before .before .before .before .before .before .before .before .before in
+    let s = at-values-into .before .before .before .before .before .before .before .before .before .before .before .before .before in
     let a = s .args in
     let i : ProverInput = proverInput (a .r) (a .c) (a .x) (a .ea .now) (a .eb .now) (a .ec .now) (a .z .now) (a .mask) (a .m .now) in
-    let kept = c .before .before .before .before .before .before .before .before .before .before .before .before .before .before .before .values-into .kept .1 .1 .1 .1 .1 .1 .1 .1 .1 .1 .1 .1 in
-    let o = c .before .before .before .before .before .before .put-three .ensures in
+    let kept = at-values-into .values-into .kept .1 .1 .1 .1 .1 .1 .1 .1 .1 .1 .1 .1 in
+    let o = at-put-three .put-three .ensures in
     let most = due-matrices i (s .pre .0) (threeOf (length (a .ga .now)) (length (a .gb .now)) (length (a .gc .now))) (s .pre .1 .0) in (
       (omega (arith, kept .0, most .0), omega (arith, kept .1 .0, most .1), omega (arith, kept .1 .1 .0, most .2)),
       omega (arith, s .pre .1 .1, printed-place o, printed-length o),
@@ -49,8 +51,10 @@ same-length-4 c = search needs
 returns : tie.Need-returns
 unfolding fourthText
 returns c =
-    let v = c .before .before .before .before .before .before .before .before .before .before .before .before .before .before .before .before .before .before .values-into in
-    let whole = printed-then (c .before .before .before .before .before .before .before .before .before .put-three .ensures) (c .before .before .put-remainders .ensures) in (
+    let at-put-three = c .before .before .before .before .before .before .before .before .before in
+    let at-values-into = at-put-three .before .before .before .before .before .before .before .before .before in
+    let v = at-values-into .values-into in
+    let whole = printed-then (at-put-three .put-three .ensures) (c .before .before .put-remainders .ensures) in (
       v .ensures .0,
       printed-within (printed-as (λ t. section 6 (listed (v .ensures .0 t)) ++ remaindersText (v .ensures .1 t)) whole) (omega arith),
     )

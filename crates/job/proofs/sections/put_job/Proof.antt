@@ -32,10 +32,13 @@ enum-known-opened-2 c = search needs
 put-proof-requires : tie.Need-put-proof-requires
 unfolding openingsCall
 put-proof-requires c κs =
-    let s = c .before .before .before .before .before .before .before .before .before .before .before in
+    let at-openings = c .before .before .before .before in
+    let s = at-openings .before .before .before .before .before .before .before in
     let a = s .args in
     let i : ProverInput = proverInput (a .r) (a .c) (a .x) (a .ea .now) (a .eb .now) (a .ec .now) (a .z .now) (a .mask) (a .m .now) in
-    let found = done-free (roundRefusal babyBear i [] [] (a .alpha ∷ (listed (three (a .eta)) ++ (a .beta ∷ (listed (three (a .delta)) ++ (a .gamma ∷ []))))) (a .alpha ∷ a .beta ∷ a .gamma ∷ [])) _ (sym (ap openingsMeaning (c .before .before .opened2 .given .1)) ∙ c .before .before .before .before .openings .ensures) in
+    let words = a .alpha ∷ (listed (three (a .eta)) ++ (a .beta ∷ (listed (three (a .delta)) ++ (a .gamma ∷ [])))) in
+    let refusal = roundRefusal babyBear i [] [] words (a .alpha ∷ a .beta ∷ a .gamma ∷ []) in
+    let found = done-free refusal _ (sym (ap openingsMeaning (c .before .before .opened2 .given .1)) ∙ at-openings .openings .ensures) in
     (record { none-refused = found .0 }, search needs)
 
 same-length : tie.Need-same-length
@@ -44,11 +47,16 @@ same-length c = search needs
 returns : tie.Need-returns
 unfolding openingsCall
 returns c =
-    let s = c .before .before .before .before .before .before .before .before .before .before .before .before .before .before in
+    let at-opened = c .before .before .before .before .before in
+    let at-openings = at-opened .before .before in
+    let s = at-openings .before .before .before .before .before .before .before in
     let a = s .args in
     let i : ProverInput = proverInput (a .r) (a .c) (a .x) (a .ea .now) (a .eb .now) (a .ec .now) (a .z .now) (a .mask) (a .m .now) in
-    let found = refused-some (roundRefusal babyBear i [] [] (a .alpha ∷ (listed (three (a .eta)) ++ (a .beta ∷ (listed (three (a .delta)) ++ (a .gamma ∷ []))))) (a .alpha ∷ a .beta ∷ a .gamma ∷ [])) _ (sym (ap openingsMeaning (c .before .before .before .before .before .opened .given .1)) ∙ c .before .before .before .before .before .before .before .openings .ensures) in
-    written-as (refused-text i (a .alpha) (three (a .eta)) (a .beta) (three (a .delta)) (a .gamma) (s .pre .0) found) (c .before .before .put-refused .ensures .written)
+    let words = a .alpha ∷ (listed (three (a .eta)) ++ (a .beta ∷ (listed (three (a .delta)) ++ (a .gamma ∷ [])))) in
+    let refusal = roundRefusal babyBear i [] [] words (a .alpha ∷ a .beta ∷ a .gamma ∷ []) in
+    let found = refused-some refusal _ (sym (ap openingsMeaning (at-opened .opened .given .1)) ∙ at-openings .openings .ensures) in
+    written-as (refused-text i (a .alpha) (three (a .eta)) (a .beta) (three (a .delta)) (a .gamma) (s .pre .0) found)
+    (c .before .before .put-refused .ensures .written)
 
 same-length-2 : tie.Need-same-length-2
 same-length-2 c = search needs
@@ -56,10 +64,14 @@ same-length-2 c = search needs
 returns-2 : tie.Need-returns-2
 unfolding openingsCall trueOpenings proof
 returns-2 c =
-    let s = c .before .before .before .before .before .before .before .before .before .before .before .before .before .before in
+    let at-opened2 = c .before .before .before .before .before in
+    let at-openings = at-opened2 .before .before in
+    let s = at-openings .before .before .before .before .before .before .before in
     let a = s .args in
     let i : ProverInput = proverInput (a .r) (a .c) (a .x) (a .ea .now) (a .eb .now) (a .ec .now) (a .z .now) (a .mask) (a .m .now) in
-    let found = done-free (roundRefusal babyBear i [] [] (a .alpha ∷ (listed (three (a .eta)) ++ (a .beta ∷ (listed (three (a .delta)) ++ (a .gamma ∷ []))))) (a .alpha ∷ a .beta ∷ a .gamma ∷ [])) _ (sym (ap openingsMeaning (c .before .before .before .before .before .opened2 .given .1)) ∙ c .before .before .before .before .before .before .before .openings .ensures) in
+    let words = a .alpha ∷ (listed (three (a .eta)) ++ (a .beta ∷ (listed (three (a .delta)) ++ (a .gamma ∷ [])))) in
+    let refusal = roundRefusal babyBear i [] [] words (a .alpha ∷ a .beta ∷ a .gamma ∷ []) in
+    let found = done-free refusal _ (sym (ap openingsMeaning (at-opened2 .opened2 .given .1)) ∙ at-openings .openings .ensures) in
     written-as
     (free-text i (a .alpha) (three (a .eta)) (a .beta) (three (a .delta)) (a .gamma) (s .pre .0) _ _ (record { none-refused = found .0 }) (found .1))
     (c .before .before .put-proof .ensures .written)

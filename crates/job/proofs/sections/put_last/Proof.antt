@@ -65,18 +65,22 @@ same-length c = search needs
 
 returns : tie.Need-returns
 returns c =
-    let call = c .before .before .before .before .before .before .before .before .public-words-into in
-    let a = c .before .before .before .before .before .before .before .before .before .before .before .before .before .before .args in
-    let within : a .s .x ≤ 1024 = size-bound _ (c .before .before .before .before .before .before .before .before .before .before .before .before .before .before .pre .0 .1) in
+    let at-last-answer = c .before .before .before .before in
+    let at-arrays = at-last-answer .before in
+    let at-public-words-into = at-arrays .before .before .before in
+    let start = at-public-words-into .before .before .before .before .before .before in
+    let call = at-public-words-into .public-words-into in
+    let a = start .args in
+    let within : a .s .x ≤ 1024 = size-bound _ (start .pre .0 .1) in
     let public =
     filled-part _ _ within (call .last .1 .1 .0) (call .kept .1 .1 .0) ∙ call .ensures
     ∙ ap (λ (n : ℕ). tabulate n (λ i. getD (a .z .now) (i * (a .s .c / a .s .x)) 0)) (sym (part-length _ _ within)) in
     printed-as
     (ap answerText
-    (c .before .before .before .before .last-answer .ensures
+    (at-last-answer .last-answer .ensures
     ∙ (λ t.
     lastAnswer (sizes (a .s)) (public t) (a .alpha) (three (a .sums)) (three (a .eta)) (a .beta) (three (a .values)) (three (a .delta)) (a .gamma)
-    (openings (a .o) (c .before .before .before .before .before .arrays .ensures t)))))
+    (openings (a .o) (at-arrays .arrays .ensures t)))))
     (c .before .before .put-answer .ensures)
 
 pub put-last-spec : {M : Type 1} → statement M

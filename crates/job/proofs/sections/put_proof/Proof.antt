@@ -17,13 +17,15 @@ put-first-requires : tie.Need-put-first-requires
 put-first-requires c κs =
     let s = c .before .before .before .before .before .before .before in
     let a = s .args in
-    let i : ProverInput = proverInput (a .r) (a .c) (a .x) (a .ea .now) (a .eb .now) (a .ec .now) (a .z .now) (a .mask) (a .m .now) in (first-free i {α = a .alpha} {η = three (a .eta)} {β = a .beta} {δ = three (a .delta)} {γ = a .gamma} (s .pre .0), search needs)
+    let i : ProverInput = proverInput (a .r) (a .c) (a .x) (a .ea .now) (a .eb .now) (a .ec .now) (a .z .now) (a .mask) (a .m .now) in
+    (first-free i {α = a .alpha} {η = three (a .eta)} {β = a .beta} {δ = three (a .delta)} {γ = a .gamma} (s .pre .0), search needs)
 
 sums-requires : tie.Need-sums-requires
 sums-requires c κs =
     let s = c .before .before .before .before .before .before .before .before .before .before in
     let a = s .args in
-    let i : ProverInput = proverInput (a .r) (a .c) (a .x) (a .ea .now) (a .eb .now) (a .ec .now) (a .z .now) (a .mask) (a .m .now) in second-free i {α = a .alpha} {η = three (a .eta)} {β = a .beta} {δ = three (a .delta)} {γ = a .gamma} (s .pre .0)
+    let i : ProverInput = proverInput (a .r) (a .c) (a .x) (a .ea .now) (a .eb .now) (a .ec .now) (a .z .now) (a .mask) (a .m .now) in
+    second-free i {α = a .alpha} {η = three (a .eta)} {β = a .beta} {δ = three (a .delta)} {γ = a .gamma} (s .pre .0)
 
 slice-aggregate-put-three : tie.Need-slice-aggregate-put-three
 slice-aggregate-put-three c = search needs
@@ -33,21 +35,28 @@ put-three-requires c κs = search needs
 
 put-third-requires : tie.Need-put-third-requires
 put-third-requires c κs =
-    let s = c .before .before .before .before .before .before .before .before .before .before .before .before .before .before .before .before .before in
+    let at-put-three = c .before .before .before in
+    let at-put-first = at-put-three .before .before .before .before .before .before in
+    let s = at-put-first .before .before .before .before .before .before .before .before in
     let a = s .args in
     let i : ProverInput = proverInput (a .r) (a .c) (a .x) (a .ea .now) (a .eb .now) (a .ec .now) (a .z .now) (a .mask) (a .m .now) in
-    let f = c .before .before .before .before .before .before .before .before .before .put-first .ensures in
-    let g = c .before .before .before .put-three .ensures in
-    (third-free i {α = a .alpha} {η = three (a .eta)} {β = a .beta} {δ = three (a .delta)} {γ = a .gamma} (s .pre .0), omega (arith, s .pre .1, printed-place f, printed-length f, printed-place g, printed-length g))
+    let f = at-put-first .put-first .ensures in
+    let g = at-put-three .put-three .ensures in (
+      third-free i {α = a .alpha} {η = three (a .eta)} {β = a .beta} {δ = three (a .delta)} {γ = a .gamma} (s .pre .0),
+      omega (arith, s .pre .1, printed-place f, printed-length f, printed-place g, printed-length g),
+    )
 
 put-rest-requires : tie.Need-put-rest-requires
 put-rest-requires c κs =
-    let s = c .before .before .before .before .before .before .before .before .before .before .before .before .before .before .before .before .before .before .before .before .before in
+    let at-put-third = c .before .before .before in
+    let at-put-three = at-put-third .before .before .before .before in
+    let at-put-first = at-put-three .before .before .before .before .before .before in
+    let s = at-put-first .before .before .before .before .before .before .before .before in
     let a = s .args in
     let i : ProverInput = proverInput (a .r) (a .c) (a .x) (a .ea .now) (a .eb .now) (a .ec .now) (a .z .now) (a .mask) (a .m .now) in
-    let f = c .before .before .before .before .before .before .before .before .before .before .before .before .before .put-first .ensures in
-    let g = c .before .before .before .before .before .before .before .put-three .ensures in
-    let h = c .before .before .before .put-third .ensures in (
+    let f = at-put-first .put-first .ensures in
+    let g = at-put-three .put-three .ensures in
+    let h = at-put-third .put-third .ensures in (
       s .pre .0,
       omega (
         arith,
@@ -67,13 +76,17 @@ same-length c = search needs
 returns : tie.Need-returns
 unfolding stagesText
 returns c =
-    let s = c .before .before .before .before .before .before .before .before .before .before .before .before .before .before .before .before .before .before .before .before .before .before .before .before in
+    let at-put-third = c .before .before .before .before .before .before in
+    let at-put-three = at-put-third .before .before .before .before in
+    let at-sums = at-put-three .before .before .before in
+    let at-put-first = at-sums .before .before .before in
+    let s = at-put-first .before .before .before .before .before .before .before .before in
     let a = s .args in
     let i : ProverInput = proverInput (a .r) (a .c) (a .x) (a .ea .now) (a .eb .now) (a .ec .now) (a .z .now) (a .mask) (a .m .now) in
-    let σ = c .before .before .before .before .before .before .before .before .before .before .before .before .before .sums .ensures in
+    let σ = at-sums .sums .ensures in
     let whole =
-    printed-then (c .before .before .before .before .before .before .before .before .before .before .before .before .before .before .before .before .put-first .ensures)
-    (printed-then (c .before .before .before .before .before .before .before .before .before .before .put-three .ensures) (printed-then (c .before .before .before .before .before .before .put-third .ensures) (c .before .before .put-rest .ensures))) in
+    printed-then (at-put-first .put-first .ensures)
+    (printed-then (at-put-three .put-three .ensures) (printed-then (at-put-third .put-third .ensures) (c .before .before .put-rest .ensures))) in
     printed-within
     (printed-as
     (λ t.

@@ -30,9 +30,12 @@ same-length c = search needs
 returns : tie.Need-returns
 unfolding remaindersText
 returns c =
+    let at-put-line2 = c .before .before .before .before .before .before .before in
+    let at-put-line = at-put-line2 .before .before .before .before .before in
+    let start = at-put-line .before .before .before .before .before .before .before in
     printed-within
-    (printed-then (c .before .before .before .before .before .before .before .before .before .before .before .before .put-line .ensures) (printed-then (c .before .before .before .before .before .before .before .put-line2 .ensures) (c .before .before .put-line3 .ensures)))
-    (omega (arith, c .before .before .before .before .before .before .before .before .before .before .before .before .before .before .before .before .before .before .before .pre .0))
+    (printed-then (at-put-line .put-line .ensures) (printed-then (at-put-line2 .put-line2 .ensures) (c .before .before .put-line3 .ensures)))
+    (omega (arith, start .pre .0))
 
 pub put-remainders-spec : {M : Type 1} → statement M
 put-remainders-spec =

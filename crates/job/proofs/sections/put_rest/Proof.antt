@@ -71,12 +71,15 @@ same-length c = search needs
 returns : tie.Need-returns
 unfolding restText
 returns c =
-    let s = c .before .before .before .before .before .before .before .before .before .before .before .before .before .before .before .before .before .before .before .before in
+    let at-put-fifth = c .before .before .before .before .before .before in
+    let at-sizes-of = at-put-fifth .before .before .before in
+    let at-put-fourth = at-sizes-of .before .before .before in
+    let s = at-put-fourth .before .before .before .before .before .before .before .before in
     let a = s .args in
     let i : ProverInput = proverInput (a .r) (a .c) (a .x) (a .ea .now) (a .eb .now) (a .ec .now) (a .z .now) (a .mask) (a .m .now) in
-    let f = c .before .before .before .before .before .before .before .before .before .before .before .before .put-fourth .ensures in
-    let k = c .before .before .before .before .before .before .before .before .before .sizes-of .ensures in
-    let whole = printed-then (f .1) (printed-then (c .before .before .before .before .before .before .put-fifth .ensures) (c .before .before .put-last .ensures)) in
+    let f = at-put-fourth .put-fourth .ensures in
+    let k = at-sizes-of .sizes-of .ensures in
+    let whole = printed-then (f .1) (printed-then (at-put-fifth .put-fifth .ensures) (c .before .before .put-last .ensures)) in
     printed-within
     (printed-as
     (λ t.

@@ -20,7 +20,8 @@ array-borrow-prefix-remainder : tie.Need-array-borrow-prefix-remainder
 array-borrow-prefix-remainder c =
     let s = c .before .before .before .before .before .before .before in
     let a = s .args in
-    let i : ProverInput = proverInput (a .r) (a .c) (a .x) (a .ea .now) (a .eb .now) (a .ec .now) (a .z .now) (a .mask) (a .m .now) in omega (arith, c .less .ensures, columns-most i (s .pre .0))
+    let i : ProverInput = proverInput (a .r) (a .c) (a .x) (a .ea .now) (a .eb .now) (a .ec .now) (a .z .now) (a .mask) (a .m .now) in
+    omega (arith, c .less .ensures, columns-most i (s .pre .0))
 
 slice-aggregate-put-third-round : tie.Need-slice-aggregate-put-third-round
 slice-aggregate-put-third-round c =
@@ -34,13 +35,15 @@ array-borrow-prefix-quotient : tie.Need-array-borrow-prefix-quotient
 array-borrow-prefix-quotient c =
     let s = c .before .before .before .before .before .before .before .before in
     let a = s .args in
-    let i : ProverInput = proverInput (a .r) (a .c) (a .x) (a .ea .now) (a .eb .now) (a .ec .now) (a .z .now) (a .mask) (a .m .now) in columns-most i (s .pre .0)
+    let i : ProverInput = proverInput (a .r) (a .c) (a .x) (a .ea .now) (a .eb .now) (a .ec .now) (a .z .now) (a .mask) (a .m .now) in
+    columns-most i (s .pre .0)
 
 slice-aggregate-put-third-round-2 : tie.Need-slice-aggregate-put-third-round-2
 slice-aggregate-put-third-round-2 c =
     let s = c .before .before .before .before .before .before .before .before .before in
     let a = s .args in
-    let i : ProverInput = proverInput (a .r) (a .c) (a .x) (a .ea .now) (a .eb .now) (a .ec .now) (a .z .now) (a .mask) (a .m .now) in part-length _ _ (columns-most i (s .pre .0))
+    let i : ProverInput = proverInput (a .r) (a .c) (a .x) (a .ea .now) (a .eb .now) (a .ec .now) (a .z .now) (a .mask) (a .m .now) in
+    part-length _ _ (columns-most i (s .pre .0))
 
 put-third-round-requires : tie.Need-put-third-round-requires
 unfolding lengths sizesOf circuitOf

@@ -38,17 +38,19 @@ slice-aggregate-put-line-2 c = search needs
 
 put-line-requires-2 : tie.Need-put-line-requires-2
 put-line-requires-2 c κs =
-    let s = c .before .before .before .before .before .before .before .before .before .before .before .before .before .before .before .before .before .before .before .before .before .before .before .before in
+    let at-put-line = c .before .before .before .before .before in
+    let at-third-round = at-put-line .before .before .before .before .before .before .before .before in
+    let s = at-third-round .before .before .before .before .before .before .before .before .before .before .before in
     let a = s .args in
     let i : ProverInput = proverInput (a .r) (a .c) (a .x) (a .ea .now) (a .eb .now) (a .ec .now) (a .z .now) (a .mask) (a .m .now) in
-    let w = c .before .before .before .before .before .put-line .ensures in
+    let w = at-put-line .put-line .ensures in
     omega (
       arith,
       s .pre .1 .1 .1,
       s .pre .1 .0,
       s .pre .1 .1 .0,
-      c .before .before .before .before .before .before .before .before .before .before .before .before .before .third-round .kept .1 .1 .1 .1 .1 .1 .1 .1 .1 .1 .1 .0,
-      c .before .before .before .before .before .before .before .before .before .before .before .before .before .third-round .kept .1 .1 .1 .1 .1 .1 .1 .1 .1 .1 .1 .1 .0,
+      at-third-round .third-round .kept .1 .1 .1 .1 .1 .1 .1 .1 .1 .1 .1 .0,
+      at-third-round .third-round .kept .1 .1 .1 .1 .1 .1 .1 .1 .1 .1 .1 .1 .0,
       printed-place w,
       printed-length w,
       due-remainder i (s .pre .0),
@@ -67,13 +69,15 @@ same-length-3 c = search needs
 returns : tie.Need-returns
 unfolding thirdText
 returns c =
-    let s = c .before .before .before .before .before .before .before .before .before .before .before .before .before .before .before .before .before .before .before .before .before .before .before .before .before .before .before in
+    let at-put-line = c .before .before .before .before .before .before .before .before in
+    let at-third-round = at-put-line .before .before .before .before .before .before .before .before in
+    let s = at-third-round .before .before .before .before .before .before .before .before .before .before .before in
     let a = s .args in
     let i : ProverInput = proverInput (a .r) (a .c) (a .x) (a .ea .now) (a .eb .now) (a .ec .now) (a .z .now) (a .mask) (a .m .now) in
-    let call = c .before .before .before .before .before .before .before .before .before .before .before .before .before .before .before .before .third-round in
+    let call = at-third-round .third-round in
     let done =
     third-done i (a .alpha) (three (a .eta)) (a .remainder .now, a .quotient .now) (s .pre .0) (s .pre .1 .0) (s .pre .1 .1 .0) (call .ensures) in
-    let whole = printed-then (c .before .before .before .before .before .before .before .before .put-line .ensures) (c .before .before .put-line2 .ensures) in
+    let whole = printed-then (at-put-line .put-line .ensures) (c .before .before .put-line2 .ensures) in
     printed-within (printed-as (λ t. section 4 (done t .0) ++ section 5 (done t .1)) whole)
     (omega (
       arith,
