@@ -23,7 +23,8 @@ use Rattle.circuit.specs.Given.{given}
 use Rattle.circuit.proofs.Entries.{length-entriesOf}
 use Rattle.circuit.specs.Given.{proverInput}
 use Rattle.varuna.specs.Inputs.{threeOf}
-use Rattle.job.specs.JobText.{maxBytes, headBytes, tooLong, tooShort, refusedText, unlessRefused, headRefusal, jobLength, jobOf, jobText, placeB, placeC, placeZ, placeR, placeM, placeα}
+use Rattle.job.specs.JobText.{maxBytes, headBytes, tooLong, tooShort, refusedText, unlessRefused, headRefusal, jobLength, jobOf, jobText}
+use Rattle.job.specs.JobText.{placeB, placeC, placeZ, placeR, placeM, placeα}
 use Rattle.job.specs.Stages.{jobGiven, jobGivenText, wordsText}
 
 -- |C| and the counts of a job whose head is not refused

@@ -35,7 +35,8 @@ use Rattle.prover.specs.CallGiven.{messageList}
 use Rattle.varuna.specs.Answers.{indexesList}
 use Rattle.prover.proofs.WitnessLaws.{public-words}
 use Rattle.job.specs.JobText.{lines, answerText, proofText, unlessRefused, refusedText}
-use Rattle.job.specs.Stages.{Free, section, publicOf, lastAnswer, afterSums, afterValues, answerAfter, firstText, sumWords, thirdText, valueWords, remainderWords, remaindersText, fourthText, fifthText, restText, stagesText, openedMeaning, jobGiven, jobGivenText}
+use Rattle.job.specs.Stages.{Free, section, publicOf, lastAnswer, afterSums, afterValues, answerAfter, openedMeaning, jobGiven, jobGivenText}
+use Rattle.job.specs.Stages.{firstText, sumWords, thirdText, valueWords, remainderWords, remaindersText, fourthText, fifthText, restText, stagesText}
 
 -- the words of words that are below p
 words-back : (ws : List ℕ) → All (λ w. w < babyBear .p) ws → words (map (of {q = babyBear}) ws) ≡ ws

@@ -7,12 +7,12 @@ use lib.Dec.{leb, ltb}
 use lib.ListN.{length, take, drop, getD}
 use Rattle.algebra.specs.Lists.{pick}
 use Rattle.field.specs.Prime.{Prime}
-use Rattle.field.specs.Element.{Elem, words}
+use Rattle.field.specs.Element.{words}
 use Rattle.domain.specs.Size.{maxSize}
 use Rattle.protocol.specs.Checks.{Row, Line, Matrix, Verdict, Accept, Fails}
 use Rattle.protocol.specs.Refusals.{Refusal, first, sizeTests, sizeRefusal, listRefusal}
 use Rattle.protocol.specs.Calls.{entriesOf}
-use Rattle.protocol.specs.Record.{wordAt, wordsIn, sections}
+use Rattle.protocol.specs.Record.{wordsIn, sections}
 use Rattle.protocol.specs.Session.{Answer, Taken, Judged, Refused}
 use Rattle.protocol.specs.Job.{Job, jobRefusal, proof, honestConversation}
 use Rattle.text.specs.Ascii.{ascii}
