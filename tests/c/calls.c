@@ -7,13 +7,13 @@
 #include <string.h>
 
 #include "../../include/varuna.h"
+#include "test.h"
 
 #define P UINT32_C(2013265921)
-#define COUNT(list) (sizeof(list) / sizeof((list)[0]))
 
 static int passed, failed;
 
-static void test(const char *name, int ok)
+void test(const char *name, int ok)
 {
     printf("test %s: %s\n", name, ok ? "ok" : "FAILED");
     if (ok)
@@ -571,6 +571,7 @@ int main(void)
     test_writing(bytes);
     test_reading(bytes);
     test_sections(bytes);
+    test_stack();
     printf("%d passed, %d failed\n", passed, failed);
     return failed != 0;
 }
