@@ -3,5 +3,4 @@ pub mod Entries
 pub mod Sums
 pub mod Mask
 pub mod Parts
-pub mod IndexValues
 pub mod Fitting

@@ -1,10 +1,9 @@
-// The checks of circuit inputs, in the order of document 01's table of refusals, and the indexer. The modulus p is a parameter. An
+// The checks of circuit inputs, in the order of document 01's table of refusals. The modulus p is a parameter. An
 // entry list is a slice with three words to an entry: row, column, value.
 ghost use mathlib.Core.Path.{_≡_};
 ghost use Rattle.circuit.specs.Given.{isFine};
 
 pub mod checks;
-pub mod indexer;
 pub mod judging;
 pub mod matrices;
 

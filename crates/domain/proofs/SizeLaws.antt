@@ -119,3 +119,24 @@ sizeFor-past count h = firstOr-none maxSize (leb count) 11 (λ k. 2 ^ k)
 
 pub size-not-zero : {q : Prime} → Qualifies q → (n : ℕ) → isSize n ≡ true → of {q = q} n ≢ 𝟘
 size-not-zero {q} Q n s = of-not-zero n (size-positive n s) (omega (arith, size-bound n s, large-enough q Q))
+
+-- the size for m
+module _ {n : ℕ} (m : ℕ) (e : n ≡ sizeFor m) where
+  pub size-is : isSize n ≡ true
+  size-is = ap isSize e ∙ sizeFor-is-size m
+
+  pub size-fits : n ≤ maxSize
+  size-fits = size-bound n size-is
+
+  pub size-holds : m ≤ maxSize → m ≤ n
+  size-holds le = omega (arith, sizeFor-holds m le)
+
+  -- and one less
+  pub sized-positive : 1 ≤ n
+  sized-positive = size-positive n size-is
+
+  pub sized-fits : n - 1 ≤ maxSize
+  sized-fits = omega (arith, size-fits)
+
+  pub sized-next : n - 1 + 1 ≡ sizeFor m
+  sized-next = omega (arith, sized-positive)

@@ -31,7 +31,7 @@ use Rattle.protocol.specs.declared.Opened.{Opened}
 use Rattle.protocol.proofs.AdmissionLaws.{job-fits}
 use Rattle.protocol.proofs.Honest.{rules-kept}
 use Rattle.varuna.specs.declared.answers.IndexesOpened.{IndexesOpened}
-use Rattle.prover.specs.CallGiven.{messageList}
+use Rattle.openings.specs.OpeningsGiven.{messageList}
 use Rattle.varuna.specs.Answers.{indexesList}
 use Rattle.prover.proofs.WitnessLaws.{public-words}
 use Rattle.job.specs.JobText.{lines, answerText, proofText, unlessRefused, refusedText}

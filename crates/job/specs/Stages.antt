@@ -19,7 +19,7 @@ use Rattle.protocol.specs.Job.{Job, jobRefusal}
 use Rattle.protocol.specs.Meanings.{three, openings}
 use Rattle.protocol.specs.declared.Opened.{Opened}
 use Rattle.varuna.specs.declared.answers.IndexesOpened.{IndexesOpened}
-use Rattle.prover.specs.CallGiven.{indexList}
+use Rattle.openings.specs.OpeningsGiven.{indexList}
 use Rattle.varuna.specs.declared.answers.ThreeWords.{ThreeWords}
 use Rattle.varuna.specs.declared.answers.ThreeWords.the-variants as three-words
 use Rattle.prover.specs.CallGiven.{circuitIn, witnessIn, assignmentIn, lineIn}

@@ -4,7 +4,7 @@ ghost use Prim.Native.Nat.{_-_, _≤_};
 ghost use Rattle.domain.specs.Size.{maxSize};
 ghost use Rattle.protocol.specs.Meanings.{three, sizes};
 ghost use Rattle.protocol.specs.Meanings as meanings;
-ghost use Rattle.varuna.specs.Session.{sessionMeaning, lastMeaning};
+ghost use Rattle.verifier.specs.Session.{sessionMeaning, lastMeaning};
 ghost use Rattle.job.specs.Stages.{afterSums, afterValues, answerAfter, lastAnswer};
 use protocol::Opened;
 use protocol::Sizes;

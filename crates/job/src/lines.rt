@@ -6,7 +6,7 @@ ghost use lib.ListN.{length};
 ghost use Rattle.protocol.specs.Three.{listed};
 ghost use Rattle.protocol.specs.Meanings.{three, verdictMeaning};
 ghost use Rattle.protocol.specs.Session.{Judged};
-ghost use Rattle.varuna.specs.Session.{lastMeaning};
+ghost use Rattle.verifier.specs.Session.{lastMeaning};
 ghost use Rattle.text.specs.Written.{Written};
 ghost use Rattle.text.specs.Decimal.{decimal};
 ghost use Rattle.job.specs.JobText.{line, refusedText, answerText};

@@ -1,3 +1,4 @@
 pub mod Stores
 pub mod Coefficients
 pub mod WordLists
+pub mod LentParts

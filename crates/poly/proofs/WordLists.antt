@@ -1,10 +1,10 @@
 -- Lists of words and the polynomials that they stand for, entry by entry: what a loop of the code computes at an entry is the
 -- coefficient that its contract names. Assumes nothing.
 use mathlib.Core.Path.{_≡_, refl, sym, ap, _∙_}
-use mathlib.Core.List.{List, [], _∷_, _++_, map}
+use mathlib.Core.List.{List, [], _∷_, _++_, map, tail}
 use Prim.Native.Nat.{ℕ, zero, suc, _+_, _-_, _*_, _≤_, _<_}
 use native.Mathlib.Omega.{arith}
-use lib.ListN.{length, take, drop, getD, List·getD-map}
+use lib.ListN.{length, take, drop, getD, replicate, List·getD-map}
 use Rattle.algebra.specs.Ring.{pow}
 use Rattle.algebra.specs.Sum.{sum}
 use Rattle.algebra.proofs.RingLaws.{pow-mul}
@@ -20,7 +20,27 @@ use Rattle.domain.specs.Polynomial.{eval, plus, interpolate}
 use Rattle.domain.proofs.Fill.{word-at}
 use Rattle.poly.proofs.Coefficients.{shifted}
 
+-- a list of one value alone, which stands past its end too
+pub replicate-at : {A : Type 0} (d : A) (n i : ℕ) → getD (replicate n d) i d ≡ d
+replicate-at d zero i = refl
+replicate-at d (suc n) zero = refl
+replicate-at d (suc n) (suc i) = replicate-at d n i
+
 module _ {q : Prime} where
+  pub words-tail : (l : List (Elem q)) → tail (words l) ≡ words (tail l)
+  words-tail [] = refl
+  words-tail (a ∷ l) = refl
+
+  -- zeros after the last do not change what getD finds
+  pub zeros-after : (l : List (Elem q)) (n i : ℕ) → getD (l ++ replicate n 𝟘) i 𝟘 ≡ getD l i 𝟘
+  zeros-after [] n i = replicate-at 𝟘 n i
+  zeros-after (a ∷ l) n zero = refl
+  zeros-after (a ∷ l) n (suc i) = zeros-after l n i
+
+  pub of-zeros : (n : ℕ) → map of (replicate n 0) ≡ replicate n (𝟘 {q = q})
+  of-zeros zero = refl
+  of-zeros (suc n) = ap (λ l. 𝟘 ∷ l) (of-zeros n)
+
   pub element-at : (l : List ℕ) (i : ℕ) → of {q = q} (getD l i 0) ≡ getD (map of l) i 𝟘
   element-at l i = sym (List·getD-map of l i 0)
 

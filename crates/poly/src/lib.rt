@@ -2,7 +2,7 @@
 // their remainders. Results are field words.
 ghost use mathlib.Core.Path.{_≡_};
 ghost use mathlib.Core.Bool.{true};
-ghost use mathlib.Core.List.{map};
+ghost use mathlib.Core.List.{map, tail};
 ghost use Prim.Native.Nat.{_+_, _-_, _^_, _<_, _≤_};
 ghost use lib.ListN.{length, getD, replicate};
 ghost use Rattle.field.specs.Prime.{Prime};
@@ -136,5 +136,17 @@ pub fn interpolate_into(p: u32, g: u32, values: &[u32], out: &mut [u32])
         i -= 1;
         power = field::multiply(p, power, g);
         out[i] = field::multiply(p, evaluate(p, values, power), inverse);
+    }
+}
+
+// All coefficients but the constant.
+pub fn copy_tail(words: &[u32], out: &mut [u32])
+    requires { ⌜ length (now words) ≡ length (now out) + 1 ⌝ }
+    ensures { λ _. ⌜ now (out .exit) ≡ tail (now (words .entry)) ⌝ }
+{
+    let mut i = 0;
+    while i < out.len() {
+        out[i] = words[i + 1];
+        i += 1;
     }
 }

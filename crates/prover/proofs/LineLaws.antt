@@ -36,7 +36,7 @@ use Rattle.protocol.proofs.AdmissionLaws.{WellFormed}
 use Rattle.protocol.proofs.ProverForms.{columnSum, weighted-by-columns}
 use Rattle.circuit.specs.Given.{Within, EachWithin, entryLists}
 use Rattle.prover.specs.LineSums.{columnTotal}
-use Rattle.prover.proofs.WitnessParts.{part-length}
+use Rattle.poly.proofs.LentParts.{part-length}
 use Rattle.prover.proofs.WitnessLaws.{plus-comm}
 
 -- functions that are equal below n have the same list

@@ -18,7 +18,7 @@ use Rattle.protocol.proofs.AdmissionLaws.{WellFormed}
 use Rattle.protocol.proofs.Extension.{image-polynomial}
 use Rattle.protocol.proofs.ProverForms.{image-by-rows}
 use Rattle.circuit.specs.Given.{Within}
-use Rattle.prover.proofs.WitnessParts.{part-length}
+use Rattle.poly.proofs.LentParts.{part-length}
 
 -- what is known by the prime's value holds for the prime
 pub known-formed : {q : Prime} {p : ℕ} {k : Circuit} → Known q p → WellFormed p k → WellFormed (q .p) k

@@ -26,7 +26,7 @@ use Rattle.domain.proofs.Membership.{zero-word}
 use Rattle.domain.proofs.Qualification.{one-word}
 use Rattle.protocol.specs.Circuit.{Circuit, publicPart}
 use Rattle.protocol.specs.Messages.{publicPoly, witness, assignment}
-use Rattle.prover.proofs.WitnessParts.{part-length, filled-part, filled-length}
+use Rattle.poly.proofs.LentParts.{part-length, filled-part, filled-length}
 
 module _ {A : Type 0} (R : CommRing A) where
   open CommRing R using (𝟘, 𝟙, add-comm)

@@ -1,18 +1,13 @@
--- How contracts name the prover's polynomials and openings from what a call is given. Assumes nothing.
-use mathlib.Core.List.{List, [], _∷_, map}
+-- How contracts name the prover's polynomials from what a call is given. Assumes nothing.
+use mathlib.Core.List.{List, map}
 use Prim.Native.Nat.{ℕ}
 use Rattle.field.specs.Prime.{Prime}
 use Rattle.field.specs.Element.{Elem, of}
 use Rattle.domain.specs.Polynomial.{Poly}
-use Rattle.protocol.specs.declared.Opened.{Opened}
-use Rattle.protocol.specs.Three.{Three, each, listed, mapThree}
+use Rattle.protocol.specs.Three.{Three, mapThree}
 use Rattle.protocol.specs.Circuit.{Circuit, publicPart}
-use Rattle.protocol.specs.Checks.{Openings}
-use Rattle.protocol.specs.Messages.{witness, assignment, rowQuotient, line, lineRemainder, lineQuotient, messages, openings}
-use Rattle.protocol.specs.Index.{index}
-use Rattle.protocol.specs.Meanings.{three}
+use Rattle.protocol.specs.Messages.{witness, assignment, rowQuotient, line, lineRemainder, lineQuotient}
 use Rattle.protocol.specs.Calls.{ProverInput, circuitOf}
-use Rattle.prover.specs.declared.openings.IndexOpened.{IndexOpened}
 
 module _ (q : Prime) (i : ProverInput) where
   abbrev pub circuitIn : Circuit
@@ -38,21 +33,3 @@ module _ (q : Prime) (i : ProverInput) where
 
   abbrev pub lineQuotientIn : ℕ → Three ℕ → Poly q
   lineQuotientIn α η = lineQuotient circuitIn (lineIn α η)
-
-  abbrev pub openingsIn : ℕ → Three ℕ → ℕ → Three ℕ → ℕ → Openings (Elem q)
-  openingsIn α η β δ γ =
-      openings (messages circuitIn zIn (of (i .r)) (map of (i .m)) (of α) (mapThree of η) (of β) (mapThree of δ)) (each (index circuitIn)) (of α) (of β)
-      (of γ)
-
--- the openings of the messages in order, and as a call answers them
-abbrev pub messagesOpened : {T : Type 0} → Openings T → List T
-messagesOpened o =
-    o .witness ∷ o .mask ∷ o .lineRemainder ∷ o .lineQuotient ∷ o .rowQuotient ∷ o .joinedQuotient ∷ listed (o .matrixRemainders)
-
-abbrev pub messageList : Opened → List ℕ
-messageList o =
-    o .witness ∷ o .mask ∷ o .lineRemainder ∷ o .lineQuotient ∷ o .rowQuotient ∷ o .joinedQuotient ∷ listed (three (o .matrixRemainders))
-
--- the openings of one matrix's index polynomials in order
-abbrev pub indexList : IndexOpened → List ℕ
-indexList i = i .row ∷ i .col ∷ i .rowcol ∷ i .rowcolval ∷ []

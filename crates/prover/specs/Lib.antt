@@ -1,3 +1,2 @@
 pub mod LineSums
-pub mod MatrixGiven
 pub mod CallGiven

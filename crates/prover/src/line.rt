@@ -2,7 +2,7 @@
 // words to an entry.
 ghost use mathlib.Core.Path.{_≡_};
 ghost use mathlib.Core.Bool.{true};
-ghost use mathlib.Core.List.{map, tail};
+ghost use mathlib.Core.List.{map};
 ghost use Prim.Native.Nat.{_+_, _-_, _*_, _<_};
 ghost use lib.ListN.{length, getD};
 ghost use Rattle.algebra.specs.Counting.{All};
@@ -176,18 +176,6 @@ pub fn line_of(
     line_into(p, r, c, ea, eb, ec, &assignment[..l], m, alpha, eta, out);
 }
 
-// All words but the first.
-pub fn copy_tail(words: &[u32], out: &mut [u32])
-    requires { ⌜ length (now words) ≡ length (now out) + 1 ⌝ }
-    ensures { λ _. ⌜ now (out .exit) ≡ tail (now (words .entry)) ⌝ }
-{
-    let mut i = 0;
-    while i < out.len() {
-        out[i] = words[i + 1];
-        i += 1;
-    }
-}
-
 // g1, of length |C| - 1: the line's remainder by v_C without its constant.
 pub fn line_remainder_into(p: u32, c: u32, line: &[u32], out: &mut [u32])
     requires { ⌜ 0 < p ⌝ }
@@ -199,7 +187,7 @@ pub fn line_remainder_into(p: u32, c: u32, line: &[u32], out: &mut [u32])
     let n = c as usize;
     let mut remainder = [0u32; 1024];
     poly::remainder_into(p, line, &mut remainder[..n]);
-    copy_tail(&remainder[..n], out);
+    poly::copy_tail(&remainder[..n], out);
 }
 
 // h1, of length |C|: the line's quotient by v_C.

@@ -7,7 +7,7 @@ use Rattle.protocol.specs.Three.{Three}
 use Rattle.protocol.specs.Checks.{listOpenings}
 use Rattle.protocol.specs.Refusals.{Outcome, Done, Refused}
 use Rattle.protocol.specs.Meanings as meanings
-use Rattle.prover.specs.CallGiven.{messageList, indexList}
+use Rattle.openings.specs.OpeningsGiven.{messageList, indexList}
 use Rattle.varuna.specs.declared.answers.Word.{Word}
 use Rattle.varuna.specs.declared.answers.Word.the-variants as word
 use Rattle.varuna.specs.declared.answers.ThreeWords.{ThreeWords}

@@ -1,9 +1,9 @@
 // What public calls answer. A refusal carries its number and position; specs/Answers.antt gives the meaning of each case.
 ghost use mathlib.Core.Path.{_≡_};
 ghost use Rattle.varuna.specs.Answers.{indexArrays};
+use openings::IndexOpened;
 use protocol::Opened;
 use protocol::Triple;
-use prover::openings::IndexOpened;
 
 // One word.
 pub enum Word {

@@ -11,10 +11,10 @@ ghost use Rattle.circuit.specs.Given.{given};
 ghost use Rattle.varuna.specs.Answers.{filling, fills};
 ghost use Rattle.varuna.specs.Inputs.{twelve};
 use crate::answers::Filled;
-use circuit::indexer::index_matrix_into;
 use circuit::judging::judge_index;
 use circuit::matrices::size_of;
 use field::MODULE_PRIME;
+use index::index_matrix_into;
 use protocol::Fault;
 
 // The twelve index polynomials of a circuit with entry lists ea, eb, ec, each into a slice of |K_M| words: row, col, rowcol and

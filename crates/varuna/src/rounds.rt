@@ -16,10 +16,13 @@ use crate::answers::ThreeWords;
 use circuit::judging;
 use circuit::matrices;
 use field::MODULE_PRIME;
+use matrix_sumcheck::joined::joined_quotient_into;
+use matrix_sumcheck::matrix::matrix_remainder_into;
+use matrix_sumcheck::matrix::matrix_value;
+use openings::index_at;
+use openings::messages_opened;
 use protocol::Fault;
 use protocol::Triple;
-use prover::openings::index_at;
-use prover::openings::messages_opened;
 
 // Round 1: ŵ, of |C| - |X| + 1 words, and h0, of |R| - 1, into slices.
 pub fn first_round(
@@ -165,13 +168,13 @@ pub fn fourth_round(
     let fault = judging::judge_round(p, r, c, x, ea, eb, ec, z, mask, m, &lent, &due, &words, &at);
     match fault {
         Fault::Fine => {
-            prover::matrix::matrix_remainder_into(p, r, c, ea, alpha, beta, ga);
-            prover::matrix::matrix_remainder_into(p, r, c, eb, alpha, beta, gb);
-            prover::matrix::matrix_remainder_into(p, r, c, ec, alpha, beta, gc);
+            matrix_remainder_into(p, r, c, ea, alpha, beta, ga);
+            matrix_remainder_into(p, r, c, eb, alpha, beta, gb);
+            matrix_remainder_into(p, r, c, ec, alpha, beta, gc);
             ThreeWords::Value(Triple {
-                a: prover::matrix::matrix_value(p, r, c, ea, alpha, beta),
-                b: prover::matrix::matrix_value(p, r, c, eb, alpha, beta),
-                c: prover::matrix::matrix_value(p, r, c, ec, alpha, beta),
+                a: matrix_value(p, r, c, ea, alpha, beta),
+                b: matrix_value(p, r, c, eb, alpha, beta),
+                c: matrix_value(p, r, c, ec, alpha, beta),
             })
         }
         Fault::Refused(number, position) => ThreeWords::Refused(number, position),
@@ -208,7 +211,7 @@ pub fn fifth_round(
     let fault = judging::judge_round(p, r, c, x, ea, eb, ec, z, mask, m, &lent, &due, &words, &at);
     match fault {
         Fault::Fine => {
-            prover::joined::joined_quotient_into(p, r, c, ea, eb, ec, alpha, beta, delta, out);
+            joined_quotient_into(p, r, c, ea, eb, ec, alpha, beta, delta, out);
             Filled::Done
         }
         Fault::Refused(number, position) => Filled::Refused(number, position),

@@ -17,7 +17,7 @@ use Rattle.varuna.specs.declared.answers.ThreeWords.{ThreeWords}
 use Rattle.varuna.specs.declared.answers.ThreeWords.the-variants as three-words
 use Rattle.varuna.specs.declared.answers.Filled.{Filled}
 use Rattle.varuna.specs.declared.answers.Filled.the-variants as filled
-use Rattle.varuna.specs.Session.{sessionWords}
+use Rattle.verifier.specs.Session.{sessionWords}
 
 pub record Answered (T : Type 0) : Type 0 where
   pub number : ℕ

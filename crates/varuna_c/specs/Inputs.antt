@@ -6,7 +6,7 @@ use Rattle.protocol.specs.declared.Opened.{Opened}
 use Rattle.protocol.specs.Circuit.{Sizes}
 use Rattle.protocol.specs.Index.{Index}
 use Rattle.protocol.specs.Checks.{Openings}
-use Rattle.varuna.specs.Session.{threeAt}
+use Rattle.verifier.specs.Session.{threeAt}
 
 -- six sizes in trailer order
 unfoldable pub sizesIn : List ℕ → Sizes

@@ -3,7 +3,7 @@ ghost use mathlib.Core.Path.{_≡_};
 ghost use Rattle.protocol.specs.Meanings.{verdictMeaning};
 ghost use Rattle.record.specs.Answers.{readingMeaning};
 ghost use Rattle.varuna.specs.Answers.{openingsMeaning};
-ghost use Rattle.varuna.specs.Session.{steppedMeaning, finishedMeaning};
+ghost use Rattle.verifier.specs.Session.{steppedMeaning, finishedMeaning};
 ghost use Rattle.varuna_c.specs.Answers.{told, answered, wordMeaning, threeMeaning, filledMeaning, threeListed, sizesListed};
 ghost use Rattle.varuna_c.specs.Answers.{stepAnswered, lastAnswered, verdictNumber};
 use protocol::Check;

@@ -1,7 +1,7 @@
 // The arrays that an exported function is given, as the values that the public calls take.
 ghost use mathlib.Core.Path.{_≡_};
 ghost use Rattle.protocol.specs.Meanings.{three, sizes as sizesMeaning};
-ghost use Rattle.varuna.specs.Session.{threeAt};
+ghost use Rattle.verifier.specs.Session.{threeAt};
 ghost use Rattle.varuna_c.specs.Inputs.{sizesIn, messagesIn, indexesIn};
 use protocol::Opened;
 use protocol::Sizes;

@@ -5,7 +5,7 @@ ghost use Rattle.domain.specs.BabyBear.{babyBear};
 ghost use Rattle.protocol.specs.Calls.{firstRoundCall, secondRoundCall, thirdRoundCall, fourthRoundCall, fifthRoundCall, openingsCall};
 ghost use Rattle.circuit.specs.Given.{proverInput};
 ghost use Rattle.varuna.specs.Inputs.{threeOf};
-ghost use Rattle.varuna.specs.Session.{threeAt};
+ghost use Rattle.verifier.specs.Session.{threeAt};
 ghost use Rattle.varuna_c.specs.Answers.{told, answered, threeListed, threeListedWith};
 use crate::answers::give_filled;
 use crate::answers::give_openings;

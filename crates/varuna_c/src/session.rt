@@ -2,7 +2,7 @@
 ghost use mathlib.Core.Path.{_≡_};
 ghost use Rattle.domain.specs.BabyBear.{babyBear};
 ghost use Rattle.protocol.specs.Session.{unopened, openStep, alphaStep, etaStep, betaStep, deltaStep, gammaStep, openingsStep};
-ghost use Rattle.varuna.specs.Session.{threeAt, sessionOf, sessionWords};
+ghost use Rattle.verifier.specs.Session.{threeAt, sessionOf, sessionWords};
 ghost use Rattle.varuna_c.specs.Answers.{told, stepAnswered, lastAnswered};
 ghost use Rattle.varuna_c.specs.Inputs.{sizesIn, openingsIn};
 use crate::answers::give_step;

@@ -1,3 +1,4 @@
 pub mod FirstLaws
-pub mod AllowedSizes
-pub mod PublicValue
+pub mod Padding
+pub mod SessionWords
+pub mod Turns

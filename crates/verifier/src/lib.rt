@@ -1,3 +1,3 @@
-// The verifier on words: what refuses each step of the session, and the verdict. The modulus p is a parameter.
-pub mod checks;
+// The verifier: what refuses each step, with the modulus p as a parameter, and the public session.
 pub mod refusals;
+pub mod session;

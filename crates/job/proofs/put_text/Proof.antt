@@ -1,7 +1,7 @@
 -- `job::put_text` meets its contract. Assumes nothing.
 use mathlib.Core.Path.{sym, ap, _∙_}
 use lib.ListN.{length}
-use Rattle.prover.proofs.WitnessParts.{part-length, filled-within, filled-part, filled-length}
+use Rattle.poly.proofs.LentParts.{part-length, filled-within, filled-part, filled-length}
 use Rattle.text.proofs.WrittenLaws.{written-as}
 use Rattle.job.specs.Stages.{wordsText}
 use Rattle.job.proofs.HeadLaws.{few-words, text-long, text-short, text-words}

@@ -16,18 +16,13 @@ use Rattle.field.proofs.ElementLaws.{primeRing}
 use Rattle.domain.specs.Polynomial.{Poly, plus, scale, times}
 use Rattle.domain.proofs.Fill.{length-words, word-at}
 use Rattle.poly.proofs.Coefficients.{shifted, shifted-empty, product-row}
-use Rattle.poly.proofs.WordLists.{reduced, added-from}
+use Rattle.poly.proofs.WordLists.{replicate-at, reduced, added-from}
 use Rattle.poly.proofs.multiply_into.Statement.{statement}
 use Rattle.poly.proofs.multiply_into.Tie as tie
 
 -- the list has the coefficients of Y^i · (f_i + f_(i+1)·Y + ..) · g
 abbrev Holds : (q : Prime) (f g out : List ℕ) → ℕ → Type 0
 Holds q f g out i = (k : ℕ) → getD out k 0 ≡ (getD (shifted (primeRing q) i (times (map (of {q = q}) (drop i f)) (map of g))) k 𝟘) .word
-
-zeros-at : (n k : ℕ) → getD {A = ℕ} (replicate n 0) k 0 ≡ 0
-zeros-at zero k = refl
-zeros-at (suc n) zero = refl
-zeros-at (suc n) (suc k) = zeros-at n k
 
 -- a turn: f_i · g is added from i on
 row : (q : Prime) (f g out : List ℕ) (i m : ℕ) (sum : List ℕ) → m ≡ length g → i < length f → i + length g ≤ length out
@@ -67,7 +62,7 @@ loop-holds c =
       search needs,
       refl,
       λ q e k.
-          ap (λ (l : List ℕ). getD l k 0) (c .before .before .clear .ensures) ∙ zeros-at (length (a .out .now)) k
+          ap (λ (l : List ℕ). getD l k 0) (c .before .before .clear .ensures) ∙ replicate-at 0 (length (a .out .now)) k
           ∙ sym (ap (λ (l : List ℕ). (getD (shifted (primeRing q) (length f) (times (map of l) (map of g))) k 𝟘) .word) (drop-length f)
           ∙ ap (λ (x : Elem q). x .word) (shifted-empty (primeRing q) (length f) k) ∙ word-of q 0 (omega (arith, q .above-two))),
     )

@@ -4,7 +4,7 @@ use Rattle.domain.specs.BabyBear.{babyBear}
 use Rattle.protocol.specs.Messages.{lengths}
 use Rattle.protocol.specs.Session.{Session, Stepped, betaStep, deltaStep}
 use Rattle.protocol.specs.Meanings.{three, sizes}
-use Rattle.varuna.specs.Session.{sessionMeaning}
+use Rattle.verifier.specs.Session.{sessionMeaning}
 use Rattle.varuna.proofs.AnswerLaws.{three-same}
 use Rattle.job.specs.Stages.{afterValues}
 use borrow.Author.Needs.{needs}

@@ -6,7 +6,7 @@ use Rattle.protocol.specs.Circuit.{largest}
 use Rattle.protocol.specs.Messages.{lengths}
 use Rattle.protocol.specs.Session.{Stepped, gammaStep, openingsStep}
 use Rattle.protocol.specs.Meanings.{three, openings}
-use Rattle.varuna.specs.Session.{sessionMeaning}
+use Rattle.verifier.specs.Session.{sessionMeaning}
 use Rattle.job.specs.Stages.{answerAfter}
 use borrow.Author.Needs.{needs}
 use Rattle.job.proofs.conversation.answer_after.Statement.{statement}

@@ -1,6 +1,6 @@
 -- `job::lines::put_answer` meets its contract. Assumes nothing.
 use mathlib.Core.Path.{sym, ap}
-use Rattle.varuna.specs.Session.{lastMeaning}
+use Rattle.verifier.specs.Session.{lastMeaning}
 use Rattle.job.specs.JobText.{answerText}
 use Rattle.job.proofs.PrintedLaws.{printed-as}
 use borrow.Author.Needs.{needs}

@@ -4,7 +4,7 @@ use Prim.Native.Nat.{ℕ, _-_, _≤_}
 use native.Mathlib.Omega.{arith}
 use Rattle.protocol.specs.Calls.{ProverInput}
 use Rattle.circuit.specs.Given.{proverInput}
-use Rattle.prover.proofs.WitnessParts.{part-length}
+use Rattle.poly.proofs.LentParts.{part-length}
 use Rattle.protocol.specs.Messages.{lengths}
 use Rattle.job.proofs.Bounds.{due-joined}
 use borrow.Author.Needs.{needs}

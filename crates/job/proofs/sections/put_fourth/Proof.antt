@@ -9,7 +9,7 @@ use Rattle.protocol.specs.Circuit.{sizesOf}
 use Rattle.protocol.specs.Messages.{lengths}
 use Rattle.protocol.specs.Calls.{ProverInput, entriesOf, circuitOf}
 use Rattle.circuit.specs.Given.{proverInput}
-use Rattle.prover.proofs.WitnessParts.{part-length}
+use Rattle.poly.proofs.LentParts.{part-length}
 use Rattle.varuna.proofs.AnswerLaws.{three-same}
 use Rattle.job.specs.Stages.{due}
 use Rattle.job.proofs.Bounds.{size-most}

@@ -7,7 +7,7 @@ use lib.ListN.{getD}
 use Rattle.algebra.specs.Lists.{tabulate}
 use Rattle.domain.proofs.SizeLaws.{size-positive, size-bound, size-quotient-positive}
 use Rattle.protocol.specs.Meanings.{three, sizes, openings}
-use Rattle.prover.proofs.WitnessParts.{part-length, filled-within, filled-part, filled-length}
+use Rattle.poly.proofs.LentParts.{part-length, filled-within, filled-part, filled-length}
 use Rattle.prover.proofs.WitnessLaws.{public-within}
 use Rattle.job.specs.JobText.{answerText}
 use Rattle.job.specs.Stages.{lastAnswer}

@@ -14,7 +14,7 @@ use Rattle.protocol.specs.Three.{Three, each, mapThree}
 use Rattle.protocol.specs.Checks.{weighted}
 use Rattle.protocol.specs.Meanings.{three}
 use Rattle.protocol.proofs.ProverForms.{columnSum}
-use Rattle.prover.proofs.WitnessParts.{part-length, filled-within, filled-length, parts-order, of-filled}
+use Rattle.poly.proofs.LentParts.{part-length, filled-within, filled-length, parts-order, of-filled}
 use Rattle.prover.proofs.WitnessLaws.{plus-made}
 use Rattle.prover.proofs.RowLaws.{known-formed}
 use Rattle.prover.proofs.LineLaws.{line-made}

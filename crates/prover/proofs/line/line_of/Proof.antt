@@ -9,7 +9,7 @@ use Rattle.protocol.specs.Messages.{assignment, line}
 use Rattle.protocol.specs.Meanings.{three}
 use Rattle.protocol.specs.Calls.{ProverInput, circuitOf}
 use Rattle.circuit.specs.Given.{given, proverInput}
-use Rattle.prover.proofs.WitnessParts.{part-length, filled-within, filled-length, of-filled}
+use Rattle.poly.proofs.LentParts.{part-length, filled-within, filled-length, of-filled}
 use Rattle.prover.specs.CallGiven.{zIn, witnessIn, assignmentIn}
 use Rattle.circuit.proofs.Fitting.{R-fits, C-fits, X-fits, X-below}
 use Rattle.prover.proofs.CallLaws.{witness-bound, assignment-bound}

@@ -8,7 +8,7 @@ use lib.ListN.{length}
 use Rattle.field.specs.Element.{of, words}
 use Rattle.domain.specs.Polynomial.{Poly, remainder}
 use Rattle.domain.proofs.SizeLaws.{size-positive, size-bound}
-use Rattle.prover.proofs.WitnessParts.{part-length, filled-within, filled-part, filled-length, parts-order}
+use Rattle.poly.proofs.LentParts.{part-length, filled-within, filled-part, filled-length, parts-order}
 use Rattle.prover.proofs.LineLaws.{line-remainder-made}
 use Rattle.prover.proofs.line.line_remainder_into.Statement.{statement}
 use Rattle.prover.proofs.line.line_remainder_into.Tie as tie

@@ -13,8 +13,8 @@ use Rattle.protocol.specs.Three.{Three, each, mapThree}
 use Rattle.protocol.specs.Checks.{weighted}
 use Rattle.protocol.specs.Meanings.{three}
 use Rattle.protocol.proofs.ProverForms.{columnSum}
-use Rattle.prover.proofs.WitnessParts.{part-length, filled-within, filled-length, of-filled, interpolate-part}
-use Rattle.prover.proofs.MatrixLists.{replicate-at}
+use Rattle.poly.proofs.LentParts.{part-length, filled-within, filled-length, of-filled, interpolate-part}
+use Rattle.poly.proofs.WordLists.{replicate-at}
 use Rattle.prover.proofs.LineLaws.{rowValues, weights-made, each-within}
 use Rattle.prover.proofs.line.weights_into.Statement.{statement}
 use Rattle.prover.proofs.line.weights_into.Tie as tie

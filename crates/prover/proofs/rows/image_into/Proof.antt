@@ -13,7 +13,7 @@ use Rattle.domain.specs.Domain.{root}
 use Rattle.domain.proofs.SizeLaws.{size-bound}
 use Rattle.protocol.specs.Circuit.{Entry, rowSum}
 use Rattle.protocol.specs.Calls.{entriesOf}
-use Rattle.prover.proofs.WitnessParts.{part-length, filled-within, filled-length, interpolate-part}
+use Rattle.poly.proofs.LentParts.{part-length, filled-within, filled-length, interpolate-part}
 use Rattle.prover.proofs.RowLaws.{rows-within}
 use Rattle.prover.proofs.rows.image_into.Statement.{statement}
 use Rattle.prover.proofs.rows.image_into.Tie as tie

@@ -8,7 +8,7 @@ use lib.ListN.{length}
 use Rattle.field.specs.Element.{of, words}
 use Rattle.domain.specs.Polynomial.{Poly, minus, times, quotient}
 use Rattle.domain.proofs.SizeLaws.{size-positive, size-bound}
-use Rattle.prover.proofs.WitnessParts.{part-length, filled-within, filled-length, of-filled}
+use Rattle.poly.proofs.LentParts.{part-length, filled-within, filled-length, of-filled}
 use Rattle.prover.proofs.rows.product_quotient_into.Statement.{statement}
 use Rattle.prover.proofs.rows.product_quotient_into.Tie as tie
 

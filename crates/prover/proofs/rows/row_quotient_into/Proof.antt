@@ -10,7 +10,7 @@ use Rattle.domain.specs.Polynomial.{Poly, interpolate}
 use Rattle.domain.proofs.SizeLaws.{size-bound}
 use Rattle.protocol.specs.Three.{MatrixName, A, B, C, Three}
 use Rattle.protocol.specs.Circuit.{Entry, rowSum}
-use Rattle.prover.proofs.WitnessParts.{part-length, filled-within, filled-length, of-filled}
+use Rattle.poly.proofs.LentParts.{part-length, filled-within, filled-length, of-filled}
 use Rattle.prover.proofs.RowLaws.{known-formed, row-quotient-made}
 use Rattle.prover.proofs.rows.row_quotient_into.Statement.{statement}
 use Rattle.prover.proofs.rows.row_quotient_into.Tie as tie

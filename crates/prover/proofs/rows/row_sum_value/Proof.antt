@@ -8,7 +8,7 @@ use Rattle.field.specs.Element.{Elem, of}
 use Rattle.domain.specs.Polynomial.{interpolate}
 use Rattle.domain.proofs.SizeLaws.{size-bound}
 use Rattle.protocol.specs.Circuit.{rowSum}
-use Rattle.prover.proofs.WitnessParts.{part-length, filled-within, filled-length, of-filled}
+use Rattle.poly.proofs.LentParts.{part-length, filled-within, filled-length, of-filled}
 use Rattle.prover.proofs.RowLaws.{known-formed, row-sum-made}
 use Rattle.prover.proofs.rows.row_sum_value.Statement.{statement}
 use Rattle.prover.proofs.rows.row_sum_value.Tie as tie

@@ -11,7 +11,7 @@ use Rattle.domain.specs.Polynomial.{Poly, times, vanishingPoly}
 use Rattle.domain.proofs.SizeLaws.{size-positive, size-bound}
 use Rattle.protocol.specs.Circuit.{publicPart}
 use Rattle.protocol.specs.Messages.{publicPoly}
-use Rattle.prover.proofs.WitnessParts.{part-length, filled-within, filled-length, part-order, part-above, above-one, one-less, of-filled}
+use Rattle.poly.proofs.LentParts.{part-length, filled-within, filled-length, part-order, part-above, above-one, one-less, of-filled}
 use Rattle.prover.proofs.WitnessLaws.{plus-made, assignment-made}
 use Rattle.prover.proofs.witness.assignment_into.Statement.{statement}
 use Rattle.prover.proofs.witness.assignment_into.Tie as tie

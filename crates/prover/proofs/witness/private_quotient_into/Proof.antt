@@ -12,7 +12,7 @@ use Rattle.domain.specs.Polynomial.{Poly, minus, quotient, interpolate}
 use Rattle.domain.proofs.SizeLaws.{size-positive, size-bound}
 use Rattle.protocol.specs.Circuit.{publicPart}
 use Rattle.protocol.specs.Messages.{publicPoly}
-use Rattle.prover.proofs.WitnessParts.{part-length, filled-within, filled-length, parts-order, of-filled}
+use Rattle.poly.proofs.LentParts.{part-length, filled-within, filled-length, parts-order, of-filled}
 use Rattle.prover.proofs.WitnessLaws.{minus-made}
 use Rattle.prover.proofs.witness.private_quotient_into.Statement.{statement}
 use Rattle.prover.proofs.witness.private_quotient_into.Tie as tie

@@ -7,7 +7,7 @@ use native.Mathlib.Nat.{div-le-self}
 use Rattle.domain.specs.Size.{isSize}
 use Rattle.domain.specs.Domain.{root}
 use Rattle.domain.proofs.SizeLaws.{size-positive, size-bound, size-quotient-positive}
-use Rattle.prover.proofs.WitnessParts.{part-length, filled-within, filled-length}
+use Rattle.poly.proofs.LentParts.{part-length, filled-within, filled-length}
 use Rattle.prover.proofs.WitnessLaws.{public-within, public-poly}
 use Rattle.prover.proofs.witness.public_poly_into.Statement.{statement}
 use Rattle.prover.proofs.witness.public_poly_into.Tie as tie

@@ -7,7 +7,7 @@ use lib.ListN.{length}
 use Rattle.field.specs.Element.{words}
 use Rattle.domain.specs.Polynomial.{Poly, quotient, vanishingPoly}
 use Rattle.domain.proofs.SizeLaws.{size-positive, size-bound}
-use Rattle.prover.proofs.WitnessParts.{part-length, filled-within, filled-length, above-one, one-less, of-filled}
+use Rattle.poly.proofs.LentParts.{part-length, filled-within, filled-length, above-one, one-less, of-filled}
 use Rattle.prover.proofs.witness.vanishing_ratio_into.Statement.{statement}
 use Rattle.prover.proofs.witness.vanishing_ratio_into.Tie as tie
 

@@ -10,7 +10,7 @@ use Rattle.field.specs.Element.{of}
 use Rattle.domain.specs.Polynomial.{quotient, vanishingPoly}
 use Rattle.domain.proofs.SizeLaws.{size-positive, size-bound}
 use Rattle.domain.proofs.Division.{length-vanishingRatio}
-use Rattle.prover.proofs.WitnessParts.{part-length, filled-within, filled-length, part-order, of-filled}
+use Rattle.poly.proofs.LentParts.{part-length, filled-within, filled-length, part-order, of-filled}
 use Rattle.prover.proofs.WitnessLaws.{padded, witness-made}
 use Rattle.prover.proofs.witness.witness_into.Statement.{statement}
 use Rattle.prover.proofs.witness.witness_into.Tie as tie

@@ -15,7 +15,7 @@ use Rattle.circuit.specs.Given.{given, proverInput}
 use Rattle.circuit.proofs.Parts.{largest-by-counts}
 use Rattle.varuna.proofs.AnswerLaws.{matched, fill-done}
 use Rattle.circuit.proofs.Fitting.{RoundFits, round-fits, shaped}
-use Rattle.prover.proofs.CallLaws.{challenged, matrix-given}
+use Rattle.matrix_sumcheck.proofs.GivenLaws.{challenged, matrix-given}
 use Rattle.varuna.proofs.CallRounds.{one-below-largest, known-prime}
 use borrow.Author.Needs.{needs}
 use Rattle.varuna.proofs.rounds.fifth_round.Statement.{statement}

@@ -17,7 +17,7 @@ use Rattle.circuit.specs.Given.{given, proverInput}
 use Rattle.varuna.specs.Inputs.{threeOf}
 use Rattle.varuna.proofs.AnswerLaws.{matched, fill-three-done, three-same}
 use Rattle.circuit.proofs.Fitting.{RoundFits, round-fits, R-fits, C-fits}
-use Rattle.prover.proofs.CallLaws.{challenged, matrix-given}
+use Rattle.matrix_sumcheck.proofs.GivenLaws.{challenged, matrix-given}
 use Rattle.varuna.proofs.CallRounds.{one-below, known-prime}
 use borrow.Author.Needs.{needs}
 use Rattle.varuna.proofs.rounds.fourth_round.Statement.{statement}

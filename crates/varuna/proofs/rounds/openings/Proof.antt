@@ -13,7 +13,7 @@ use Rattle.protocol.specs.Calls.{ProverInput, circuitOf, roundRefusal, openings
 use Rattle.circuit.specs.Given.{given, proverInput}
 use Rattle.varuna.proofs.AnswerLaws.{matched, done}
 use Rattle.circuit.proofs.Fitting.{RoundFits, round-fits, R-fits, C-fits}
-use Rattle.prover.proofs.CallLaws.{challenged}
+use Rattle.matrix_sumcheck.proofs.GivenLaws.{challenged}
 use Rattle.varuna.proofs.CallRounds.{known-prime}
 use borrow.Author.Needs.{needs}
 use Rattle.varuna.proofs.rounds.openings.Statement.{statement}

@@ -14,7 +14,7 @@ use Rattle.protocol.specs.Messages.{lengths, lineRemainder, lineQuotient}
 use Rattle.protocol.specs.Meanings.{faultRefusal, three}
 use Rattle.protocol.specs.Calls.{ProverInput, circuitOf, roundRefusal, thirdRoundCall}
 use Rattle.circuit.specs.Given.{given, proverInput}
-use Rattle.prover.proofs.WitnessParts.{part-length, filled-within, filled-length, of-filled}
+use Rattle.poly.proofs.LentParts.{part-length, filled-within, filled-length, of-filled}
 use Rattle.prover.specs.CallGiven.{lineIn}
 use Rattle.varuna.proofs.AnswerLaws.{matched, fill-done}
 use Rattle.circuit.proofs.Fitting.{RoundFits, round-fits, C-fits}

@@ -1,6 +1,6 @@
 -- `varuna_c::inputs::sizes_in` meets its contract. Assumes nothing.
 use mathlib.Core.Path.{refl}
-use Rattle.varuna.specs.Session.{threeAt}
+use Rattle.verifier.specs.Session.{threeAt}
 use Rattle.varuna_c.specs.Inputs.{sizesIn}
 use borrow.Author.Needs.{needs}
 use Rattle.varuna_c.proofs.inputs.sizes_in.Statement.{statement}

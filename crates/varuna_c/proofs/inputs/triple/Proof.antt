@@ -1,6 +1,6 @@
 -- `varuna_c::inputs::triple` meets its contract. Assumes nothing.
 use mathlib.Core.Path.{refl}
-use Rattle.varuna.specs.Session.{threeAt}
+use Rattle.verifier.specs.Session.{threeAt}
 use borrow.Author.Needs.{needs}
 use Rattle.varuna_c.proofs.inputs.triple.Statement.{statement}
 use Rattle.varuna_c.proofs.inputs.triple.Tie as tie

@@ -5,7 +5,7 @@ use Rattle.domain.specs.BabyBear.{babyBear}
 use Rattle.protocol.specs.Three.{Three}
 use Prim.Native.Nat.{ℕ}
 use Rattle.circuit.specs.Given.{proverInput}
-use Rattle.varuna.specs.Session.{threeAt}
+use Rattle.verifier.specs.Session.{threeAt}
 use Rattle.varuna.specs.Answers.{fills}
 use Rattle.protocol.specs.Refusals.{Outcome}
 use mathlib.Core.List.{List}

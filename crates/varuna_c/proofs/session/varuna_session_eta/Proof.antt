@@ -5,7 +5,7 @@ use Rattle.domain.specs.BabyBear.{babyBear}
 use Rattle.protocol.specs.Three.{Three}
 use Prim.Native.Nat.{ℕ}
 use Rattle.protocol.specs.Session as steps
-use Rattle.varuna.specs.Session.{sessionOf}
+use Rattle.verifier.specs.Session.{sessionOf}
 use Rattle.varuna_c.specs.Answers.{stepAnswered}
 use Rattle.protocol.specs.Session.{etaStep}
 use borrow.Author.Needs.{needs}

@@ -2,7 +2,7 @@
 use mathlib.Core.Path.{ap, ap₂, _∙_}
 use Rattle.domain.specs.BabyBear.{babyBear}
 use Rattle.protocol.specs.Session as steps
-use Rattle.varuna.specs.Session.{threeAt}
+use Rattle.verifier.specs.Session.{threeAt}
 use Rattle.varuna_c.specs.Answers.{lastAnswered}
 use Rattle.varuna_c.specs.Inputs.{openingsIn}
 use Rattle.protocol.specs.Meanings.{openings}

@@ -4,7 +4,7 @@ use Rattle.protocol.specs.Messages.{lengths}
 use Rattle.protocol.specs.Refusals.{turnRefusal, lengthRefusal}
 use Rattle.protocol.specs.Session.{inTurn, deltaRefusal}
 use Rattle.protocol.specs.Three.{A, B, C, listed}
-use Rattle.verifier.proofs.AllowedSizes.{Allowed, in-turn-allowed, size-range}
+use Rattle.verdict.proofs.AllowedSizes.{Allowed, in-turn-allowed, size-range}
 use Rattle.protocol.proofs.Rows.{word-row}
 use Rattle.verifier.proofs.FirstLaws.{first-pair}
 use borrow.Author.Needs.{needs}

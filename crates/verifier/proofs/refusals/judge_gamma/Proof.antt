@@ -7,7 +7,7 @@ use Rattle.protocol.specs.Meanings.{sizes}
 use Rattle.protocol.specs.Messages.{lengths}
 use Rattle.protocol.specs.Refusals.{refuse, turnRefusal, challengeRefusal, lengthRefusal}
 use Rattle.protocol.specs.Session.{inTurn, gammaRefusal}
-use Rattle.verifier.proofs.AllowedSizes.{Allowed, in-turn-allowed, largest-size, size-range}
+use Rattle.verdict.proofs.AllowedSizes.{Allowed, in-turn-allowed, largest-size, size-range}
 use Rattle.protocol.proofs.Rows.{word-row}
 use Rattle.verifier.proofs.FirstLaws.{first-three}
 use borrow.Author.Needs.{needs}

@@ -1,0 +1,4 @@
+pub mod MatrixTerms
+pub mod MatrixForms
+pub mod JoinedForms
+pub mod GivenLaws

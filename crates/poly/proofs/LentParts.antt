@@ -1,0 +1,84 @@
+-- The first n entries of an array, lent to a call that fills them and lent again: e is what the call left there, d the array before.
+-- Also words that a call computed, as elements. Assumes nothing.
+use mathlib.Core.Path.{_≡_, sym, ap, ap₂, _∙_}
+use mathlib.Core.List.{List, _++_, map}
+use Prim.Native.Nat.{ℕ, _+_, _-_, _≤_, _<_}
+use native.Mathlib.Omega.{arith}
+use lib.ListN.{length, take, drop, replicate, length-replicate}
+use lib.Seq.{length-take-le, length-front, take-at}
+use Rattle.field.specs.Prime.{Prime}
+use Rattle.field.specs.Element.{Elem, of, words}
+use Rattle.field.proofs.Words.{of-results}
+use Rattle.domain.specs.Polynomial.{interpolate}
+
+module _ (n : ℕ) (d : List ℕ) (within : n ≤ length d) where
+  pub part-length : n ≡ length (take n d)
+  part-length = sym (length-take-le n d within)
+
+  module _ (e : List ℕ) (kept : length e ≡ length (take n d)) where
+    pub filled-within : n ≤ length (e ++ drop n d)
+    filled-within = omega (arith, length-front d e n kept)
+
+    pub filled-part : take n (e ++ drop n d) ≡ e
+    filled-part = take-at e (drop n d) n (kept ∙ sym part-length)
+
+    pub filled-length : n ≡ length (take n (e ++ drop n d))
+    filled-length = part-length ∙ sym kept ∙ ap length (sym filled-part)
+
+module _ {q : Prime} where
+  -- the elements of words that were computed in the first n entries of an array
+  pub of-filled : (n : ℕ) (d : List ℕ) → n ≤ length d → (e : List ℕ) → length e ≡ length (take n d) → (l : List (Elem q)) → e ≡ words l
+      → map of (take n (e ++ drop n d)) ≡ l
+  of-filled n d within e kept l made = of-results l (filled-part n d within e kept ∙ made)
+
+  -- and the polynomial that has them as its values
+  pub interpolate-part : (n : ℕ) (d : List ℕ) → n ≤ length d → (e : List ℕ) → length e ≡ length (take n d) → (l : List (Elem q)) → map of e ≡ l
+      → words (interpolate {q = q} (length (take n (e ++ drop n d))) (map of (take n (e ++ drop n d)))) ≡ words (interpolate n l)
+  interpolate-part n d within e kept l made =
+      ap₂ (λ (m : ℕ) (l : List (Elem q)). words (interpolate m l)) (sym (filled-length n d within e kept))
+      (ap (map of) (filled-part n d within e kept) ∙ made)
+
+-- an order of two parts' lengths from that of their numbers
+pub parts-order : {m n m′ n′ : ℕ} → m ≡ m′ → n ≡ n′ → m ≤ n → m′ ≤ n′
+parts-order e d le = omega arith
+
+pub part-order : {m m′ n : ℕ} → m ≡ m′ → m ≤ n → m′ ≤ n
+part-order e le = omega arith
+
+-- a part of n + 1 entries
+module _ (n : ℕ) {m : ℕ} (e : n + 1 ≡ m) where
+  pub part-above : 0 < m
+  part-above = omega arith
+
+  pub above-one : 0 < n → 1 < m
+  above-one positive = omega arith
+
+  pub one-less : m - 1 ≡ n
+  one-less = omega arith
+
+-- an array of s zeros, as it is made; and after its first n words were lent and came back as l
+abbrev pub array : ℕ → List ℕ
+array s = replicate s 0
+
+abbrev pub returned : ℕ → ℕ → List ℕ → List ℕ
+returned s n l = l ++ drop n (array s)
+
+module _ (s : ℕ) {n : ℕ} (fits : n ≤ s) where
+  within : n ≤ length (array s)
+  within = omega (arith, length-replicate {A = ℕ} s 0)
+
+  pub lent-length : n ≡ length (take n (array s))
+  lent-length = part-length n (array s) within
+
+  module _ (l : List ℕ) (kept : length l ≡ length (take n (array s))) where
+    pub back-holds : n ≤ length (returned s n l)
+    back-holds = filled-within n (array s) within l kept
+
+    pub back-length : n ≡ length (take n (returned s n l))
+    back-length = filled-length n (array s) within l kept
+
+    pub back-is : take n (returned s n l) ≡ l
+    back-is = filled-part n (array s) within l kept
+
+    pub back-list : {q : Prime} (f : List (Elem q)) → l ≡ words f → map of (take n (returned s n l)) ≡ f
+    back-list f e = of-filled n (array s) within l kept f e

@@ -1,0 +1,2 @@
+pub mod AllowedSizes
+pub mod PublicValue

@@ -1,0 +1,42 @@
+-- `verdict::matrix_term` meets its contract. Assumes nothing.
+use Rattle.field.proofs.Words.{of-result}
+use Rattle.field.specs.Element.{Elem, of, _⊗_}
+use Rattle.protocol.specs.Checks.{selector, matrixLeft}
+use Rattle.protocol.specs.Index.{mapIndex}
+use Rattle.protocol.specs.Meanings.{sizes, indexWords}
+use borrow.Author.Needs.{needs}
+use Rattle.verdict.proofs.matrix_term.Statement.{statement}
+use Rattle.verdict.proofs.matrix_term.Tie as tie
+
+selector-requires : tie.Need-selector-requires
+selector-requires c κs = search needs
+
+multiply-requires : tie.Need-multiply-requires
+multiply-requires c κs = search needs
+
+matrix-left-requires : tie.Need-matrix-left-requires
+matrix-left-requires c κs = search needs
+
+multiply-requires-2 : tie.Need-multiply-requires-2
+multiply-requires-2 c κs = search needs
+
+returns : tie.Need-returns
+returns c q e M k =
+    let a = c .before .before .before .before .args in
+    let s = sizes (a .s) in
+    let γ : Elem q = of (a .h .gamma) in
+    let index = mapIndex (of {q = q}) (indexWords (a .index)) in
+    let share = c .before .before .before .selector in
+    let share-is = of-result (selector s M γ) (share .ensures q e M k) in
+    let weight = c .before .before .multiply in
+    let weight-is = of-result (of {q = q} (a .delta) ⊗ of (share .result)) (weight .ensures q e) in
+    let left = c .before .matrix-left in
+    let left-is = of-result (matrixLeft s M (of (a .h .alpha)) (of (a .h .beta)) (of (a .value)) index γ (of (a .remainder))) (left .ensures q e M k) in
+    let term = c .multiply2 in
+    let term-is = term .ensures q e in
+    cc
+
+pub matrix-term-spec : {M : Type 1} → statement M
+matrix-term-spec =
+    tie.close
+    (tie.spec selector-requires multiply-requires matrix-left-requires multiply-requires-2 returns)

@@ -1,0 +1,83 @@
+-- What it means for the code that nothing refuses a step: it is in turn, with sizes that are allowed; and public words fit the
+-- session. Assumes nothing.
+use mathlib.Core.Path.{_≡_, sym}
+use mathlib.Core.Bool.{true}
+use mathlib.Core.List.{List, [], _∷_, _++_}
+use mathlib.Core.Option.{Option, none}
+use Prim.Native.Nat.{ℕ, _≤_}
+use native.Mathlib.Omega.{arith}
+use lib.Dec.{eqb}
+use lib.ListN.{length}
+use borrow.Author.Tests.{eqb-true}
+use Rattle.field.specs.Prime.{Prime}
+use Rattle.field.specs.Element.{of}
+use Rattle.domain.specs.Size.{maxSize}
+use Rattle.domain.proofs.SizeLaws.{size-bound}
+use Rattle.protocol.specs.Three.{Three, listed}
+use Rattle.protocol.specs.Circuit.{Sizes, largest}
+use Rattle.protocol.specs.Checks.{Openings, listOpenings}
+use Rattle.protocol.specs.Messages.{lengths}
+use Rattle.protocol.specs.Refusals.{Refusal, first, sixSizeTests, turnRefusal, sizeRefusal, listRefusal, wordRefusal, challengeRefusal, lengthRefusal}
+use Rattle.protocol.specs.Session.{all, inTurn, openRefusal, alphaRefusal, etaRefusal, betaRefusal, deltaRefusal, gammaRefusal, openingsRefusal}
+use Rattle.protocol.proofs.RefusalLaws.{first-none, refuse-none, and-true}
+use Rattle.verifier.proofs.FirstLaws.{row-passes}
+use Rattle.verdict.proofs.AllowedSizes.{allowed}
+
+pub record InTurn (n stage : ℕ) (s : Sizes) : Type 0 where
+  pub stage-is : stage ≡ n
+  pub sizes-allowed : all (sixSizeTests s) ≡ true
+
+module _ (q : Prime) (stage : ℕ) (s : Sizes) where
+  turn : (n : ℕ) (rows : List (Option Refusal)) → first (turnRefusal (inTurn n stage s) ∷ rows) ≡ none → InTurn n stage s
+  unfolding turnRefusal inTurn
+  turn n rows e =
+      let passed : inTurn n stage s ≡ true = refuse-none 1 0 (inTurn n stage s ∷ []) (first-none (turnRefusal (inTurn n stage s) ∷ rows) e .0) .0 in
+      let (same, sized) = and-true (eqb stage n) (all (sixSizeTests s)) passed in
+      record { stage-is = eqb-true stage n same; sizes-allowed = sized }
+
+  pub alpha-turn : (witness mask quotient α : ℕ) → alphaRefusal q stage s witness mask quotient α ≡ none → InTurn 1 stage s
+  unfolding alphaRefusal
+  alpha-turn witness mask quotient α =
+      turn 1
+      (wordRefusal q (α ∷ [])
+      ∷ challengeRefusal {q = q} 0 (s .R ∷ []) (of α ∷ [])
+      ∷ lengthRefusal (witness ∷ mask ∷ quotient ∷ []) (lengths s .witness ∷ lengths s .mask ∷ lengths s .rowQuotient ∷ [])
+      ∷ [])
+
+  pub eta-turn : (sums η : Three ℕ) → etaRefusal q stage s sums η ≡ none → InTurn 2 stage s
+  unfolding etaRefusal
+  eta-turn sums η = turn 2 (wordRefusal q (listed sums ++ listed η) ∷ [])
+
+  pub beta-turn : (remainder quotient β : ℕ) → betaRefusal q stage s remainder quotient β ≡ none → InTurn 3 stage s
+  unfolding betaRefusal
+  beta-turn remainder quotient β =
+      turn 3
+      (wordRefusal q (β ∷ [])
+      ∷ challengeRefusal {q = q} 1 (s .C ∷ []) (of β ∷ [])
+      ∷ lengthRefusal (remainder ∷ quotient ∷ []) (lengths s .lineRemainder ∷ lengths s .lineQuotient ∷ [])
+      ∷ [])
+
+  pub delta-turn : (values remainders δ : Three ℕ) → deltaRefusal q stage s values remainders δ ≡ none → InTurn 4 stage s
+  unfolding deltaRefusal
+  delta-turn values remainders δ =
+      turn 4 (wordRefusal q (listed values ++ listed δ) ∷ lengthRefusal (listed remainders) (listed (lengths s .matrixRemainders)) ∷ [])
+
+  pub gamma-turn : (quotient γ : ℕ) → gammaRefusal q stage s quotient γ ≡ none → InTurn 5 stage s
+  unfolding gammaRefusal
+  gamma-turn quotient γ =
+      turn 5
+      (wordRefusal q (γ ∷ [])
+      ∷ challengeRefusal {q = q} 2 (largest (s .K) ∷ []) (of γ ∷ [])
+      ∷ lengthRefusal (quotient ∷ []) (lengths s .joinedQuotient ∷ [])
+      ∷ [])
+
+  pub openings-turn : (o : Openings ℕ) → openingsRefusal q stage s o ≡ none → InTurn 6 stage s
+  unfolding openingsRefusal
+  openings-turn o = turn 6 (wordRefusal q (listOpenings o) ∷ [])
+
+pub words-fit : (q : Prime) (s : Sizes) (x : List ℕ) → openRefusal q s x ≡ none → length x ≤ maxSize
+unfolding openRefusal sizeRefusal listRefusal
+words-fit q s x e =
+    let rows = first-none (sizeRefusal (sixSizeTests s) ∷ listRefusal (eqb (length x) (s .X) ∷ []) ∷ wordRefusal q x ∷ []) e in
+    let same : length x ≡ s .X = eqb-true (length x) (s .X) (refuse-none 5 0 (eqb (length x) (s .X) ∷ []) (rows .1 .0) .0) in
+    omega (arith, size-bound (s .X) (allowed s (row-passes 4 0 (sixSizeTests s) (sym (rows .0))) .X-size))

@@ -1,0 +1,93 @@
+-- `verifier::session::Session::openings` meets its contract. Assumes nothing.
+use Prim.Native.Nat.{ℕ, suc, _≤_}
+use Rattle.domain.proofs.Qualification.{babyBear-qualifies}
+use Rattle.domain.proofs.SizeLaws.{size-bound}
+use Rattle.domain.specs.BabyBear.{babyBear}
+use Rattle.domain.specs.Size.{maxSize}
+use Rattle.protocol.specs.Checks.{Verdict}
+use Rattle.protocol.specs.Meanings.{faultRefusal, sizes, heard, openings}
+use Rattle.protocol.specs.Session as steps
+use Rattle.protocol.specs.Session.{Judged, openingsRefusal, openingsStep, verdictOf}
+use Rattle.verifier.proofs.Turns.{InTurn, openings-turn}
+use Rattle.verdict.proofs.AllowedSizes.{allowed}
+use borrow.Author.Needs.{needs}
+use lib.ListN.{length, length-map}
+use lib.Seq.{length-take-le}
+use mathlib.Core.Path.{_≡_, refl, sym, ap, ap₂, _∙_}
+use native.Mathlib.Omega.{arith}
+use Rattle.verifier.proofs.session.Session.openings.Statement.{statement}
+use Rattle.verifier.proofs.session.Session.openings.Tie as tie
+
+judged : (c : tie.After-judge-openings) → let a = c .before .args in
+    openingsRefusal babyBear (a .self .stage) (sizes (a .self .sizes)) (openings (a .o) (a .index)) ≡ faultRefusal (c .judge-openings .result)
+judged c = sym (c .judge-openings .ensures babyBear refl)
+
+-- what nothing refuses is in turn, with sizes that are allowed
+turn : (c : tie.After-enum-told) → let a = c .before .before .before .args in InTurn 6 (a .self .stage) (sizes (a .self .sizes))
+turn c =
+    let a = c .before .before .before .args in
+    openings-turn babyBear (a .self .stage) (sizes (a .self .sizes)) (openings (a .o) (a .index))
+    (judged (c .before .before) ∙ ap faultRefusal (c .enum-told .given .1))
+
+-- the public words lie within the session's 1,024, whose number is told by owning the session
+within : (c : tie.After-enum-told) → let a = c .before .before .before .args in a .self .sizes .x ≤ length (a .self .x)
+within c =
+    let start = c .before .before .before in
+    let s = start .args .self in
+    let whole : length (s .x) ≡ maxSize = sym (length-map (s .x) (λ w. w)) ∙ start .good .0 .1 .1 .1 .1 .0 .1 .0 .1 in
+    omega (arith, size-bound (s .sizes .x) (allowed (sizes (s .sizes)) (turn c .sizes-allowed) .X-size))
+
+judge-openings-requires : tie.Need-judge-openings-requires
+judge-openings-requires c κs = search needs
+
+enum-known-number : tie.Need-enum-known-number
+enum-known-number c = search needs
+
+enum-told : tie.Need-enum-told
+enum-told c = search needs
+
+cast-n : tie.Need-cast-n
+cast-n c = search needs
+
+array-share-prefix-x : tie.Need-array-share-prefix-x
+array-share-prefix-x c = within (c .before .before)
+
+slice-aggregate-verdict : tie.Need-slice-aggregate-verdict
+slice-aggregate-verdict c =
+    let a = c .before .before .before .before .before .before .args in
+    sym (length-take-le (a .self .sizes .x) (a .self .x) (within (c .before .before .before)))
+
+verdict-requires : tie.Need-verdict-requires
+verdict-requires c κs =
+    let t = c .before .before .before in
+    let a = c .before .before .before .before .before .before .args in
+    (search needs, (turn t .sizes-allowed, length-take-le (a .self .sizes .x) (a .self .x) (within t)))
+
+returns : tie.Need-returns
+unfolding openingsStep
+returns c = rw (judged (c .before .before .before) ∙ ap faultRefusal (c .before .number .given .1))
+
+returns-2 : tie.Need-returns-2
+unfolding openingsStep verdictOf
+returns-2 c =
+    let t = c .before .before .before .before in
+    let s = t .before .before .before .args .self in
+    let next : 7 ≡ suc (s .stage) = omega (arith, turn t .stage-is) in
+    let judging : ℕ → Verdict → steps.Stepped = λ n v.
+    record { session = record { stage = n; sizes = sizes (s .sizes); x = s .x; heard = heard (s .heard) }; answer = Judged v } in
+    rw (judged (t .before .before) ∙ ap faultRefusal (t .enum-told .given .1))
+    (ap₂ judging next (c .verdict .ensures babyBear (record { is-module = refl; value = refl }) babyBear-qualifies))
+
+pub openings-spec : {M : Type 1} → statement M
+openings-spec =
+    tie.close
+    (tie.spec
+    judge-openings-requires
+    enum-known-number
+    enum-told
+    cast-n
+    array-share-prefix-x
+    slice-aggregate-verdict
+    verdict-requires
+    returns
+    returns-2)

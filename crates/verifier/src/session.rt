@@ -1,0 +1,370 @@
+// The verifier's session. Each of the seven steps takes the session and gives back the next one with its answer, or the same one where
+// the step is refused.
+ghost use mathlib.Core.Path.{_≡_};
+ghost use mathlib.Core.List.{_++_};
+ghost use Prim.Native.Nat.{suc, _+_, _-_, _≤_};
+ghost use lib.ListN.{length, replicate};
+ghost use lib.Seq.{paste};
+ghost use Rattle.domain.specs.Size.{maxSize};
+ghost use Rattle.domain.specs.BabyBear.{babyBear};
+ghost use Rattle.protocol.specs.Session.{unopened, silence, onward, openStep, alphaStep, etaStep, betaStep, deltaStep, gammaStep, openingsStep};
+ghost use Rattle.protocol.specs.Session as steps;
+ghost use Rattle.protocol.specs.Meanings.{three, sizes, heard};
+ghost use Rattle.protocol.specs.Meanings as meanings;
+ghost use Rattle.verifier.specs.Session.{sessionMeaning, steppedMeaning, finishedMeaning, sessionOf, sessionWords, heardOf, heardWords, threeAt};
+use crate::refusals;
+use field::MODULE_PRIME;
+use protocol::Fault;
+use protocol::Heard;
+use protocol::Opened;
+use protocol::Sizes;
+use protocol::Triple;
+use protocol::Verdict;
+
+// The steps taken, the sizes, the public words with zeros after them, and what was heard.
+pub struct Session {
+    stage: u32,
+    sizes: Sizes,
+    x: [u32; 1024],
+    heard: Heard,
+}
+
+pub enum Answer {
+    Taken,
+    Refused(u32, usize),
+}
+
+pub enum LastAnswer {
+    Judged(Verdict),
+    Refused(u32, usize),
+}
+
+pub struct Stepped {
+    pub session: Session,
+    pub answer: Answer,
+}
+
+pub struct Finished {
+    pub session: Session,
+    pub answer: LastAnswer,
+}
+
+// A session as words: the stage, the six sizes, the words of x, and what was heard.
+const SESSION_WORDS: usize = 1046;
+
+const X_START: usize = 7;
+
+const HEARD_START: usize = 1031;
+
+// Nothing heard yet.
+fn nothing() -> Heard
+    ensures { λ r. ⌜ heard r ≡ silence ⌝ }
+{
+    let zeros = Triple { a: 0, b: 0, c: 0 };
+    Heard {
+        alpha: 0,
+        sums: zeros,
+        eta: zeros,
+        beta: 0,
+        values: zeros,
+        delta: zeros,
+        gamma: 0,
+    }
+}
+
+// The words, and zeros after them.
+fn padded(words: &[u32]) -> [u32; 1024]
+    requires { ⌜ length (now words) ≤ maxSize ⌝ }
+    ensures { λ r. ⌜ r ≡ now (words .entry) ++ replicate (maxSize - length (now (words .entry))) 0 ⌝ }
+{
+    let mut x = [0u32; 1024];
+    let mut i = 0;
+    while i < words.len() {
+        x[i] = words[i];
+        i += 1;
+    }
+    x
+}
+
+// The source's words from a place on.
+fn put_words(out: &mut [u32], at: usize, source: &[u32])
+    requires { ⌜ at + length (now source) ≤ length (now out) ⌝ }
+    ensures { λ _. ⌜ now (out .exit) ≡ paste (now (out .entry)) at (now (source .entry)) (length (now (source .entry))) ⌝ }
+{
+    let mut i = 0;
+    while i < source.len() {
+        out[at + i] = source[i];
+        i += 1;
+    }
+}
+
+// Three words from a place on.
+fn triple_at(words: &[u32; SESSION_WORDS], at: usize) -> Triple
+    requires { ⌜ at + 3 ≤ 1046 ⌝ }
+    ensures { λ r. ⌜ three r ≡ threeAt (now (words .entry)) at ⌝ }
+{
+    Triple {
+        a: words[at],
+        b: words[at + 1],
+        c: words[at + 2],
+    }
+}
+
+// What was heard, from a session's words.
+fn heard_in(words: &[u32; SESSION_WORDS]) -> Heard
+    ensures { λ r. ⌜ heard r ≡ heardOf (now (words .entry)) ⌝ }
+{
+    Heard {
+        alpha: words[HEARD_START],
+        sums: triple_at(words, HEARD_START + 1),
+        eta: triple_at(words, HEARD_START + 4),
+        beta: words[HEARD_START + 7],
+        values: triple_at(words, HEARD_START + 8),
+        delta: triple_at(words, HEARD_START + 11),
+        gamma: words[HEARD_START + 14],
+    }
+}
+
+// The words of what was heard.
+fn heard_words(h: Heard) -> [u32; SESSION_WORDS - HEARD_START]
+    ensures { λ r. ⌜ r ≡ heardWords (heard h) ⌝ }
+{
+    [
+        h.alpha,
+        h.sums.a,
+        h.sums.b,
+        h.sums.c,
+        h.eta.a,
+        h.eta.b,
+        h.eta.c,
+        h.beta,
+        h.values.a,
+        h.values.b,
+        h.values.c,
+        h.delta.a,
+        h.delta.b,
+        h.delta.c,
+        h.gamma,
+    ]
+}
+
+impl Session {
+    // The session with these words, also one that no step made.
+    pub fn from_words(words: &[u32; SESSION_WORDS]) -> Session
+        ensures { λ r. ⌜ sessionMeaning r ≡ sessionOf (now (words .entry)) ⌝ }
+    {
+        let all = &words[..];
+        let x = padded(&all[X_START..HEARD_START]);
+        Session {
+            stage: words[0],
+            sizes: Sizes {
+                r: words[1],
+                c: words[2],
+                x: words[3],
+                k: triple_at(words, 4),
+            },
+            x: x,
+            heard: heard_in(words),
+        }
+    }
+
+    // The words of the session.
+    pub fn into_words(self, out: &mut [u32; SESSION_WORDS])
+        ensures { λ _. ⌜ now (out .exit) ≡ sessionWords (sessionMeaning self) ⌝ }
+    {
+        let s = self.sizes;
+        let first = [self.stage, s.r, s.c, s.x, s.k.a, s.k.b, s.k.c];
+        let x = self.x;
+        let last = heard_words(self.heard);
+        put_words(out, 0, &first);
+        put_words(out, X_START, &x);
+        put_words(out, HEARD_START, &last);
+    }
+
+    // A session before it is opened.
+    pub fn new() -> Session
+        ensures { λ r. ⌜ sessionMeaning r ≡ unopened ⌝ }
+    {
+        Session {
+            stage: 0,
+            sizes: Sizes {
+                r: 0,
+                c: 0,
+                x: 0,
+                k: Triple { a: 0, b: 0, c: 0 },
+            },
+            x: [0u32; 1024],
+            heard: nothing(),
+        }
+    }
+
+    // The same session, and the refusal.
+    fn refused(self, number: u32, position: usize) -> Stepped
+        ensures { λ r. ⌜ steppedMeaning r
+            ≡ record { session = sessionMeaning self; answer = steps.Refused (record { number = number; position = position }) } ⌝ }
+    {
+        Stepped {
+            session: self,
+            answer: Answer::Refused(number, position),
+        }
+    }
+
+    // The session one step on, having heard h.
+    fn taken(self, stage: u32, h: Heard) -> Stepped
+        requires { ⌜ stage ≡ suc (self .stage) ⌝ }
+        ensures { λ r. ⌜ steppedMeaning r ≡ onward (sessionMeaning self) (heard h) steps.Taken ⌝ }
+    {
+        let mut next = self;
+        next.stage = stage;
+        next.heard = h;
+        Stepped {
+            session: next,
+            answer: Answer::Taken,
+        }
+    }
+
+    // Opening makes a new session, and is never out of turn.
+    pub fn open(self, s: Sizes, x: &[u32]) -> Stepped
+        ensures { λ r. ⌜ steppedMeaning r ≡ openStep babyBear (sessionMeaning self) (sizes s) (now (x .entry)) ⌝ }
+    {
+        match refusals::judge_open(MODULE_PRIME, s, x) {
+            Fault::Refused(number, position) => self.refused(number, position),
+            Fault::Fine => {
+                let opened = Session {
+                    stage: 1,
+                    sizes: s,
+                    x: padded(x),
+                    heard: nothing(),
+                };
+                Stepped {
+                    session: opened,
+                    answer: Answer::Taken,
+                }
+            }
+        }
+    }
+
+    // Declared lengths of ŵ, m, h0, then α.
+    pub fn alpha(self, witness: u32, mask: u32, quotient: u32, alpha: u32) -> Stepped
+        ensures { λ r. ⌜ steppedMeaning r ≡ alphaStep babyBear (sessionMeaning self) witness mask quotient alpha ⌝ }
+    {
+        match refusals::judge_alpha(
+            MODULE_PRIME,
+            self.stage,
+            self.sizes,
+            witness,
+            mask,
+            quotient,
+            alpha,
+        ) {
+            Fault::Refused(number, position) => self.refused(number, position),
+            Fault::Fine => {
+                let mut h = self.heard;
+                h.alpha = alpha;
+                self.taken(2, h)
+            }
+        }
+    }
+
+    // The three σ, then the three η.
+    pub fn eta(self, sums: Triple, eta: Triple) -> Stepped
+        ensures { λ r. ⌜ steppedMeaning r ≡ etaStep babyBear (sessionMeaning self) (three sums) (three eta) ⌝ }
+    {
+        match refusals::judge_eta(MODULE_PRIME, self.stage, self.sizes, sums, eta) {
+            Fault::Refused(number, position) => self.refused(number, position),
+            Fault::Fine => {
+                let mut h = self.heard;
+                h.sums = sums;
+                h.eta = eta;
+                self.taken(3, h)
+            }
+        }
+    }
+
+    // Declared lengths of g1, h1, then β.
+    pub fn beta(self, remainder: u32, quotient: u32, beta: u32) -> Stepped
+        ensures { λ r. ⌜ steppedMeaning r ≡ betaStep babyBear (sessionMeaning self) remainder quotient beta ⌝ }
+    {
+        match refusals::judge_beta(
+            MODULE_PRIME,
+            self.stage,
+            self.sizes,
+            remainder,
+            quotient,
+            beta,
+        ) {
+            Fault::Refused(number, position) => self.refused(number, position),
+            Fault::Fine => {
+                let mut h = self.heard;
+                h.beta = beta;
+                self.taken(4, h)
+            }
+        }
+    }
+
+    // The three ω and declared lengths of the g_M, then the three δ.
+    pub fn delta(self, values: Triple, remainders: Triple, delta: Triple) -> Stepped
+        ensures { λ r. ⌜ steppedMeaning r ≡ deltaStep babyBear (sessionMeaning self) (three values) (three remainders) (three delta) ⌝ }
+    {
+        match refusals::judge_delta(
+            MODULE_PRIME,
+            self.stage,
+            self.sizes,
+            values,
+            remainders,
+            delta,
+        ) {
+            Fault::Refused(number, position) => self.refused(number, position),
+            Fault::Fine => {
+                let mut h = self.heard;
+                h.values = values;
+                h.delta = delta;
+                self.taken(5, h)
+            }
+        }
+    }
+
+    // Declared length of h2, then γ.
+    pub fn gamma(self, quotient: u32, gamma: u32) -> Stepped
+        ensures { λ r. ⌜ steppedMeaning r ≡ gammaStep babyBear (sessionMeaning self) quotient gamma ⌝ }
+    {
+        match refusals::judge_gamma(MODULE_PRIME, self.stage, self.sizes, quotient, gamma) {
+            Fault::Refused(number, position) => self.refused(number, position),
+            Fault::Fine => {
+                let mut h = self.heard;
+                h.gamma = gamma;
+                self.taken(6, h)
+            }
+        }
+    }
+
+    // The 21 openings, and the verdict; after it every step is out of turn.
+    pub fn openings(self, o: Opened, index: [[u32; 4]; 3]) -> Finished
+        ensures { λ r. ⌜ finishedMeaning r ≡ openingsStep babyBear (sessionMeaning self) (meanings.openings o index) ⌝ }
+    {
+        match refusals::judge_openings(MODULE_PRIME, self.stage, self.sizes, o, index) {
+            Fault::Refused(number, position) => Finished {
+                session: self,
+                answer: LastAnswer::Refused(number, position),
+            },
+            Fault::Fine => {
+                let x = self.x;
+                let n = self.sizes.x as usize;
+                let verdict = verdict::verdict(
+                    MODULE_PRIME,
+                    self.sizes,
+                    &x[..n],
+                    self.heard,
+                    o,
+                    index,
+                );
+                let mut closed = self;
+                closed.stage = 7;
+                Finished {
+                    session: closed,
+                    answer: LastAnswer::Judged(verdict),
+                }
+            }
+        }
+    }
+}
