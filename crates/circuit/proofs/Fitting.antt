@@ -7,27 +7,48 @@ use Prim.Native.Nat.{ℕ, _≤_, _<_}
 use native.Mathlib.Omega.{arith}
 use lib.Dec.{eqb}
 use lib.ListN.{length}
-use borrow.Author.Tests.{le-leb}
+use borrow.Author.Tests.{eqb-true, le-leb}
 use Rattle.algebra.specs.Counting.{All}
 use Rattle.algebra.proofs.Counting.{append-all}
 use Rattle.field.specs.Prime.{Prime}
 use Rattle.field.specs.Element.{Elem, of}
-use Rattle.domain.specs.Size.{maxSize, isSize}
+use Rattle.domain.specs.Size.{maxSize, isSize, sizeFor}
 use Rattle.domain.specs.Domain.{inside}
+use Rattle.protocol.specs.Three.{Three}
 use Rattle.protocol.specs.Circuit.{Circuit, sizesOf, largest}
-use Rattle.protocol.specs.Refusals.{first, refuse, pairs, sizeTests, sizeRefusal, listRefusal, wordRefusal, entryRefusal, maskRefusal, assignmentRefusal, challengeRefusal}
+use Rattle.protocol.specs.Index.{Index}
+use Rattle.protocol.specs.Refusals.{refuse, pairs, sizeTests}
+use Rattle.protocol.specs.Refusals.{sizeRefusal, listRefusal, wordRefusal, entryRefusal, maskRefusal, assignmentRefusal, challengeRefusal}
 use Rattle.protocol.specs.Admission.{Admitted, assignmentTests, countTests, entryValues, circuitRefusals}
 use Rattle.protocol.specs.Calls.{CircuitWords, entriesOf, circuitOf, entryListTests, roundRefusal}
 use Rattle.protocol.proofs.RefusalLaws.{first-none, none-first, refuse-none, none-refuse, wordRefusal-none, none-wordRefusal}
 use Rattle.protocol.proofs.AdmissionLaws.{admitted-well-formed}
 use Rattle.circuit.specs.Given.{given, proverInput, Fits, EntryWords, ThreeLists, CircuitShaped, Shaped, EachWithin}
-use Rattle.circuit.specs.Judgement.{indexShapeRefusal, shapeRefusal, indexContentsRefusal, contentsRefusal}
+use Rattle.circuit.specs.Judgement.{indexShapeRefusal, shapeRefusal, indexDue, indexRefusal, indexContentsRefusal, contentsRefusal}
+use Rattle.circuit.specs.IndexParts.{twelveLengths, IndexLengths}
 use Rattle.circuit.proofs.Entries.{length-entriesOf}
 use Rattle.circuit.proofs.Parts.{index-in-parts, prover-in-parts, index-shape-fits, shape-fits, entries-within}
 
 -- 1,024 entries at most
 pub few-entries : (l : List ℕ) → EntryWords l → length (entriesOf l) ≤ maxSize
 few-entries l h = omega (arith, length-entriesOf l, h .few)
+
+-- the four slices that are lent for a matrix have length |K_M|
+abbrev FourFit : List ℕ → Index (List ℕ) → Type 0
+FourFit l t = IndexLengths (sizeFor (length (entriesOf l))) (t .row) (t .col) (t .rowcol) (t .rowcolval)
+
+module _ (l : List ℕ) (t : Index (List ℕ)) where
+  abbrev passes : List ℕ → Type 0
+  passes s = eqb (length s) (sizeFor (length (entriesOf l))) ≡ true
+
+  four-fit : passes (t .row) → passes (t .col) → passes (t .rowcol) → passes (t .rowcolval) → FourFit l t
+  four-fit row col rowcol rowcolval =
+      record {
+        row-length = eqb-true _ _ row;
+        col-length = eqb-true _ _ col;
+        rowcol-length = eqb-true _ _ rowcol;
+        rowcolval-length = eqb-true _ _ rowcolval;
+      }
 
 module _ (r c x : ℕ) (ea eb ec : List ℕ) where
   abbrev words : CircuitWords
@@ -106,17 +127,29 @@ module _ (r c x : ℕ) (ea eb ec : List ℕ) where
               refuse-none 10 0 (pointTests q points) (contents .1 .1 .1 .1 .0);
         }
 
-  module _ (q : Prime) (lent due : List ℕ) where
+  -- what an indexer's call that is let through brings, where t are its lent slices
+  module _ (q : Prime) (t : Three (Index (List ℕ))) where
     pub record IndexFits : Type 0 where
       pub shape : CircuitShaped r c ea eb ec
-      pub lent-fit : All (λ t. t ≡ true) (pairs eqb lent due)
+      pub lent-a : FourFit ea (t .a)
+      pub lent-b : FourFit eb (t .b)
+      pub lent-c : FourFit ec (t .c)
 
-    pub index-fits : first (circuitRefusals q (circuitOf words) (entryListTests words ++ pairs eqb lent due) []) ≡ none → IndexFits
+    pub index-fits : indexRefusal q words (twelveLengths t) ≡ none → IndexFits
+    unfolding indexRefusal indexDue circuitOf
     index-fits free =
+        let tests : List Bool = pairs eqb (twelveLengths t) (indexDue (circuitOf words .matrices)) in
         let parts =
-        first-none (indexShapeRefusal words ∷ refuse 5 3 (pairs eqb lent due) ∷ indexContentsRefusal q (circuitOf words) ∷ [])
-        (sym (index-in-parts q words (pairs eqb lent due)) ∙ free) in
-        record { shape = index-shape-fits r c x ea eb ec (parts .0); lent-fit = refuse-none 5 3 (pairs eqb lent due) (parts .1 .0) }
+        first-none (indexShapeRefusal words ∷ refuse 5 3 tests ∷ indexContentsRefusal q (circuitOf words) ∷ [])
+        (sym (index-in-parts q words tests) ∙ free) in
+        let fit = refuse-none 5 3 tests (parts .1 .0) in
+        record {
+          shape = index-shape-fits r c x ea eb ec (parts .0);
+          lent-a = four-fit ea (t .a) (fit .0) (fit .1 .0) (fit .1 .1 .0) (fit .1 .1 .1 .0);
+          lent-b = four-fit eb (t .b) (fit .1 .1 .1 .1 .0) (fit .1 .1 .1 .1 .1 .0) (fit .1 .1 .1 .1 .1 .1 .0) (fit .1 .1 .1 .1 .1 .1 .1 .0);
+          lent-c =
+              let last = fit .1 .1 .1 .1 .1 .1 .1 .1 in four-fit ec (t .c) (last .0) (last .1 .0) (last .1 .1 .0) (last .1 .1 .1 .0);
+        }
 
 -- the sizes of a call that is let through
 module _ {p r c x : ℕ} {ea eb ec z m : List ℕ} (F : Fits p r c x ea eb ec z m) where

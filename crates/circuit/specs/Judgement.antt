@@ -1,16 +1,19 @@
 -- The rows of the table of refusals that calls share, in two parts: 4 and 5 for what a call begins with, 6 and after for its
 -- contents. A call judges its lent slices between the two. Assumes nothing.
 use mathlib.Core.Bool.{Bool, _&&_}
-use mathlib.Core.List.{List, [], _∷_, _++_, map}
+use mathlib.Core.List.{List, [], _∷_, _++_, map, foldr}
 use mathlib.Core.Option.{Option}
 use Prim.Native.Nat.{ℕ, _*_, _%_}
 use lib.Dec.{eqb, leb}
+use lib.ListN.{length}
 use Rattle.field.specs.Prime.{Prime}
 use Rattle.field.specs.Element.{of}
-use Rattle.domain.specs.Size.{maxSize}
-use Rattle.protocol.specs.Circuit.{Circuit, sizesOf, largest}
-use Rattle.protocol.specs.Refusals.{Refusal, first, sizeTests, sizeRefusal, listRefusal, wordRefusal, entryRefusal, maskRefusal, assignmentRefusal, challengeRefusal}
-use Rattle.protocol.specs.Admission.{entryValues, assignmentTests}
+use Rattle.domain.specs.Size.{maxSize, sizeFor}
+use Rattle.protocol.specs.Three.{Three, listed, mapThree}
+use Rattle.protocol.specs.Circuit.{Entry, Circuit, sizesOf, largest}
+use Rattle.protocol.specs.Refusals.{Refusal, first, pairs, sizeTests}
+use Rattle.protocol.specs.Refusals.{sizeRefusal, listRefusal, wordRefusal, entryRefusal, maskRefusal, assignmentRefusal, challengeRefusal}
+use Rattle.protocol.specs.Admission.{circuitRefusals, entryValues, assignmentTests}
 use Rattle.protocol.specs.Calls.{CircuitWords, circuitOf, entryListTests}
 
 -- the test of an entry list, by its length
@@ -25,6 +28,14 @@ unfoldable pub shapeRefusal : CircuitWords → List ℕ → List ℕ → Option 
 shapeRefusal c z m =
     first
     (sizeRefusal (sizeTests (c .R) (c .C) (c .X) []) ∷ listRefusal (entryListTests c ++ assignmentTests (circuitOf c) z m) ∷ [])
+
+-- the lengths that the lent slices of the indexer must have: |K_M| four times for each matrix
+unfoldable pub indexDue : Three (List Entry) → List ℕ
+indexDue matrices = foldr (λ n due. n ∷ n ∷ n ∷ n ∷ due) [] (listed (mapThree (λ l. sizeFor (length l)) matrices))
+
+-- 4 to 7 of the indexer, from the lengths of its lent slices in order
+unfoldable pub indexRefusal : Prime → CircuitWords → List ℕ → Option Refusal
+indexRefusal q c lent = first (circuitRefusals q (circuitOf c) (entryListTests c ++ pairs eqb lent (indexDue (circuitOf c .matrices))) [])
 
 module _ (q : Prime) (c : Circuit) where
   -- 6 and 7 of a circuit

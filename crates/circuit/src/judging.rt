@@ -1,19 +1,15 @@
 // Rows of the table of refusals in its order, for calls with a circuit. Contents are judged only where lengths are right: sizes and
-// lists come first, then the lent slices, then the contents. Lent slices come as their lengths, beside the lengths that they must have.
+// lists come first, then the lent slices, then the contents. Lent slices come as their lengths; a round's beside the lengths that they must have.
 ghost use mathlib.Core.Path.{_≡_};
-ghost use mathlib.Core.List.{[], _++_};
 ghost use Prim.Native.Nat.{_-_, _<_, _≤_};
-ghost use lib.Dec.{eqb};
 ghost use lib.ListN.{length};
 ghost use Rattle.field.specs.Prime.{Prime};
 ghost use Rattle.domain.specs.Qualifies.{Qualifies};
 ghost use Rattle.protocol.specs.Circuit.{Circuit};
 ghost use Rattle.protocol.specs.Meanings.{faultRefusal};
-ghost use Rattle.protocol.specs.Refusals.{first, pairs};
-ghost use Rattle.protocol.specs.Admission.{circuitRefusals};
-ghost use Rattle.protocol.specs.Calls.{circuitOf, entryListTests, roundRefusal};
+ghost use Rattle.protocol.specs.Calls.{roundRefusal};
 ghost use Rattle.circuit.specs.Given.{given, proverInput, entryLists, ThreeLists, Shaped};
-ghost use Rattle.circuit.specs.Judgement.{indexShapeRefusal, shapeRefusal, indexContentsRefusal, contentsRefusal};
+ghost use Rattle.circuit.specs.Judgement.{indexShapeRefusal, shapeRefusal, indexDue, indexRefusal, indexContentsRefusal, contentsRefusal};
 use crate::checks;
 use crate::is_fine;
 use crate::matrices;
@@ -111,6 +107,16 @@ pub fn less(m: u32, n: u32) -> usize
     if n <= m { (m - n) as usize } else { 0 }
 }
 
+// The lengths that the lent slices of the indexer must have.
+pub fn index_lengths(ea: &[u32], eb: &[u32], ec: &[u32]) -> [usize; 12]
+    ensures { λ l. ⌜ l ≡ indexDue (entryLists (now (ea .entry)) (now (eb .entry)) (now (ec .entry))) ⌝ }
+{
+    let a = matrices::size_of(ea) as usize;
+    let b = matrices::size_of(eb) as usize;
+    let c = matrices::size_of(ec) as usize;
+    [a, a, a, a, b, b, b, b, c, c, c, c]
+}
+
 // 4 to 7 of the indexer.
 pub fn judge_index(
     p: u32,
@@ -120,21 +126,17 @@ pub fn judge_index(
     ea: &[u32],
     eb: &[u32],
     ec: &[u32],
-    lent: &[usize],
-    due: &[usize],
+    lent: [usize; 12],
 ) -> Fault
-    requires { ⌜ length (now due) ≡ length (now lent) ⌝ }
     ensures { λ f. ⌜ ((q : Prime) → q .p ≡ p
-        → faultRefusal f
-        ≡ first (circuitRefusals q (circuitOf (given r c x (now (ea .entry)) (now (eb .entry)) (now (ec .entry))))
-        (entryListTests (given r c x (now (ea .entry)) (now (eb .entry)) (now (ec .entry)))
-        ++ pairs eqb (now (lent .entry)) (now (due .entry))) [])) ⌝ }
+        → faultRefusal f ≡ indexRefusal q (given r c x (now (ea .entry)) (now (eb .entry)) (now (ec .entry))) lent) ⌝ }
 {
     let shape = judge_index_shape(r, c, x, ea, eb, ec);
     if !is_fine(shape) {
         return shape;
     }
-    let slices = checks::check_lent(3, lent, due);
+    let due = index_lengths(ea, eb, ec);
+    let slices = checks::check_lent(3, &lent, &due);
     if !is_fine(slices) {
         return slices;
     }

@@ -1,4 +1,5 @@
 pub mod AnswerLaws
 pub mod AnswerLent
+pub mod CallIndexer
 pub mod CallPolynomials
 pub mod CallRounds

@@ -12,7 +12,6 @@ ghost use Rattle.varuna.specs.Answers.{filling, fills};
 ghost use Rattle.varuna.specs.Inputs.{twelve};
 use crate::answers::Filled;
 use circuit::judging::judge_index;
-use circuit::matrices::size_of;
 use field::MODULE_PRIME;
 use index::index_matrix_into;
 use protocol::Fault;
@@ -51,7 +50,6 @@ pub fn index(
         (indexCall babyBear (given r c x (now (ea .entry)) (now (eb .entry)) (now (ec .entry)))
         (mapThree (mapIndex length) before)) before) ⌝ }
 {
-    let p = MODULE_PRIME;
     let lent = [
         rowA.len(),
         colA.len(),
@@ -66,16 +64,12 @@ pub fn index(
         rowcolC.len(),
         rowcolvalC.len(),
     ];
-    let ka = size_of(ea) as usize;
-    let kb = size_of(eb) as usize;
-    let kc = size_of(ec) as usize;
-    let due = [ka, ka, ka, ka, kb, kb, kb, kb, kc, kc, kc, kc];
-    let fault = judge_index(p, r, c, x, ea, eb, ec, &lent, &due);
+    let fault = judge_index(MODULE_PRIME, r, c, x, ea, eb, ec, lent);
     match fault {
         Fault::Fine => {
-            index_matrix_into(p, r, c, ea, rowA, colA, rowcolA, rowcolvalA);
-            index_matrix_into(p, r, c, eb, rowB, colB, rowcolB, rowcolvalB);
-            index_matrix_into(p, r, c, ec, rowC, colC, rowcolC, rowcolvalC);
+            index_matrix_into(MODULE_PRIME, r, c, ea, rowA, colA, rowcolA, rowcolvalA);
+            index_matrix_into(MODULE_PRIME, r, c, eb, rowB, colB, rowcolB, rowcolvalB);
+            index_matrix_into(MODULE_PRIME, r, c, ec, rowC, colC, rowcolC, rowcolvalC);
             Filled::Done
         }
         Fault::Refused(number, position) => Filled::Refused(number, position),

@@ -1,0 +1,32 @@
+-- `circuit::judging::index_lengths` meets its contract. Assumes nothing.
+use Rattle.circuit.specs.Judgement.{indexDue}
+use borrow.Author.Needs.{needs}
+use Rattle.circuit.proofs.judging.index_lengths.Statement.{statement}
+use Rattle.circuit.proofs.judging.index_lengths.Tie as tie
+
+size-of-requires : tie.Need-size-of-requires
+size-of-requires c κs = search needs
+
+cast-a : tie.Need-cast-a
+cast-a c = search needs
+
+size-of-requires-2 : tie.Need-size-of-requires-2
+size-of-requires-2 c κs = search needs
+
+cast-b : tie.Need-cast-b
+cast-b c = search needs
+
+size-of-requires-3 : tie.Need-size-of-requires-3
+size-of-requires-3 c κs = search needs
+
+cast-c : tie.Need-cast-c
+cast-c c = search needs
+
+returns : tie.Need-returns
+unfolding indexDue
+returns c = rw (c .before .before .size-of .ensures, c .before .size-of2 .ensures, c .size-of3 .ensures)
+
+pub index-lengths-spec : {M : Type 1} → statement M
+index-lengths-spec =
+    tie.close
+    (tie.spec size-of-requires cast-a size-of-requires-2 cast-b size-of-requires-3 cast-c returns)
