@@ -25,7 +25,7 @@ use Rattle.protocol.proofs.RefusalLaws.{first-none, none-first, refuse-none, no
 use Rattle.protocol.proofs.AdmissionLaws.{admitted-well-formed}
 use Rattle.circuit.specs.Given.{given, proverInput, Fits, EntryWords, ThreeLists, CircuitShaped, Shaped, EachWithin}
 use Rattle.circuit.specs.Judgement.{indexShapeRefusal, shapeRefusal, indexDue, indexRefusal, indexContentsRefusal, contentsRefusal}
-use Rattle.circuit.specs.IndexParts.{twelveLengths, IndexLengths}
+use Rattle.circuit.specs.IndexLists.{twelveLengths, IndexLengths}
 use Rattle.circuit.proofs.Entries.{length-entriesOf}
 use Rattle.circuit.proofs.Parts.{index-in-parts, prover-in-parts, index-shape-fits, shape-fits, entries-within}
 

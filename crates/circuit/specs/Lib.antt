@@ -1,2 +1,3 @@
 pub mod Given
 pub mod Judgement
+pub mod IndexLists

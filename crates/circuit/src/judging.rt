@@ -1,5 +1,6 @@
 // Rows of the table of refusals in its order, for calls with a circuit. Contents are judged only where lengths are right: sizes and
-// lists come first, then the lent slices, then the contents. Lent slices come as their lengths; a round's beside the lengths that they must have.
+// lists come first, then the lent slices, then the contents. Lent slices come as their lengths; a round's beside the lengths that they
+// must have.
 ghost use mathlib.Core.Path.{_≡_};
 ghost use Prim.Native.Nat.{_-_, _<_, _≤_};
 ghost use lib.ListN.{length};

@@ -15,7 +15,8 @@ ghost use Rattle.protocol.specs.Index.{mapIndex, index};
 ghost use Rattle.protocol.proofs.IndexPolynomials.{entryIndex};
 ghost use Rattle.protocol.specs.Calls.{entriesOf};
 ghost use Rattle.circuit.specs.Given.{entryWords, EntryWords};
-ghost use Rattle.index.specs.IndexParts.{indexPart, indexLists, IndexLengths};
+ghost use Rattle.circuit.specs.IndexLists.{indexLists, IndexLengths};
+ghost use Rattle.index.specs.IndexParts.{indexPart};
 
 // The index polynomials of a matrix in order.
 const ROW: u32 = 0;

@@ -12,7 +12,7 @@ use Rattle.protocol.specs.Three.{MatrixName, A, B, C, Three, each, mapThree}
 use Rattle.protocol.specs.Circuit.{sizesOf}
 use Rattle.protocol.specs.Index.{Index, mapIndex, index}
 use Rattle.protocol.specs.Calls.{CircuitWords, circuitOf, indexCall}
-use Rattle.circuit.specs.IndexParts.{twelveLengths}
+use Rattle.circuit.specs.IndexLists.{twelveLengths}
 use Rattle.circuit.specs.Judgement.{indexDue, indexRefusal}
 use Rattle.circuit.proofs.Fitting.{IndexFits, index-fits}
 use Rattle.varuna.specs.declared.answers.Filled.{Filled}

@@ -3,7 +3,7 @@ use mathlib.Core.List.{List}
 use Prim.Native.Nat.{ℕ}
 use Rattle.protocol.specs.Three.{Three}
 use Rattle.protocol.specs.Index.{Index}
-use Rattle.index.specs.IndexParts.{indexLists}
+use Rattle.circuit.specs.IndexLists.{indexLists}
 
 -- what there is for A, B, C
 abbrev pub threeOf : {T : Type 0} → T → T → T → Three T

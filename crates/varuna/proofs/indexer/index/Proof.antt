@@ -10,7 +10,7 @@ use Rattle.protocol.specs.Index.{Index}
 use Rattle.protocol.specs.Meanings.{faultRefusal}
 use Rattle.protocol.specs.Calls.{CircuitWords, circuitOf}
 use Rattle.circuit.specs.Given.{given}
-use Rattle.circuit.specs.IndexParts.{twelveLengths}
+use Rattle.circuit.specs.IndexLists.{twelveLengths}
 use Rattle.circuit.specs.Judgement.{indexRefusal}
 use Rattle.varuna.specs.Inputs.{twelve}
 use Rattle.varuna.proofs.CallIndexer.{CallFits, call-fits, index-done, index-refused}
