@@ -1,31 +1,23 @@
--- A job by its bytes and its words: the text in each case, and the parts of a whole job. Assumes nothing.
-use mathlib.Core.Path.{_≡_, sym, ap, ap₂, _∙_}
+-- A job by its bytes and its words: its length, and the text in each case. Assumes nothing.
+use mathlib.Core.Path.{_≡_, sym, ap, _∙_}
 use mathlib.Core.Bool.{Bool, _&&_}
 use mathlib.Core.List.{List, [], _∷_}
 use mathlib.Core.Option.{none, some}
-use Prim.Native.Nat.{ℕ, _+_, _-_, _*_, _/_, _%_, _≤_, _<_}
+use Prim.Native.Nat.{ℕ, _+_, _*_, _/_, _≤_, _<_}
 use native.Mathlib.Omega.{arith}
-use lib.Dec.{eqb, leb, ltb}
-use lib.ListN.{length, take, drop, getD, length-drop}
-use lib.Seq.{length-take-le}
-use borrow.Author.Tests.{lt-ltb, le-ltb, le-leb, eq-eqb, leb-true}
+use lib.Dec.{leb, ltb}
+use lib.ListN.{length, getD}
+use borrow.Author.Tests.{lt-ltb, le-ltb, leb-true}
 use Rattle.algebra.specs.Lists.{pick}
 use Rattle.algebra.proofs.Choice.{pick-true, pick-false}
 use Rattle.domain.specs.BabyBear.{babyBear}
 use Rattle.domain.specs.Size.{maxSize, isSize}
 use Rattle.domain.proofs.SizeLaws.{size-bound}
 use Rattle.protocol.specs.Refusals.{Refusal, sizeTests, sizeRefusal, listRefusal}
-use Rattle.protocol.specs.Admission.{countTests}
-use Rattle.protocol.specs.Calls.{entriesOf, circuitOf, entryListTests}
 use Rattle.protocol.specs.Record.{wordsIn}
 use Rattle.protocol.proofs.RefusalLaws.{first-none, refuse-none}
-use Rattle.circuit.specs.Given.{given}
-use Rattle.circuit.proofs.Entries.{length-entriesOf}
-use Rattle.circuit.specs.Given.{proverInput}
-use Rattle.varuna.specs.Inputs.{threeOf}
 use Rattle.job.specs.JobText.{maxBytes, headBytes, tooLong, tooShort, refusedText, unlessRefused, headRefusal, jobLength, jobOf, jobText}
-use Rattle.job.specs.JobText.{placeB, placeC, placeZ, placeR, placeM, placeα}
-use Rattle.job.specs.Stages.{jobGiven, jobGivenText, wordsText}
+use Rattle.job.specs.Stages.{jobGivenText, wordsText}
 
 -- |C| and the counts of a job whose head is not refused
 pub record HeadFits (ws : List ℕ) : Type 0 where
@@ -110,46 +102,3 @@ module _ (bytes : List ℕ) where
   pub text-words : n ≤ maxBytes → headBytes ≤ n → wordsText n (wordsIn bytes) ≡ jobText babyBear bytes
   unfolding jobText wordsText
   text-words h k = sym (pick-false tooLong _ (le-ltb maxBytes n h) ∙ pick-false tooShort _ (le-ltb n headBytes k))
-
--- so many words from a place on
-pub length-part : (ws : List ℕ) (at n : ℕ) → at + n ≤ length ws → length (take n (drop at ws)) ≡ n
-length-part ws at n h = length-take-le n (drop at ws) (omega (arith, length-drop at ws))
-
--- an entry list by its count: whole entries, and not over 1,024 of them
-same-tests : (l : List ℕ) (k : ℕ) → length l ≡ 3 * k → k ≤ 1024
-    → (eqb (length l % 3) 0 && leb (length l) (3 * maxSize)) ≡ leb (length (entriesOf l)) maxSize
-same-tests l k e h =
-    ap₂ _&&_ (eq-eqb (length l % 3) 0 (omega arith)) (le-leb (length l) (3 * maxSize) (omega arith))
-    ∙ sym (le-leb (length (entriesOf l)) maxSize (omega (arith, length-entriesOf l)))
-
-pub lists-agree : (r c x : ℕ) (ea eb ec : List ℕ) (i j k : ℕ)
-    → length ea ≡ 3 * i → i ≤ 1024 → length eb ≡ 3 * j → j ≤ 1024 → length ec ≡ 3 * k
-    → k ≤ 1024 → entryListTests (given r c x ea eb ec) ≡ countTests (circuitOf (given r c x ea eb ec))
-unfolding entryListTests countTests circuitOf
-lists-agree r c x ea eb ec i j k ei hi ej hj ek hk = λ t. same-tests ea i ei hi t ∷ same-tests eb j ej hj t ∷ same-tests ec k ek hk t ∷ []
-
--- a job by its parts, at the places where they stand
-module _ (ws : List ℕ) where
-  abbrev w : ℕ → ℕ
-  w k = getD ws k 0
-
-  pub job-in-parts : (b c z r m at : ℕ)
-      → b ≡ placeB ws → c ≡ placeC ws → z ≡ placeZ ws → r ≡ placeR ws → m ≡ placeM ws → at ≡ placeα ws
-      → jobGiven
-      (proverInput (w 0) (w 1) (w 2) (take (b - 6) (drop 6 ws)) (take (c - b) (drop b ws)) (take (z - c) (drop c ws)) (take (r - z) (drop z ws)) (w r)
-      (take (at - m) (drop m ws)))
-      (w at) (threeOf (w (at + 1)) (w (at + 2)) (w (at + 3))) (w (at + 4)) (threeOf (w (at + 5)) (w (at + 6)) (w (at + 7))) (w (at + 8))
-      ≡ jobOf ws
-  unfolding jobOf circuitOf
-  job-in-parts b c z r m at eb ec ez er em eat =
-      let na : b - 6 ≡ 3 * w 3 = omega arith in
-      let nb : c - b ≡ 3 * w 4 = omega arith in
-      let nc : z - c ≡ 3 * w 5 = omega arith in
-      let nz : r - z ≡ w 1 = omega arith in
-      let nm : at - m ≡ 2 * w 1 = omega arith in
-      λ t.
-      jobGiven
-      (proverInput (w 0) (w 1) (w 2) (take (na t) (drop 6 ws)) (take (nb t) (drop (eb t) ws)) (take (nc t) (drop (ec t) ws))
-      (take (nz t) (drop (ez t) ws)) (w (er t)) (take (nm t) (drop (em t) ws)))
-      (w (eat t)) (threeOf (w (eat t + 1)) (w (eat t + 2)) (w (eat t + 3))) (w (eat t + 4))
-      (threeOf (w (eat t + 5)) (w (eat t + 6)) (w (eat t + 7))) (w (eat t + 8))

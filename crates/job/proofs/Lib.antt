@@ -4,3 +4,4 @@ pub mod RoundResults
 pub mod Bounds
 pub mod JobLaws
 pub mod HeadLaws
+pub mod PartLaws

@@ -1,3 +1,4 @@
 pub mod JobText
+pub mod Parts
 pub mod Printed
 pub mod Stages

@@ -1,7 +1,6 @@
 // A job's bytes to the text that program `prove` prints.
 ghost use mathlib.Core.Path.{_≡_};
 ghost use mathlib.Core.List.{[], _∷_};
-ghost use mathlib.Core.Option.{none};
 ghost use Prim.Native.Nat.{_/_, _≤_};
 ghost use lib.Dec.{leb};
 ghost use lib.ListN.{length};
@@ -12,17 +11,17 @@ ghost use Rattle.protocol.specs.Meanings.{faultRefusal};
 ghost use Rattle.protocol.specs.Record.{wordsIn};
 ghost use Rattle.text.specs.Buffer.{put};
 ghost use Rattle.text.specs.Written.{Written};
-ghost use Rattle.job.specs.JobText.{tooLong, tooShort, headBytes, headRefusal, jobLength, jobOf, jobText};
-ghost use Rattle.job.specs.Stages.{jobGivenText, wordsText, mostProof};
+ghost use Rattle.job.specs.JobText.{tooLong, tooShort, headBytes, headRefusal, jobText};
+ghost use Rattle.job.specs.Stages.{wordsText, mostProof};
 
 mod conversation;
 mod lines;
 mod messages;
+mod parts;
 mod sections;
 
 use circuit::checks::check_sizes;
 use protocol::Fault;
-use protocol::Triple;
 use record::word_at;
 use text::put_bytes;
 
@@ -35,13 +34,7 @@ const WORD_BYTES: usize = 4;
 
 const MAX_WORDS: usize = 1024;
 
-// The words before the entries: three sizes and three counts.
-const HEAD_WORDS: usize = 6;
-
 const MAX_COUNT: u32 = 1024;
-
-// α, three η, β, three δ, γ.
-const CHALLENGES: usize = 9;
 
 // Room for every text.
 pub const TEXT_BYTES: usize = 131072;
@@ -102,61 +95,6 @@ fn judge_head(words: &[u32]) -> Fault
     }
 }
 
-// The words of a whole job.
-fn job_length(words: &[u32]) -> usize
-    requires { ⌜ 6 ≤ length (now words) ⌝ }
-    ensures { λ n. ⌜ n ≡ jobLength (now (words .entry)) ⌝ }
-{
-    HEAD_WORDS
-        + 3 * lines::wide(words[3])
-        + 3 * lines::wide(words[4])
-        + 3 * lines::wide(words[5])
-        + lines::wide(words[1])
-        + 1
-        + 2 * lines::wide(words[1])
-        + CHALLENGES
-}
-
-// A whole job, taken apart.
-fn put_whole(ws: &[u32], out: &mut [u8]) -> usize
-    requires { ⌜ headRefusal (now ws) ≡ none ⌝ }
-    requires { ⌜ length (now ws) ≡ jobLength (now ws) ⌝ }
-    requires { ⌜ mostProof ≤ length (now out) ⌝ }
-    ensures { λ p. ⌜ Written (now (out .entry)) 0 (jobGivenText (jobOf (now (ws .entry)))) p (now (out .exit)) ⌝ }
-{
-    let b = HEAD_WORDS + 3 * lines::wide(ws[3]);
-    let c = b + 3 * lines::wide(ws[4]);
-    let z = c + 3 * lines::wide(ws[5]);
-    let mask = z + lines::wide(ws[1]);
-    let m = mask + 1;
-    let at = m + 2 * lines::wide(ws[1]);
-    sections::put_job(
-        ws[0],
-        ws[1],
-        ws[2],
-        &ws[HEAD_WORDS..b],
-        &ws[b..c],
-        &ws[c..z],
-        &ws[z..mask],
-        ws[mask],
-        &ws[m..at],
-        ws[at],
-        Triple {
-            a: ws[at + 1],
-            b: ws[at + 2],
-            c: ws[at + 3],
-        },
-        ws[at + 4],
-        Triple {
-            a: ws[at + 5],
-            b: ws[at + 6],
-            c: ws[at + 7],
-        },
-        ws[at + 8],
-        out,
-    )
-}
-
 // A job of so many bytes, by its words.
 fn put_words_text(count: usize, words: &[u32], out: &mut [u8]) -> usize
     requires { ⌜ length (now words) ≡ count / 4 ⌝ }
@@ -168,14 +106,14 @@ fn put_words_text(count: usize, words: &[u32], out: &mut [u8]) -> usize
     match head {
         Fault::Refused(number, position) => lines::put_refused(number, position, out, 0),
         Fault::Fine => {
-            let due = WORD_BYTES * job_length(words);
+            let due = WORD_BYTES * parts::job_length(words);
             if due < count {
                 return put_too_long(out);
             }
             if count < due {
                 return put_too_short(out);
             }
-            put_whole(words, out)
+            parts::put_whole(words, out)
         }
     }
 }
