@@ -16,8 +16,10 @@ use Rattle.domain.proofs.SizeLaws.{size-bound}
 use Rattle.protocol.specs.Refusals.{Refusal, sizeTests, sizeRefusal, listRefusal}
 use Rattle.protocol.specs.Record.{wordsIn}
 use Rattle.protocol.proofs.RefusalLaws.{first-none, refuse-none}
-use Rattle.job.specs.JobText.{maxBytes, headBytes, tooLong, tooShort, refusedText, unlessRefused, headRefusal, jobLength, jobOf, jobText}
-use Rattle.job.specs.Stages.{jobGivenText, wordsText}
+use Rattle.report.specs.ProofText.{refusedText, unlessRefused}
+use Rattle.report.specs.Stages.{jobGivenText}
+use Rattle.job.specs.JobText.{maxBytes, headBytes, tooLong, tooShort, headRefusal, jobLength, jobOf, jobText}
+use Rattle.job.specs.Parts.{wordsText}
 
 -- |C| and the counts of a job whose head is not refused
 pub record HeadFits (ws : List ℕ) : Type 0 where

@@ -16,11 +16,11 @@ use Rattle.protocol.specs.Meanings.{three}
 use Rattle.circuit.specs.Given.{proverInput}
 use Rattle.varuna.specs.Inputs.{threeOf}
 use Rattle.circuit.proofs.Entries.{length-entriesOf}
+use Rattle.report.specs.Stages.{jobGiven}
 use Rattle.job.specs.declared.parts.Places.{Places}
 use Rattle.job.specs.declared.parts.Challenges.{Challenges}
 use Rattle.job.specs.JobText.{headRefusal, placeα, jobLength, jobOf}
 use Rattle.job.specs.Parts.{Placed, challengesOf, between, inputAt}
-use Rattle.job.specs.Stages.{jobGiven}
 use Rattle.job.proofs.HeadLaws.{head-fits, whole-length}
 
 -- so many words from a place on

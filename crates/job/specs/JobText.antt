@@ -1,68 +1,25 @@
 -- What program `prove` prints for a job's bytes (document 01, "The square case"). Bytes and ASCII codes are numbers. Assumes
 -- nothing.
-use mathlib.Core.List.{List, [], _∷_, _++_, map, foldr}
-use mathlib.Core.Option.{Option, none, some}
+use mathlib.Core.List.{List, [], _∷_}
+use mathlib.Core.Option.{Option}
 use Prim.Native.Nat.{ℕ, _+_, _*_}
 use lib.Dec.{leb, ltb}
 use lib.ListN.{length, take, drop, getD}
 use Rattle.algebra.specs.Lists.{pick}
 use Rattle.field.specs.Prime.{Prime}
-use Rattle.field.specs.Element.{words}
 use Rattle.domain.specs.Size.{maxSize}
-use Rattle.protocol.specs.Checks.{Row, Line, Matrix, Verdict, Accept, Fails}
 use Rattle.protocol.specs.Refusals.{Refusal, first, sizeTests, sizeRefusal, listRefusal}
 use Rattle.protocol.specs.Calls.{entriesOf}
-use Rattle.protocol.specs.Record.{wordsIn, sections}
-use Rattle.protocol.specs.Session.{Answer, Taken, Judged, Refused}
-use Rattle.protocol.specs.Job.{Job, jobRefusal, proof, honestConversation}
+use Rattle.protocol.specs.Record.{wordsIn}
+use Rattle.protocol.specs.Job.{Job, jobRefusal}
 use Rattle.text.specs.Ascii.{ascii}
-use Rattle.text.specs.Decimal.{decimal}
-
-abbrev pub space : ℕ
-space = 32
-
-abbrev pub newline : ℕ
-newline = 10
-
--- "Each line is a section name, then its words"
-unfoldable pub line : List ℕ → List ℕ → List ℕ
-line name ws = name ++ foldr (λ w rest. space ∷ (decimal w ++ rest)) (newline ∷ []) ws
-
-abbrev pub sectionNames : List (List ℕ)
-sectionNames = map ascii ("w" ∷ "m" ∷ "h0" ∷ "s" ∷ "g1" ∷ "h1" ∷ "o" ∷ "ga" ∷ "gb" ∷ "gc" ∷ "h2" ∷ [])
-
--- a line for each name with the section at its place
-unfoldable pub lines : List (List ℕ) → List (List ℕ) → List ℕ
-lines [] parts = []
-lines (name ∷ names) [] = []
-lines (name ∷ names) (ws ∷ parts) = line name ws ++ lines names parts
-
--- "refused", number, position
-unfoldable pub refusedText : Refusal → List ℕ
-refusedText r = line (ascii "refused") (r .number ∷ r .position ∷ [])
+use Rattle.report.specs.ProofText.{unlessRefused, proofText}
 
 abbrev pub tooLong : List ℕ
 tooLong = ascii "job too long\n"
 
 abbrev pub tooShort : List ℕ
 tooShort = ascii "job too short\n"
-
-abbrev pub verdictName : Verdict → List ℕ
-verdictName Accept = ascii "accept"
-verdictName (Fails Row) = ascii "fails row"
-verdictName (Fails Line) = ascii "fails line"
-verdictName (Fails Matrix) = ascii "fails matrix"
-
--- the last line: "verdict" and the session's last answer, or its refusal
-unfoldable pub answerText : Answer → List ℕ
-answerText Taken = []
-answerText (Judged v) = ascii "verdict " ++ (verdictName v ++ (newline ∷ []))
-answerText (Refused r) = refusedText r
-
--- the refusal's text, or what follows where there is none
-abbrev pub unlessRefused : Option Refusal → List ℕ → List ℕ
-unlessRefused none text = text
-unlessRefused (some r) text = refusedText r
 
 -- "A job over 4,096 bytes"; the bytes of the sizes and counts
 abbrev pub maxBytes : ℕ
@@ -133,10 +90,6 @@ module _ (ws : List ℕ) where
       ∷ [])
 
 module _ (q : Prime) where
-  -- the eleven sections and the verdict
-  unfoldable pub proofText : Job → List ℕ
-  proofText j = lines sectionNames (map words (sections (proof q j))) ++ answerText (getD (honestConversation q j) 6 Taken)
-
   -- "A job over 4,096 bytes prints `job too long`, one that ends before its sizes and counts `job too short`; then sizes and counts are
   -- judged (4, 5); then bytes left over print `job too long`, an unfinished job `job too short`"; then 6 to 10
   unfoldable pub jobText : List ℕ → List ℕ
@@ -147,4 +100,4 @@ module _ (q : Prime) where
       (unlessRefused (headRefusal ws)
       (pick (ltb (4 * jobLength ws) (length bytes)) tooLong
       (pick (ltb (length bytes) (4 * jobLength ws)) tooShort
-      (unlessRefused (jobRefusal q (jobOf ws)) (proofText (jobOf ws)))))))
+      (unlessRefused (jobRefusal q (jobOf ws)) (proofText q (jobOf ws)))))))

@@ -1,4 +1,2 @@
 pub mod JobText
 pub mod Parts
-pub mod Printed
-pub mod Stages

@@ -11,18 +11,16 @@ ghost use Rattle.protocol.specs.Meanings.{faultRefusal};
 ghost use Rattle.protocol.specs.Record.{wordsIn};
 ghost use Rattle.text.specs.Buffer.{put};
 ghost use Rattle.text.specs.Written.{Written};
+ghost use Rattle.report.specs.Stages.{mostProof};
 ghost use Rattle.job.specs.JobText.{tooLong, tooShort, headBytes, headRefusal, jobText};
-ghost use Rattle.job.specs.Stages.{wordsText, mostProof};
+ghost use Rattle.job.specs.Parts.{wordsText};
 
-mod conversation;
-mod lines;
-mod messages;
 mod parts;
-mod sections;
 
 use circuit::checks::check_sizes;
 use protocol::Fault;
 use record::word_at;
+use report::lines::put_refused;
 use text::put_bytes;
 
 // The most bytes of a job, and of its sizes and counts.
@@ -104,7 +102,7 @@ fn put_words_text(count: usize, words: &[u32], out: &mut [u8]) -> usize
 {
     let head = judge_head(words);
     match head {
-        Fault::Refused(number, position) => lines::put_refused(number, position, out, 0),
+        Fault::Refused(number, position) => put_refused(number, position, out, 0),
         Fault::Fine => {
             let due = WORD_BYTES * parts::job_length(words);
             if due < count {

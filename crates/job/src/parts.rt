@@ -7,12 +7,12 @@ ghost use Rattle.protocol.specs.Admission.{countTests};
 ghost use Rattle.protocol.specs.Calls.{circuitOf, entryListTests};
 ghost use Rattle.protocol.specs.Meanings.{three};
 ghost use Rattle.text.specs.Written.{Written};
+ghost use Rattle.report.specs.Stages.{jobGiven, jobGivenText, mostProof};
 ghost use Rattle.job.specs.JobText.{headRefusal, jobLength, jobOf};
 ghost use Rattle.job.specs.Parts.{Placed, challengesOf, inputAt};
-ghost use Rattle.job.specs.Stages.{jobGiven, jobGivenText, mostProof};
-use crate::lines::wide;
-use crate::sections::put_job;
 use protocol::Triple;
+use report::lines::wide;
+use report::whole::put_job;
 
 // The words before the entries: three sizes and three counts.
 const HEAD_WORDS: usize = 6;

@@ -3,7 +3,7 @@ use mathlib.Core.Path.{sym, ap, _∙_}
 use lib.ListN.{length}
 use Rattle.poly.proofs.LentParts.{part-length, filled-within, filled-part, filled-length}
 use Rattle.text.proofs.WrittenLaws.{written-as}
-use Rattle.job.specs.Stages.{wordsText}
+use Rattle.job.specs.Parts.{wordsText}
 use Rattle.job.proofs.HeadLaws.{few-words, text-long, text-short, text-words}
 use borrow.Author.Needs.{needs}
 use Rattle.job.proofs.put_text.Statement.{statement}

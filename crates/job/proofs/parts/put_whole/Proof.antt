@@ -2,7 +2,7 @@
 use mathlib.Core.Path.{ap}
 use native.Mathlib.Omega.{arith}
 use Rattle.text.proofs.WrittenLaws.{written-as}
-use Rattle.job.specs.Stages.{jobGivenText}
+use Rattle.report.specs.Stages.{jobGivenText}
 use Rattle.job.proofs.HeadLaws.{whole-length}
 use Rattle.job.proofs.PartLaws.{whole-end, nine-words, in-order, lists-agree, job-in-parts}
 use borrow.Author.Needs.{needs}

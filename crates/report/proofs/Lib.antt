@@ -1,0 +1,5 @@
+pub mod PrintedLaws
+pub mod RoundLaws
+pub mod RoundResults
+pub mod Bounds
+pub mod JobLaws

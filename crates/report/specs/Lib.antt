@@ -1,0 +1,3 @@
+pub mod ProofText
+pub mod Printed
+pub mod Stages

@@ -1,0 +1,177 @@
+// Rounds 1 and 3: the sections w, m, h0, g1, h1.
+ghost use mathlib.Core.Path.{_≡_};
+ghost use mathlib.Core.List.{[], _∷_};
+ghost use Prim.Native.Nat.{_+_, _*_, _≤_};
+ghost use lib.ListN.{length};
+ghost use Rattle.protocol.specs.Three.{listed};
+ghost use Rattle.protocol.specs.Meanings.{three};
+ghost use Rattle.circuit.specs.Given.{proverInput};
+ghost use Rattle.report.specs.Printed.{Printed};
+ghost use Rattle.report.specs.Stages.{Free, due, firstText, thirdText, mostLine};
+use crate::lines::put_line;
+use circuit::judging::less;
+use protocol::Triple;
+use varuna::rounds;
+
+// Round 1 into slices, and w, m, h0.
+fn put_first_round(
+    r: u32,
+    c: u32,
+    x: u32,
+    ea: &[u32],
+    eb: &[u32],
+    ec: &[u32],
+    z: &[u32],
+    mask: u32,
+    m: &[u32],
+    witness: &mut [u32],
+    quotient: &mut [u32],
+    out: &mut [u8],
+    at: usize,
+) -> usize
+    requires { ⌜ Free (proverInput r c x (now ea) (now eb) (now ec) (now z) mask (now m)) [] [] ⌝ }
+    requires { ⌜ length (now witness) ≡ due (proverInput r c x (now ea) (now eb) (now ec) (now z) mask (now m)) .witness ⌝ }
+    requires { ⌜ length (now quotient) ≡ due (proverInput r c x (now ea) (now eb) (now ec) (now z) mask (now m)) .rowQuotient ⌝ }
+    requires { ⌜ at + 4 * mostLine ≤ length (now out) ⌝ }
+    ensures { λ p. ⌜ Printed (now (out .entry)) at
+        (firstText (proverInput r c x (now (ea .entry)) (now (eb .entry)) (now (ec .entry)) (now (z .entry)) mask (now (m .entry))))
+        (4 * mostLine) p (now (out .exit)) ⌝ }
+{
+    rounds::first_round(r, c, x, ea, eb, ec, z, mask, m, witness, quotient);
+    let first = put_line(b"w", witness, out, at);
+    let second = put_line(b"m", m, out, first);
+    put_line(b"h0", quotient, out, second)
+}
+
+// w, m, h0.
+pub fn put_first(
+    r: u32,
+    c: u32,
+    x: u32,
+    ea: &[u32],
+    eb: &[u32],
+    ec: &[u32],
+    z: &[u32],
+    mask: u32,
+    m: &[u32],
+    out: &mut [u8],
+    at: usize,
+) -> usize
+    requires { ⌜ Free (proverInput r c x (now ea) (now eb) (now ec) (now z) mask (now m)) [] [] ⌝ }
+    requires { ⌜ at + 4 * mostLine ≤ length (now out) ⌝ }
+    ensures { λ p. ⌜ Printed (now (out .entry)) at
+        (firstText (proverInput r c x (now (ea .entry)) (now (eb .entry)) (now (ec .entry)) (now (z .entry)) mask (now (m .entry))))
+        (4 * mostLine) p (now (out .exit)) ⌝ }
+{
+    let n = less(c, x) + 1;
+    let k = less(r, 1);
+    let mut witness = [0u32; 1024];
+    let mut quotient = [0u32; 1024];
+    put_first_round(
+        r,
+        c,
+        x,
+        ea,
+        eb,
+        ec,
+        z,
+        mask,
+        m,
+        &mut witness[..n],
+        &mut quotient[..k],
+        out,
+        at,
+    )
+}
+
+// Round 3 into slices, and g1, h1.
+fn put_third_round(
+    r: u32,
+    c: u32,
+    x: u32,
+    ea: &[u32],
+    eb: &[u32],
+    ec: &[u32],
+    z: &[u32],
+    mask: u32,
+    m: &[u32],
+    alpha: u32,
+    eta: Triple,
+    remainder: &mut [u32],
+    quotient: &mut [u32],
+    out: &mut [u8],
+    at: usize,
+) -> usize
+    requires { ⌜ Free (proverInput r c x (now ea) (now eb) (now ec) (now z) mask (now m)) (alpha ∷ listed (three eta)) (alpha ∷ []) ⌝ }
+    requires { ⌜ length (now remainder) ≡ due (proverInput r c x (now ea) (now eb) (now ec) (now z) mask (now m)) .lineRemainder ⌝ }
+    requires { ⌜ length (now quotient) ≡ due (proverInput r c x (now ea) (now eb) (now ec) (now z) mask (now m)) .lineQuotient ⌝ }
+    requires { ⌜ at + 2 * mostLine ≤ length (now out) ⌝ }
+    ensures { λ p. ⌜ Printed (now (out .entry)) at
+        (thirdText (proverInput r c x (now (ea .entry)) (now (eb .entry)) (now (ec .entry)) (now (z .entry)) mask (now (m .entry)))
+        alpha (three eta))
+        (2 * mostLine) p (now (out .exit)) ⌝ }
+{
+    rounds::third_round(
+        r,
+        c,
+        x,
+        ea,
+        eb,
+        ec,
+        z,
+        mask,
+        m,
+        alpha,
+        eta,
+        remainder,
+        quotient,
+    );
+    let first = put_line(b"g1", remainder, out, at);
+    put_line(b"h1", quotient, out, first)
+}
+
+// g1, h1.
+pub fn put_third(
+    r: u32,
+    c: u32,
+    x: u32,
+    ea: &[u32],
+    eb: &[u32],
+    ec: &[u32],
+    z: &[u32],
+    mask: u32,
+    m: &[u32],
+    alpha: u32,
+    eta: Triple,
+    out: &mut [u8],
+    at: usize,
+) -> usize
+    requires { ⌜ Free (proverInput r c x (now ea) (now eb) (now ec) (now z) mask (now m)) (alpha ∷ listed (three eta)) (alpha ∷ []) ⌝ }
+    requires { ⌜ at + 2 * mostLine ≤ length (now out) ⌝ }
+    ensures { λ p. ⌜ Printed (now (out .entry)) at
+        (thirdText (proverInput r c x (now (ea .entry)) (now (eb .entry)) (now (ec .entry)) (now (z .entry)) mask (now (m .entry)))
+        alpha (three eta))
+        (2 * mostLine) p (now (out .exit)) ⌝ }
+{
+    let n = less(c, 1);
+    let k = c as usize;
+    let mut remainder = [0u32; 1024];
+    let mut quotient = [0u32; 1024];
+    put_third_round(
+        r,
+        c,
+        x,
+        ea,
+        eb,
+        ec,
+        z,
+        mask,
+        m,
+        alpha,
+        eta,
+        &mut remainder[..n],
+        &mut quotient[..k],
+        out,
+        at,
+    )
+}

@@ -1,0 +1,265 @@
+// The eleven sections and the verdict of a job, or its refusal. Where openings are given, nothing is refused in any round.
+ghost use mathlib.Core.Path.{_≡_};
+ghost use mathlib.Core.List.{[], _∷_, _++_};
+ghost use Prim.Native.Nat.{_+_, _≤_};
+ghost use lib.ListN.{length};
+ghost use mathlib.Core.Bool.{true};
+ghost use Rattle.domain.specs.Size.{isSize};
+ghost use Rattle.protocol.specs.Three.{listed};
+ghost use Rattle.protocol.specs.Admission.{countTests};
+ghost use Rattle.protocol.specs.Calls.{circuitOf, entryListTests};
+ghost use Rattle.protocol.specs.Meanings.{three, sizes};
+ghost use Rattle.circuit.specs.Given.{given, proverInput};
+ghost use Rattle.text.specs.Written.{Written};
+ghost use Rattle.report.specs.ProofText.{answerText};
+ghost use Rattle.report.specs.Printed.{Printed};
+ghost use Rattle.report.specs.Stages.{Free, lastAnswer, publicOf, openedMeaning, jobGiven, jobGivenText};
+ghost use Rattle.report.specs.Stages.{restText, stagesText, mostLast, mostRest, mostProof};
+use crate::conversation::last_answer;
+use crate::first_rounds::put_first;
+use crate::first_rounds::put_third;
+use crate::lines::put_answer;
+use crate::lines::put_refused;
+use crate::lines::put_three;
+use crate::matrix_rounds::put_fifth;
+use crate::matrix_rounds::put_fourth;
+use crate::messages;
+use protocol::Opened;
+use protocol::Sizes;
+use protocol::Triple;
+use varuna::answers::IndexesOpened;
+use varuna::answers::Openings;
+use varuna::rounds;
+
+// The last line.
+fn put_last(
+    s: Sizes,
+    z: &[u32],
+    alpha: u32,
+    sums: Triple,
+    eta: Triple,
+    beta: u32,
+    values: Triple,
+    delta: Triple,
+    gamma: u32,
+    o: Opened,
+    i: IndexesOpened,
+    out: &mut [u8],
+    at: usize,
+) -> usize
+    requires { ⌜ (isSize (s .c) ≡ true) × (isSize (s .x) ≡ true) × (s .x ≤ s .c) × (length (now z) ≡ s .c) ⌝ }
+    requires { ⌜ at + mostLast ≤ length (now out) ⌝ }
+    ensures { λ p. ⌜ Printed (now (out .entry)) at
+        (answerText (lastAnswer (sizes s) (publicOf (sizes s) (now (z .entry))) alpha (three sums) (three eta) beta (three values)
+        (three delta) gamma (openedMeaning o i))) mostLast p (now (out .exit)) ⌝ }
+{
+    let n = s.x as usize;
+    let mut x = [0u32; 1024];
+    prover::witness::public_words_into((s.c / s.x) as usize, z, &mut x[..n]);
+    let answer = last_answer(
+        s,
+        &x[..n],
+        alpha,
+        sums,
+        eta,
+        beta,
+        values,
+        delta,
+        gamma,
+        o,
+        i.arrays(),
+    );
+    put_answer(answer, out, at)
+}
+
+// o, ga, gb, gc, h2 and the last line.
+fn put_rest(
+    r: u32,
+    c: u32,
+    x: u32,
+    ea: &[u32],
+    eb: &[u32],
+    ec: &[u32],
+    z: &[u32],
+    mask: u32,
+    m: &[u32],
+    alpha: u32,
+    sums: Triple,
+    eta: Triple,
+    beta: u32,
+    delta: Triple,
+    gamma: u32,
+    o: Opened,
+    i: IndexesOpened,
+    out: &mut [u8],
+    at: usize,
+) -> usize
+    requires { ⌜ Free (proverInput r c x (now ea) (now eb) (now ec) (now z) mask (now m))
+        (alpha ∷ (listed (three eta) ++ (beta ∷ (listed (three delta) ++ (gamma ∷ []))))) (alpha ∷ beta ∷ gamma ∷ []) ⌝ }
+    requires { ⌜ at + mostRest ≤ length (now out) ⌝ }
+    ensures { λ p. ⌜ Printed (now (out .entry)) at
+        (restText (proverInput r c x (now (ea .entry)) (now (eb .entry)) (now (ec .entry)) (now (z .entry)) mask (now (m .entry)))
+        alpha (three sums) (three eta) beta (three delta) gamma
+        (openedMeaning o i))
+        mostRest p (now (out .exit)) ⌝ }
+{
+    let fourth = put_fourth(r, c, x, ea, eb, ec, z, mask, m, alpha, eta, beta, out, at);
+    let s = messages::sizes_of(r, c, x, ea, eb, ec);
+    let most = protocol::six_sizes::largest(s.k);
+    let last = put_fifth(
+        r,
+        c,
+        x,
+        ea,
+        eb,
+        ec,
+        z,
+        mask,
+        m,
+        alpha,
+        eta,
+        beta,
+        delta,
+        most,
+        out,
+        fourth.place,
+    );
+    put_last(
+        s,
+        z,
+        alpha,
+        sums,
+        eta,
+        beta,
+        fourth.values,
+        delta,
+        gamma,
+        o,
+        i,
+        out,
+        last,
+    )
+}
+
+// A job that is not refused, with its openings.
+fn put_proof(
+    r: u32,
+    c: u32,
+    x: u32,
+    ea: &[u32],
+    eb: &[u32],
+    ec: &[u32],
+    z: &[u32],
+    mask: u32,
+    m: &[u32],
+    alpha: u32,
+    eta: Triple,
+    beta: u32,
+    delta: Triple,
+    gamma: u32,
+    o: Opened,
+    i: IndexesOpened,
+    out: &mut [u8],
+    at: usize,
+) -> usize
+    requires { ⌜ Free (proverInput r c x (now ea) (now eb) (now ec) (now z) mask (now m))
+        (alpha ∷ (listed (three eta) ++ (beta ∷ (listed (three delta) ++ (gamma ∷ []))))) (alpha ∷ beta ∷ gamma ∷ []) ⌝ }
+    requires { ⌜ at + mostProof ≤ length (now out) ⌝ }
+    ensures { λ p. ⌜ Printed (now (out .entry)) at
+        (stagesText (proverInput r c x (now (ea .entry)) (now (eb .entry)) (now (ec .entry)) (now (z .entry)) mask (now (m .entry)))
+        alpha (three eta) beta (three delta) gamma
+        (openedMeaning o i))
+        mostProof p (now (out .exit)) ⌝ }
+{
+    let first = put_first(r, c, x, ea, eb, ec, z, mask, m, out, at);
+    let sums = messages::sums(r, c, x, ea, eb, ec, z, mask, m, alpha);
+    let second = put_three(b"s", sums, out, first);
+    let third = put_third(r, c, x, ea, eb, ec, z, mask, m, alpha, eta, out, second);
+    put_rest(
+        r,
+        c,
+        x,
+        ea,
+        eb,
+        ec,
+        z,
+        mask,
+        m,
+        alpha,
+        sums,
+        eta,
+        beta,
+        delta,
+        gamma,
+        o,
+        i,
+        out,
+        third,
+    )
+}
+
+// A whole job: its refusal, or its proof and verdict.
+pub fn put_job(
+    r: u32,
+    c: u32,
+    x: u32,
+    ea: &[u32],
+    eb: &[u32],
+    ec: &[u32],
+    z: &[u32],
+    mask: u32,
+    m: &[u32],
+    alpha: u32,
+    eta: Triple,
+    beta: u32,
+    delta: Triple,
+    gamma: u32,
+    out: &mut [u8],
+) -> usize
+    requires { ⌜ entryListTests (given r c x (now ea) (now eb) (now ec))
+        ≡ countTests (circuitOf (given r c x (now ea) (now eb) (now ec))) ⌝ }
+    requires { ⌜ mostProof ≤ length (now out) ⌝ }
+    ensures { λ p. ⌜ Written (now (out .entry)) 0 (jobGivenText
+        (jobGiven (proverInput r c x (now (ea .entry)) (now (eb .entry)) (now (ec .entry)) (now (z .entry)) mask (now (m .entry)))
+        alpha (three eta) beta (three delta) gamma)) p (now (out .exit)) ⌝ }
+{
+    let opened = rounds::openings(
+        r,
+        c,
+        x,
+        ea,
+        eb,
+        ec,
+        z,
+        mask,
+        m,
+        alpha,
+        eta,
+        beta,
+        delta,
+        gamma,
+    );
+    match opened {
+        Openings::Refused(number, position) => put_refused(number, position, out, 0),
+        Openings::Value(o, i) => put_proof(
+            r,
+            c,
+            x,
+            ea,
+            eb,
+            ec,
+            z,
+            mask,
+            m,
+            alpha,
+            eta,
+            beta,
+            delta,
+            gamma,
+            o,
+            i,
+            out,
+            0,
+        ),
+    }
+}
