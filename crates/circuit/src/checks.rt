@@ -12,7 +12,8 @@ ghost use Rattle.domain.specs.Size.{isSize, maxSize};
 ghost use Rattle.domain.specs.Qualifies.{Qualifies};
 ghost use Rattle.protocol.specs.Circuit.{Entry, Circuit};
 ghost use Rattle.protocol.specs.Meanings.{faultRefusal};
-ghost use Rattle.protocol.specs.Refusals.{refuse, pairs, sizeTests, sizeRefusal, rises, entryTests, wordRefusal, entryRefusal, maskRefusal, assignmentRefusal, challengeRefusal};
+ghost use Rattle.protocol.specs.Refusals.{refuse, pairs, sizeTests, rises, entryTests};
+ghost use Rattle.protocol.specs.Refusals.{sizeRefusal, listRefusal, wordRefusal, entryRefusal, maskRefusal, assignmentRefusal, challengeRefusal};
 ghost use Rattle.protocol.specs.Calls.{entriesOf};
 ghost use Rattle.protocol.specs.Admission.{entryValues};
 ghost use Rattle.circuit.specs.Given.{entryLists, EachWithin, ThreeLists};
@@ -33,6 +34,18 @@ pub fn check_sizes(r: u32, c: u32, x: u32) -> Fault
 {
     let tests = [domain::is_size(r), domain::is_size(c), is_public_size(x, c)];
     first_failed(4, 0, &tests)
+}
+
+// 5, by the counts of entries.
+pub fn check_counts(a: u32, b: u32, c: u32) -> Fault
+    ensures { λ f. ⌜ faultRefusal f ≡ listRefusal (leb a maxSize ∷ leb b maxSize ∷ leb c maxSize ∷ []) ⌝ }
+{
+    let tests = [
+        a <= domain::MAX_SIZE,
+        b <= domain::MAX_SIZE,
+        c <= domain::MAX_SIZE,
+    ];
+    first_failed(5, 0, &tests)
 }
 
 // 5: whole entries, and not over 1,024 of them.

@@ -3,6 +3,8 @@ mod groups;
 mod line;
 mod numbers;
 
+use circuit::checks::check_counts;
+use circuit::checks::check_sizes;
 use numbers::Reading;
 use numbers::Request;
 use protocol::Fault;
@@ -11,14 +13,11 @@ use protocol::Triple;
 use text::put_bytes;
 use text::put_decimal;
 ghost use mathlib.Core.Path.{_≡_};
-ghost use mathlib.Core.List.{[], _∷_, _++_, map};
+ghost use mathlib.Core.List.{[], _++_};
 ghost use mathlib.Core.Option.{some};
 ghost use Prim.Native.Nat.{_≤_};
-ghost use lib.Dec.{leb};
 ghost use lib.ListN.{length};
-ghost use Rattle.domain.specs.Size.{maxSize};
 ghost use Rattle.domain.specs.BabyBear.{babyBear};
-ghost use Rattle.protocol.specs.Refusals.{listRefusal};
 ghost use Rattle.protocol.specs.Meanings.{faultRefusal, sizes as sizesMeaning};
 ghost use Rattle.text.specs.Written.{Written};
 ghost use Rattle.figures.specs.Range.{InRange};
@@ -26,31 +25,13 @@ ghost use Rattle.figures.specs.Scanning.{requestNumbers};
 ghost use Rattle.figures.specs.Sheet.{figuresText, sizeFigures, lengthFigures, checkFigures, tripleFigures};
 ghost use Rattle.figures.specs.Sheet.{sizesFor, sheetRefusal, refusedText, figuresFor, sheetText};
 
-// The row of the table of refusals for entry counts.
-const BAD_LENGTH: u32 = 5;
-
-// 5: not over 1,024 entries.
-fn check_counts(n: Triple) -> Fault
-    ensures { λ f. ⌜ faultRefusal f ≡ listRefusal (map (λ n. leb n maxSize) (n .a ∷ n .b ∷ n .c ∷ [])) ⌝ }
-{
-    if n.a > domain::MAX_SIZE {
-        return Fault::Refused(BAD_LENGTH, 0);
-    }
-    if n.b > domain::MAX_SIZE {
-        return Fault::Refused(BAD_LENGTH, 1);
-    }
-    if n.c > domain::MAX_SIZE {
-        return Fault::Refused(BAD_LENGTH, 2);
-    }
-    Fault::Fine
-}
-
 fn judge(request: Request) -> Fault
     ensures { λ f. ⌜ faultRefusal f ≡ sheetRefusal (requestNumbers request) ⌝ }
 {
-    let fault = circuit::checks::check_sizes(request.r, request.c, request.x);
+    let fault = check_sizes(request.r, request.c, request.x);
+    let counts = request.entries;
     match fault {
-        Fault::Fine => check_counts(request.entries),
+        Fault::Fine => check_counts(counts.a, counts.b, counts.c),
         Fault::Refused(number, position) => Fault::Refused(number, position),
     }
 }

@@ -1,12 +1,8 @@
 // A job's bytes to the text that program `prove` prints.
 ghost use mathlib.Core.Path.{_≡_};
-ghost use mathlib.Core.List.{[], _∷_};
 ghost use Prim.Native.Nat.{_/_, _≤_};
-ghost use lib.Dec.{leb};
 ghost use lib.ListN.{length};
-ghost use Rattle.domain.specs.Size.{maxSize};
 ghost use Rattle.domain.specs.BabyBear.{babyBear};
-ghost use Rattle.protocol.specs.Refusals.{listRefusal};
 ghost use Rattle.protocol.specs.Meanings.{faultRefusal};
 ghost use Rattle.protocol.specs.Record.{wordsIn};
 ghost use Rattle.text.specs.Buffer.{put};
@@ -17,6 +13,7 @@ ghost use Rattle.job.specs.Parts.{wordsText};
 
 mod parts;
 
+use circuit::checks::check_counts;
 use circuit::checks::check_sizes;
 use protocol::Fault;
 use record::word_at;
@@ -31,8 +28,6 @@ const HEAD_BYTES: usize = 24;
 const WORD_BYTES: usize = 4;
 
 const MAX_WORDS: usize = 1024;
-
-const MAX_COUNT: u32 = 1024;
 
 // Room for every text.
 pub const TEXT_BYTES: usize = 131072;
@@ -60,23 +55,6 @@ fn words_into(bytes: &[u8], words: &mut [u32])
     while i < words.len() {
         words[i] = word_at(bytes, i);
         i += 1;
-    }
-}
-
-// 5: not over 1,024 entries.
-fn check_counts(a: u32, b: u32, c: u32) -> Fault
-    ensures { λ f. ⌜ faultRefusal f ≡ listRefusal (leb a maxSize ∷ leb b maxSize ∷ leb c maxSize ∷ []) ⌝ }
-{
-    if a > MAX_COUNT {
-        return Fault::Refused(5, 0);
-    }
-    if b > MAX_COUNT {
-        return Fault::Refused(5, 1);
-    }
-    if c > MAX_COUNT {
-        Fault::Refused(5, 2)
-    } else {
-        Fault::Fine
     }
 }
 

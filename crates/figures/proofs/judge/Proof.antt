@@ -21,7 +21,7 @@ enum-known-fault c = search needs
 returns : tie.Need-returns
 returns c =
     let c2 = c .before in
-    let c1 = c2 .before .before in
+    let c1 = c2 .before .before .before in
     let start = c1 .before in
     let a = start .args .request in
     counts-judged (a .r) (a .c) (a .x) (a .entries .a) (a .entries .b) (a .entries .c) _
@@ -29,9 +29,10 @@ returns c =
 
 returns-2 : tie.Need-returns-2
 returns-2 c =
-    let a = c .before .before .before .before .args .request in
+    let c1 = c .before .before .before .before in
+    let a = c1 .before .args .request in
     sizes-refused (a .r) (a .c) (a .x) (a .entries .a) (a .entries .b) (a .entries .c) _
-    (sym (ap faultRefusal (c .before .fault .given .1)) ∙ c .before .before .before .check-sizes .ensures)
+    (sym (ap faultRefusal (c .before .fault .given .1)) ∙ c1 .check-sizes .ensures)
 
 pub judge-spec : {M : Type 1} → statement M
 judge-spec =
