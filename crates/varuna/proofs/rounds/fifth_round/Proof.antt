@@ -23,60 +23,76 @@ use Rattle.varuna.proofs.rounds.fifth_round.Tie as tie
 
 -- what the call is given, the lengths of its lent slices, the lengths that they must have, its challenge words and its points
 abbrev input : tie.Start → ProverInput
-input s = proverInput (s .args .r) (s .args .c) (s .args .x) (s .args .ea .now) (s .args .eb .now) (s .args .ec .now) (s .args .z .now) (s .args .mask) (s .args .m .now)
+input s =
+    let a = s .args in
+    proverInput (a .r) (a .c) (a .x) (a .ea .now) (a .eb .now) (a .ec .now) (a .z .now) (a .mask) (a .m .now)
 
 abbrev lent : tie.Start → List ℕ
 lent s = length (s .args .out .now) ∷ []
 
 abbrev due : tie.Start → List ℕ
-due s = (max (sizeFor (length (entriesOf (s .args .ea .now)))) (max (sizeFor (length (entriesOf (s .args .eb .now)))) (sizeFor (length (entriesOf (s .args .ec .now))))) - 1) ∷ []
+due s =
+    let size : List ℕ → ℕ = λ l. sizeFor (length (entriesOf l)) in
+    (max (size (s .args .ea .now)) (max (size (s .args .eb .now)) (size (s .args .ec .now))) - 1) ∷ []
 
 abbrev challenges : tie.Start → List ℕ
-challenges s = s .args .alpha ∷ (s .args .eta) .a ∷ (s .args .eta) .b ∷ (s .args .eta) .c ∷ s .args .beta ∷ (s .args .delta) .a ∷ (s .args .delta) .b ∷ (s .args .delta) .c ∷ []
+challenges s =
+    let a = s .args in
+    a .alpha ∷ a .eta .a ∷ a .eta .b ∷ a .eta .c ∷ a .beta ∷ a .delta .a ∷ a .delta .b ∷ a .delta .c ∷ []
 
 abbrev points : tie.Start → List ℕ
 points s = s .args .alpha ∷ s .args .beta ∷ []
 
+-- the start, from the judgement
+abbrev start : tie.After-judge-round → tie.Start
+start c = c .before .before .before .before .before .before .before .before .before .before .before .before .before
+
 judgement : (c : tie.After-judge-round)
     → faultRefusal (c .judge-round .result)
-    ≡ roundRefusal babyBear (input (c .before .before .before .before .before .before .before .before .before .before .before .before .before)) (lent (c .before .before .before .before .before .before .before .before .before .before .before .before .before)) (due (c .before .before .before .before .before .before .before .before .before .before .before .before .before)) (challenges (c .before .before .before .before .before .before .before .before .before .before .before .before .before)) (points (c .before .before .before .before .before .before .before .before .before .before .before .before .before))
+    ≡ roundRefusal babyBear (input (start c)) (lent (start c)) (due (start c)) (challenges (start c)) (points (start c))
 unfolding circuitOf
 judgement c =
-    let s = c .before .before .before .before .before .before .before .before .before .before .before .before .before in
+    let s = start c in
     let k : Circuit = circuitOf (input s .circuit) in
+    let less = c .before .before .before .before .before in
     c .judge-round .ensures babyBear babyBear-qualifies refl
     ∙ ap (λ (n : ℕ). roundRefusal babyBear (input s) (lent s) (n ∷ []) (challenges s) (points s))
-    (c .before .before .before .before .before .less .ensures
+    (less .less .ensures
     ∙ ap (λ (n : ℕ). n - 1)
-    (c .before .before .before .before .before .before .largest-size .ensures k refl ∙ largest-by-counts k (s .args .ea .now) (s .args .eb .now) (s .args .ec .now) refl))
+    (less .before .largest-size .ensures k refl ∙ largest-by-counts k (s .args .ea .now) (s .args .eb .now) (s .args .ec .now) refl))
 
 -- nothing was refused
 abbrev Fitting : tie.Start → Type 0
-Fitting s = RoundFits (s .args .r) (s .args .c) (s .args .x) (s .args .ea .now) (s .args .eb .now) (s .args .ec .now) babyBear (s .args .z .now) (s .args .m .now) (s .args .mask) (lent s) (due s) (challenges s) (points s)
+Fitting s =
+    let a = s .args in
+    RoundFits (a .r) (a .c) (a .x) (a .ea .now) (a .eb .now) (a .ec .now) babyBear (a .z .now) (a .m .now) (a .mask)
+    (lent s) (due s) (challenges s) (points s)
 
-fits : (c : tie.After-enum-told) → Fitting (c .before .before .before .before .before .before .before .before .before .before .before .before .before .before .before)
+fits : (c : tie.After-enum-told) → Fitting (start (c .before .before))
 fits c =
-    let s = c .before .before .before .before .before .before .before .before .before .before .before .before .before .before .before in
-    round-fits (s .args .r) (s .args .c) (s .args .x) (s .args .ea .now) (s .args .eb .now) (s .args .ec .now) babyBear (s .args .z .now) (s .args .m .now) (s .args .mask) (lent s) (due s) (challenges s) (points s)
+    let s = start (c .before .before) in
+    let a = s .args in
+    round-fits (a .r) (a .c) (a .x) (a .ea .now) (a .eb .now) (a .ec .now) babyBear (a .z .now) (a .m .now) (a .mask)
+    (lent s) (due s) (challenges s) (points s)
     (matched (c .enum-told .given .1) (judgement (c .before .before)))
 
 largest-size-requires : tie.Need-largest-size-requires
-largest-size-requires c κs = search needs
+largest-size-requires c κs = tt
 
 less-requires : tie.Need-less-requires
-less-requires c κs = search needs
+less-requires c κs = tt
 
 slice-aggregate-judge-round : tie.Need-slice-aggregate-judge-round
-slice-aggregate-judge-round c = search needs
+slice-aggregate-judge-round c = refl
 
 slice-aggregate-judge-round-2 : tie.Need-slice-aggregate-judge-round-2
-slice-aggregate-judge-round-2 c = search needs
+slice-aggregate-judge-round-2 c = refl
 
 slice-aggregate-judge-round-3 : tie.Need-slice-aggregate-judge-round-3
-slice-aggregate-judge-round-3 c = search needs
+slice-aggregate-judge-round-3 c = refl
 
 slice-aggregate-judge-round-4 : tie.Need-slice-aggregate-judge-round-4
-slice-aggregate-judge-round-4 c = search needs
+slice-aggregate-judge-round-4 c = refl
 
 judge-round-requires : tie.Need-judge-round-requires
 judge-round-requires c κs = search needs
@@ -94,18 +110,20 @@ enum-known-fault : tie.Need-enum-known-fault
 enum-known-fault c = search needs
 
 same-length : tie.Need-same-length
-same-length c = search needs
+same-length c = c .before .before .joined-quotient-into .kept .1 .1 .1 .1 .1 .1 .1 .1 .1 .0
 
 returns : tie.Need-returns
 unfolding fifthRoundCall lengths sizesOf circuitOf largest
 returns c =
     let d = c .before .before .before .before in
-    let s = d .before .before .before .before .before .before .before .before .before .before .before .before .before .before .before in
+    let s = start (d .before .before) in
+    let a = s .args in
     let F = fits d in
-    let k : Circuit = circuitOf (given (s .args .r) (s .args .c) (s .args .x) (s .args .ea .now) (s .args .eb .now) (s .args .ec .now)) in
-    fill-done (s .args .out .now) (matched (d .enum-told .given .1) (judgement (d .before .before)))
-    (c .before .before .joined-quotient-into .ensures babyBear k (matrix-given known-prime babyBear-qualifies (s .args .r) (s .args .c) (s .args .x) (s .args .ea .now) (s .args .eb .now) (s .args .ec .now))
-    (challenged (F .fits) (s .args .alpha) (s .args .beta) [] (F .outside)))
+    let k : Circuit = circuitOf (given (a .r) (a .c) (a .x) (a .ea .now) (a .eb .now) (a .ec .now)) in
+    fill-done (a .out .now) (matched (d .enum-told .given .1) (judgement (d .before .before)))
+    (c .before .before .joined-quotient-into .ensures babyBear k
+    (matrix-given known-prime babyBear-qualifies (a .r) (a .c) (a .x) (a .ea .now) (a .eb .now) (a .ec .now))
+    (challenged (F .fits) (a .alpha) (a .beta) [] (F .outside)))
 
 returns-2 : tie.Need-returns-2
 unfolding fifthRoundCall lengths sizesOf circuitOf largest

@@ -23,7 +23,9 @@ use Rattle.varuna.proofs.rounds.first_round.Tie as tie
 
 -- what the call is given, the lengths of its lent slices, the lengths that they must have, its challenge words and its points
 abbrev input : tie.Start → ProverInput
-input s = proverInput (s .args .r) (s .args .c) (s .args .x) (s .args .ea .now) (s .args .eb .now) (s .args .ec .now) (s .args .z .now) (s .args .mask) (s .args .m .now)
+input s =
+    let a = s .args in
+    proverInput (a .r) (a .c) (a .x) (a .ea .now) (a .eb .now) (a .ec .now) (a .z .now) (a .mask) (a .m .now)
 
 abbrev lent : tie.Start → List ℕ
 lent s = length (s .args .witness .now) ∷ length (s .args .rowQuotient .now) ∷ []
@@ -37,41 +39,51 @@ challenges s = []
 abbrev points : tie.Start → List ℕ
 points s = []
 
+-- the start, from the judgement
+abbrev start : tie.After-judge-round → tie.Start
+start c = c .before .before .before .before .before .before .before .before .before .before .before .before .before
+
 judgement : (c : tie.After-judge-round)
     → faultRefusal (c .judge-round .result)
-    ≡ roundRefusal babyBear (input (c .before .before .before .before .before .before .before .before .before .before .before .before .before)) (lent (c .before .before .before .before .before .before .before .before .before .before .before .before .before)) (due (c .before .before .before .before .before .before .before .before .before .before .before .before .before)) (challenges (c .before .before .before .before .before .before .before .before .before .before .before .before .before)) (points (c .before .before .before .before .before .before .before .before .before .before .before .before .before))
+    ≡ roundRefusal babyBear (input (start c)) (lent (start c)) (due (start c)) (challenges (start c)) (points (start c))
 judgement c =
-    let s = c .before .before .before .before .before .before .before .before .before .before .before .before .before in
+    let s = start c in
     c .judge-round .ensures babyBear babyBear-qualifies refl
-    ∙ ap₂ (λ (m n : ℕ). roundRefusal babyBear (input s) (lent s) ((m + 1) ∷ n ∷ []) [] []) (c .before .before .before .before .before .less .ensures) (c .before .before .before .before .less2 .ensures)
+    ∙ ap₂ (λ (m n : ℕ). roundRefusal babyBear (input s) (lent s) ((m + 1) ∷ n ∷ []) [] [])
+    (c .before .before .before .before .before .less .ensures) (c .before .before .before .before .less2 .ensures)
 
 -- nothing was refused
 abbrev Fitting : tie.Start → Type 0
-Fitting s = RoundFits (s .args .r) (s .args .c) (s .args .x) (s .args .ea .now) (s .args .eb .now) (s .args .ec .now) babyBear (s .args .z .now) (s .args .m .now) (s .args .mask) (lent s) (due s) (challenges s) (points s)
+Fitting s =
+    let a = s .args in
+    RoundFits (a .r) (a .c) (a .x) (a .ea .now) (a .eb .now) (a .ec .now) babyBear (a .z .now) (a .m .now) (a .mask)
+    (lent s) (due s) (challenges s) (points s)
 
-fits : (c : tie.After-enum-told) → Fitting (c .before .before .before .before .before .before .before .before .before .before .before .before .before .before .before)
+fits : (c : tie.After-enum-told) → Fitting (start (c .before .before))
 fits c =
-    let s = c .before .before .before .before .before .before .before .before .before .before .before .before .before .before .before in
-    round-fits (s .args .r) (s .args .c) (s .args .x) (s .args .ea .now) (s .args .eb .now) (s .args .ec .now) babyBear (s .args .z .now) (s .args .m .now) (s .args .mask) (lent s) (due s) (challenges s) (points s)
+    let s = start (c .before .before) in
+    let a = s .args in
+    round-fits (a .r) (a .c) (a .x) (a .ea .now) (a .eb .now) (a .ec .now) babyBear (a .z .now) (a .m .now) (a .mask)
+    (lent s) (due s) (challenges s) (points s)
     (matched (c .enum-told .given .1) (judgement (c .before .before)))
 
 less-requires : tie.Need-less-requires
-less-requires c κs = search needs
+less-requires c κs = tt
 
 add-t20 : tie.Need-add-t20
 add-t20 c = search needs
 
 less-requires-2 : tie.Need-less-requires-2
-less-requires-2 c κs = search needs
+less-requires-2 c κs = tt
 
 slice-aggregate-none : tie.Need-slice-aggregate-none
 slice-aggregate-none c = search needs
 
 slice-aggregate-judge-round : tie.Need-slice-aggregate-judge-round
-slice-aggregate-judge-round c = search needs
+slice-aggregate-judge-round c = refl
 
 slice-aggregate-judge-round-2 : tie.Need-slice-aggregate-judge-round-2
-slice-aggregate-judge-round-2 c = search needs
+slice-aggregate-judge-round-2 c = refl
 
 judge-round-requires : tie.Need-judge-round-requires
 judge-round-requires c κs = search needs
@@ -93,22 +105,25 @@ enum-known-fault : tie.Need-enum-known-fault
 enum-known-fault c = search needs
 
 same-length : tie.Need-same-length
-same-length c = search needs
+same-length c = c .before .before .before .before .before .before .witness-into .kept .1 .1 .1 .1 .1 .0
 
 same-length-2 : tie.Need-same-length-2
-same-length-2 c = search needs
+same-length-2 c = c .before .before .row-quotient-into .kept .1 .1 .1 .1 .1 .1 .0
 
 returns : tie.Need-returns
 unfolding firstRoundCall lengths sizesOf circuitOf
 returns c =
     let d = c .before .before .before .before .before .before .before .before in
-    let s = d .before .before .before .before .before .before .before .before .before .before .before .before .before .before .before in
+    let s = start (d .before .before) in
+    let a = s .args in
     let F = fits d in
-    let k : Circuit = circuitOf (given (s .args .r) (s .args .c) (s .args .x) (s .args .ea .now) (s .args .eb .now) (s .args .ec .now)) in
-    fill-done (s .args .witness .now, s .args .rowQuotient .now) (matched (d .enum-told .given .1) (judgement (d .before .before)))
-    (ap₂ (λ (l m : List ℕ). (l, m)) (c .before .before .before .before .before .before .witness-into .ensures babyBear known-prime k refl refl)
-    (c .before .before .row-quotient-into .ensures babyBear known-prime babyBear-qualifies k (F .fits .well-formed) refl refl (assignmentIn babyBear (input s))
-    (assignment-on-C (F .fits) refl babyBear-qualifies (s .args .mask))))
+    let k : Circuit = circuitOf (given (a .r) (a .c) (a .x) (a .ea .now) (a .eb .now) (a .ec .now)) in
+    fill-done (a .witness .now, a .rowQuotient .now) (matched (d .enum-told .given .1) (judgement (d .before .before)))
+    (ap₂ (λ (l m : List ℕ). (l, m))
+    (c .before .before .before .before .before .before .witness-into .ensures babyBear known-prime k refl refl)
+    (c .before .before .row-quotient-into .ensures babyBear known-prime babyBear-qualifies k (F .fits .well-formed) refl refl
+    (assignmentIn babyBear (input s))
+    (assignment-on-C (F .fits) refl babyBear-qualifies (a .mask))))
 
 returns-2 : tie.Need-returns-2
 unfolding firstRoundCall lengths sizesOf circuitOf

@@ -1,5 +1,5 @@
 -- `varuna::rounds::fourth_round` meets its contract. Assumes nothing.
-use mathlib.Core.Path.{_≡_, refl, ap, ap₂, _∙_}
+use mathlib.Core.Path.{_≡_, refl, ap, _∙_}
 use mathlib.Core.List.{List, [], _∷_}
 use Prim.Native.Nat.{ℕ, _-_}
 use lib.Dec.{lit<}
@@ -25,13 +25,17 @@ use Rattle.varuna.proofs.rounds.fourth_round.Tie as tie
 
 -- what the call is given, the lengths of its lent slices, the lengths that they must have, its challenge words and its points
 abbrev input : tie.Start → ProverInput
-input s = proverInput (s .args .r) (s .args .c) (s .args .x) (s .args .ea .now) (s .args .eb .now) (s .args .ec .now) (s .args .z .now) (s .args .mask) (s .args .m .now)
+input s =
+    let a = s .args in
+    proverInput (a .r) (a .c) (a .x) (a .ea .now) (a .eb .now) (a .ec .now) (a .z .now) (a .mask) (a .m .now)
 
 abbrev lent : tie.Start → List ℕ
 lent s = length (s .args .ga .now) ∷ length (s .args .gb .now) ∷ length (s .args .gc .now) ∷ []
 
 abbrev due : tie.Start → List ℕ
-due s = (sizeFor (length (entriesOf (s .args .ea .now))) - 1) ∷ (sizeFor (length (entriesOf (s .args .eb .now))) - 1) ∷ (sizeFor (length (entriesOf (s .args .ec .now))) - 1) ∷ []
+due s =
+    (sizeFor (length (entriesOf (s .args .ea .now))) - 1) ∷ (sizeFor (length (entriesOf (s .args .eb .now))) - 1)
+    ∷ (sizeFor (length (entriesOf (s .args .ec .now))) - 1) ∷ []
 
 abbrev challenges : tie.Start → List ℕ
 challenges s = s .args .alpha ∷ (s .args .eta) .a ∷ (s .args .eta) .b ∷ (s .args .eta) .c ∷ s .args .beta ∷ []
@@ -39,58 +43,83 @@ challenges s = s .args .alpha ∷ (s .args .eta) .a ∷ (s .args .eta) .b ∷ (s
 abbrev points : tie.Start → List ℕ
 points s = s .args .alpha ∷ s .args .beta ∷ []
 
+three-listed : {l m n l′ m′ n′ : ℕ} → l ≡ l′ → m ≡ m′ → n ≡ n′ → _≡_ {A = List ℕ} (l ∷ m ∷ n ∷ []) (l′ ∷ m′ ∷ n′ ∷ [])
+three-listed at-l at-m at-n = cc
+
+-- the start, from the judgement
+abbrev start : tie.After-judge-round → tie.Start
+start c =
+    let lengths = c .before .before .before .before .before .before .before .before .before .before in
+    lengths .before .before .before .before .before .before .before .before .before
+
 judgement : (c : tie.After-judge-round)
     → faultRefusal (c .judge-round .result)
-    ≡ roundRefusal babyBear (input (c .before .before .before .before .before .before .before .before .before .before .before .before .before .before .before .before .before .before .before)) (lent (c .before .before .before .before .before .before .before .before .before .before .before .before .before .before .before .before .before .before .before)) (due (c .before .before .before .before .before .before .before .before .before .before .before .before .before .before .before .before .before .before .before)) (challenges (c .before .before .before .before .before .before .before .before .before .before .before .before .before .before .before .before .before .before .before)) (points (c .before .before .before .before .before .before .before .before .before .before .before .before .before .before .before .before .before .before .before))
+    ≡ roundRefusal babyBear (input (start c)) (lent (start c)) (due (start c)) (challenges (start c)) (points (start c))
 judgement c =
-    let s = c .before .before .before .before .before .before .before .before .before .before .before .before .before .before .before .before .before .before .before in
+    let s = start c in
+    let less3 = c .before .before .before .before .before in
+    let less2 = less3 .before .before in
+    let less = less2 .before .before in
     c .judge-round .ensures babyBear babyBear-qualifies refl
-    ∙ ap
-    (λ (n : ℕ). roundRefusal babyBear (input s) (lent s) (n ∷ c .before .before .before .before .before .before .before .less2 .result ∷ c .before .before .before .before .before .less3 .result ∷ []) (challenges s) (points s))
-    (c .before .before .before .before .before .before .before .before .before .less .ensures ∙ ap (λ (n : ℕ). n - 1) (c .before .before .before .before .before .before .before .before .before .before .size-of .ensures))
-    ∙ ap₂
-    (λ (m n : ℕ). roundRefusal babyBear (input s) (lent s) ((sizeFor (length (entriesOf (s .args .ea .now))) - 1) ∷ m ∷ n ∷ []) (challenges s) (points s))
-    (c .before .before .before .before .before .before .before .less2 .ensures ∙ ap (λ (n : ℕ). n - 1) (c .before .before .before .before .before .before .before .before .size-of2 .ensures)) (c .before .before .before .before .before .less3 .ensures ∙ ap (λ (n : ℕ). n - 1) (c .before .before .before .before .before .before .size-of3 .ensures))
+    ∙ ap (λ (l : List ℕ). roundRefusal babyBear (input s) (lent s) l (challenges s) (points s))
+    (three-listed (less .less .ensures ∙ ap (λ (n : ℕ). n - 1) (less .before .size-of .ensures))
+    (less2 .less2 .ensures ∙ ap (λ (n : ℕ). n - 1) (less2 .before .size-of2 .ensures))
+    (less3 .less3 .ensures ∙ ap (λ (n : ℕ). n - 1) (less3 .before .size-of3 .ensures)))
 
 -- nothing was refused
 abbrev Fitting : tie.Start → Type 0
-Fitting s = RoundFits (s .args .r) (s .args .c) (s .args .x) (s .args .ea .now) (s .args .eb .now) (s .args .ec .now) babyBear (s .args .z .now) (s .args .m .now) (s .args .mask) (lent s) (due s) (challenges s) (points s)
+Fitting s =
+    let a = s .args in
+    RoundFits (a .r) (a .c) (a .x) (a .ea .now) (a .eb .now) (a .ec .now) babyBear (a .z .now) (a .m .now) (a .mask)
+    (lent s) (due s) (challenges s) (points s)
 
-fits : (c : tie.After-enum-told) → Fitting (c .before .before .before .before .before .before .before .before .before .before .before .before .before .before .before .before .before .before .before .before .before)
+fits : (c : tie.After-enum-told) → Fitting (start (c .before .before))
 fits c =
-    let s = c .before .before .before .before .before .before .before .before .before .before .before .before .before .before .before .before .before .before .before .before .before in
-    round-fits (s .args .r) (s .args .c) (s .args .x) (s .args .ea .now) (s .args .eb .now) (s .args .ec .now) babyBear (s .args .z .now) (s .args .m .now) (s .args .mask) (lent s) (due s) (challenges s) (points s)
+    let s = start (c .before .before) in
+    let a = s .args in
+    round-fits (a .r) (a .c) (a .x) (a .ea .now) (a .eb .now) (a .ec .now) babyBear (a .z .now) (a .m .now) (a .mask)
+    (lent s) (due s) (challenges s) (points s)
     (matched (c .enum-told .given .1) (judgement (c .before .before)))
 
+-- the places of the three fills, from the last value
+abbrev at-c : tie.After-matrix-value3 → tie.After-matrix-remainder-into3
+at-c c = c .before .before .before .before .before
+
+abbrev at-b : tie.After-matrix-value3 → tie.After-matrix-remainder-into2
+at-b c = at-c c .before .before .before .before
+
+abbrev at-a : tie.After-matrix-value3 → tie.After-matrix-remainder-into
+at-a c = at-b c .before .before .before .before
+
 size-of-requires : tie.Need-size-of-requires
-size-of-requires c κs = search needs
+size-of-requires c κs = tt
 
 less-requires : tie.Need-less-requires
-less-requires c κs = search needs
+less-requires c κs = tt
 
 size-of-requires-2 : tie.Need-size-of-requires-2
-size-of-requires-2 c κs = search needs
+size-of-requires-2 c κs = tt
 
 less-requires-2 : tie.Need-less-requires-2
-less-requires-2 c κs = search needs
+less-requires-2 c κs = tt
 
 size-of-requires-3 : tie.Need-size-of-requires-3
-size-of-requires-3 c κs = search needs
+size-of-requires-3 c κs = tt
 
 less-requires-3 : tie.Need-less-requires-3
-less-requires-3 c κs = search needs
+less-requires-3 c κs = tt
 
 slice-aggregate-judge-round : tie.Need-slice-aggregate-judge-round
-slice-aggregate-judge-round c = search needs
+slice-aggregate-judge-round c = refl
 
 slice-aggregate-judge-round-2 : tie.Need-slice-aggregate-judge-round-2
-slice-aggregate-judge-round-2 c = search needs
+slice-aggregate-judge-round-2 c = refl
 
 slice-aggregate-judge-round-3 : tie.Need-slice-aggregate-judge-round-3
-slice-aggregate-judge-round-3 c = search needs
+slice-aggregate-judge-round-3 c = refl
 
 slice-aggregate-judge-round-4 : tie.Need-slice-aggregate-judge-round-4
-slice-aggregate-judge-round-4 c = search needs
+slice-aggregate-judge-round-4 c = refl
 
 judge-round-requires : tie.Need-judge-round-requires
 judge-round-requires c κs = search needs
@@ -132,32 +161,34 @@ enum-known-fault : tie.Need-enum-known-fault
 enum-known-fault c = search needs
 
 same-length : tie.Need-same-length
-same-length c = search needs
+same-length c = at-a c .matrix-remainder-into .kept .1 .1 .1 .1 .1 .1 .0
 
 same-length-2 : tie.Need-same-length-2
-same-length-2 c = search needs
+same-length-2 c = at-b c .matrix-remainder-into2 .kept .1 .1 .1 .1 .1 .1 .0
 
 same-length-3 : tie.Need-same-length-3
-same-length-3 c = search needs
+same-length-3 c = at-c c .matrix-remainder-into3 .kept .1 .1 .1 .1 .1 .1 .0
 
 returns : tie.Need-returns
 unfolding fourthRoundCall lengths sizesOf circuitOf values
 returns c =
-    let d = c .before .before .before .before .before .before .before .before .before .before .before .before .before .before .before in
-    let s = d .before .before .before .before .before .before .before .before .before .before .before .before .before .before .before .before .before .before .before .before .before in
+    let d = at-a c .before .before in
+    let s = start (d .before .before) in
+    let a = s .args in
     let F = fits d in
-    let k : Circuit = circuitOf (given (s .args .r) (s .args .c) (s .args .x) (s .args .ea .now) (s .args .eb .now) (s .args .ec .now)) in
-    let outside = challenged (F .fits) (s .args .alpha) (s .args .beta) [] (F .outside) in
-    fill-three-done (mapThree (λ (a : Elem babyBear). a .word) (values k (of (s .args .alpha)) (of (s .args .beta))))
+    let k : Circuit = circuitOf (given (a .r) (a .c) (a .x) (a .ea .now) (a .eb .now) (a .ec .now)) in
+    let outside = challenged (F .fits) (a .alpha) (a .beta) [] (F .outside) in
+    let given-matrix = matrix-given known-prime babyBear-qualifies (a .r) (a .c) (a .x) (a .ea .now) (a .eb .now) (a .ec .now) in
+    fill-three-done (mapThree (λ (e : Elem babyBear). e .word) (values k (of (a .alpha)) (of (a .beta))))
     (matched (d .enum-told .given .1) (judgement (d .before .before)))
-    (c .before .before .matrix-value .ensures babyBear k A (matrix-given known-prime babyBear-qualifies (s .args .r) (s .args .c) (s .args .x) (s .args .ea .now) (s .args .eb .now) (s .args .ec .now) A))
-    (c .before .matrix-value2 .ensures babyBear k B (matrix-given known-prime babyBear-qualifies (s .args .r) (s .args .c) (s .args .x) (s .args .ea .now) (s .args .eb .now) (s .args .ec .now) B))
-    (c .matrix-value3 .ensures babyBear k C (matrix-given known-prime babyBear-qualifies (s .args .r) (s .args .c) (s .args .x) (s .args .ea .now) (s .args .eb .now) (s .args .ec .now) C))
-    (threeOf (s .args .ga .now) (s .args .gb .now) (s .args .gc .now))
-    (three-same (each (λ M. words (matrixRemainder {q = babyBear} k (of (s .args .alpha)) (of (s .args .beta)) M)))
-    (c .before .before .before .before .before .before .before .before .before .before .before .before .before .matrix-remainder-into .ensures babyBear k A (matrix-given known-prime babyBear-qualifies (s .args .r) (s .args .c) (s .args .x) (s .args .ea .now) (s .args .eb .now) (s .args .ec .now) A) outside)
-    (c .before .before .before .before .before .before .before .before .before .matrix-remainder-into2 .ensures babyBear k B (matrix-given known-prime babyBear-qualifies (s .args .r) (s .args .c) (s .args .x) (s .args .ea .now) (s .args .eb .now) (s .args .ec .now) B) outside)
-    (c .before .before .before .before .before .matrix-remainder-into3 .ensures babyBear k C (matrix-given known-prime babyBear-qualifies (s .args .r) (s .args .c) (s .args .x) (s .args .ea .now) (s .args .eb .now) (s .args .ec .now) C) outside))
+    (c .before .before .matrix-value .ensures babyBear k A (given-matrix A))
+    (c .before .matrix-value2 .ensures babyBear k B (given-matrix B))
+    (c .matrix-value3 .ensures babyBear k C (given-matrix C))
+    (threeOf (a .ga .now) (a .gb .now) (a .gc .now))
+    (three-same (each (λ M. words (matrixRemainder {q = babyBear} k (of (a .alpha)) (of (a .beta)) M)))
+    (at-a c .matrix-remainder-into .ensures babyBear k A (given-matrix A) outside)
+    (at-b c .matrix-remainder-into2 .ensures babyBear k B (given-matrix B) outside)
+    (at-c c .matrix-remainder-into3 .ensures babyBear k C (given-matrix C) outside))
 
 returns-2 : tie.Need-returns-2
 unfolding fourthRoundCall lengths sizesOf circuitOf

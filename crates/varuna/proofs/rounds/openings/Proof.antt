@@ -24,7 +24,9 @@ append = ap₂ (λ (l m : List ℕ). l ++ m)
 
 -- what the call is given, the lengths of its lent slices, the lengths that they must have, its challenge words and its points
 abbrev input : tie.Start → ProverInput
-input s = proverInput (s .args .r) (s .args .c) (s .args .x) (s .args .ea .now) (s .args .eb .now) (s .args .ec .now) (s .args .z .now) (s .args .mask) (s .args .m .now)
+input s =
+    let a = s .args in
+    proverInput (a .r) (a .c) (a .x) (a .ea .now) (a .eb .now) (a .ec .now) (a .z .now) (a .mask) (a .m .now)
 
 abbrev lent : tie.Start → List ℕ
 lent s = []
@@ -33,24 +35,35 @@ abbrev due : tie.Start → List ℕ
 due s = []
 
 abbrev challenges : tie.Start → List ℕ
-challenges s = s .args .alpha ∷ (s .args .eta) .a ∷ (s .args .eta) .b ∷ (s .args .eta) .c ∷ s .args .beta ∷ (s .args .delta) .a ∷ (s .args .delta) .b ∷ (s .args .delta) .c ∷ s .args .gamma ∷ []
+challenges s =
+    let a = s .args in
+    a .alpha ∷ a .eta .a ∷ a .eta .b ∷ a .eta .c ∷ a .beta ∷ a .delta .a ∷ a .delta .b ∷ a .delta .c ∷ a .gamma ∷ []
 
 abbrev points : tie.Start → List ℕ
 points s = s .args .alpha ∷ s .args .beta ∷ s .args .gamma ∷ []
 
+-- the start, from the judgement
+abbrev start : tie.After-judge-round → tie.Start
+start c = c .before .before .before .before .before .before .before .before .before
+
 judgement : (c : tie.After-judge-round)
     → faultRefusal (c .judge-round .result)
-    ≡ roundRefusal babyBear (input (c .before .before .before .before .before .before .before .before .before)) (lent (c .before .before .before .before .before .before .before .before .before)) (due (c .before .before .before .before .before .before .before .before .before)) (challenges (c .before .before .before .before .before .before .before .before .before)) (points (c .before .before .before .before .before .before .before .before .before))
+    ≡ roundRefusal babyBear (input (start c)) (lent (start c)) (due (start c)) (challenges (start c)) (points (start c))
 judgement c = c .judge-round .ensures babyBear babyBear-qualifies refl
 
 -- nothing was refused
 abbrev Fitting : tie.Start → Type 0
-Fitting s = RoundFits (s .args .r) (s .args .c) (s .args .x) (s .args .ea .now) (s .args .eb .now) (s .args .ec .now) babyBear (s .args .z .now) (s .args .m .now) (s .args .mask) (lent s) (due s) (challenges s) (points s)
+Fitting s =
+    let a = s .args in
+    RoundFits (a .r) (a .c) (a .x) (a .ea .now) (a .eb .now) (a .ec .now) babyBear (a .z .now) (a .m .now) (a .mask)
+    (lent s) (due s) (challenges s) (points s)
 
-fits : (c : tie.After-enum-told) → Fitting (c .before .before .before .before .before .before .before .before .before .before .before)
+fits : (c : tie.After-enum-told) → Fitting (start (c .before .before))
 fits c =
-    let s = c .before .before .before .before .before .before .before .before .before .before .before in
-    round-fits (s .args .r) (s .args .c) (s .args .x) (s .args .ea .now) (s .args .eb .now) (s .args .ec .now) babyBear (s .args .z .now) (s .args .m .now) (s .args .mask) (lent s) (due s) (challenges s) (points s)
+    let s = start (c .before .before) in
+    let a = s .args in
+    round-fits (a .r) (a .c) (a .x) (a .ea .now) (a .eb .now) (a .ec .now) babyBear (a .z .now) (a .m .now) (a .mask)
+    (lent s) (due s) (challenges s) (points s)
     (matched (c .enum-told .given .1) (judgement (c .before .before)))
 
 array-share-prefix-lengths : tie.Need-array-share-prefix-lengths
@@ -60,10 +73,10 @@ slice-aggregate-none : tie.Need-slice-aggregate-none
 slice-aggregate-none c = search needs
 
 slice-aggregate-judge-round : tie.Need-slice-aggregate-judge-round
-slice-aggregate-judge-round c = search needs
+slice-aggregate-judge-round c = refl
 
 slice-aggregate-judge-round-2 : tie.Need-slice-aggregate-judge-round-2
-slice-aggregate-judge-round-2 c = search needs
+slice-aggregate-judge-round-2 c = refl
 
 judge-round-requires : tie.Need-judge-round-requires
 judge-round-requires c κs = search needs
@@ -96,12 +109,13 @@ returns : tie.Need-returns
 unfolding openingsCall circuitOf openings
 returns c =
     let d = c .before .before .before .before in
-    let s = d .before .before .before .before .before .before .before .before .before .before .before in
-    let k : Circuit = circuitOf (given (s .args .r) (s .args .c) (s .args .x) (s .args .ea .now) (s .args .eb .now) (s .args .ec .now)) in
+    let s = start (d .before .before) in
+    let a = s .args in
+    let k : Circuit = circuitOf (given (a .r) (a .c) (a .x) (a .ea .now) (a .eb .now) (a .ec .now)) in
     done _ (matched (d .enum-told .given .1) (judgement (d .before .before)))
     (append
     (c .before .before .before .messages-opened .ensures babyBear known-prime babyBear-qualifies
-    (challenged (fits d .fits) (s .args .alpha) (s .args .beta) (s .args .gamma ∷ []) (fits d .outside)))
+    (challenged (fits d .fits) (a .alpha) (a .beta) (a .gamma ∷ []) (fits d .outside)))
     (append (c .before .before .index-at .ensures babyBear known-prime k A refl refl refl)
     (append (c .before .index-at2 .ensures babyBear known-prime k B refl refl refl)
     (c .index-at3 .ensures babyBear known-prime k C refl refl refl))))

@@ -23,7 +23,9 @@ use Rattle.varuna.proofs.rounds.second_round.Tie as tie
 
 -- what the call is given, the lengths of its lent slices, the lengths that they must have, its challenge words and its points
 abbrev input : tie.Start → ProverInput
-input s = proverInput (s .args .r) (s .args .c) (s .args .x) (s .args .ea .now) (s .args .eb .now) (s .args .ec .now) (s .args .z .now) (s .args .mask) (s .args .m .now)
+input s =
+    let a = s .args in
+    proverInput (a .r) (a .c) (a .x) (a .ea .now) (a .eb .now) (a .ec .now) (a .z .now) (a .mask) (a .m .now)
 
 abbrev lent : tie.Start → List ℕ
 lent s = []
@@ -37,19 +39,28 @@ challenges s = s .args .alpha ∷ []
 abbrev points : tie.Start → List ℕ
 points s = s .args .alpha ∷ []
 
+-- the start, from the judgement
+abbrev start : tie.After-judge-round → tie.Start
+start c = c .before .before .before .before .before .before .before .before .before
+
 judgement : (c : tie.After-judge-round)
     → faultRefusal (c .judge-round .result)
-    ≡ roundRefusal babyBear (input (c .before .before .before .before .before .before .before .before .before)) (lent (c .before .before .before .before .before .before .before .before .before)) (due (c .before .before .before .before .before .before .before .before .before)) (challenges (c .before .before .before .before .before .before .before .before .before)) (points (c .before .before .before .before .before .before .before .before .before))
+    ≡ roundRefusal babyBear (input (start c)) (lent (start c)) (due (start c)) (challenges (start c)) (points (start c))
 judgement c = c .judge-round .ensures babyBear babyBear-qualifies refl
 
 -- nothing was refused
 abbrev Fitting : tie.Start → Type 0
-Fitting s = RoundFits (s .args .r) (s .args .c) (s .args .x) (s .args .ea .now) (s .args .eb .now) (s .args .ec .now) babyBear (s .args .z .now) (s .args .m .now) (s .args .mask) (lent s) (due s) (challenges s) (points s)
+Fitting s =
+    let a = s .args in
+    RoundFits (a .r) (a .c) (a .x) (a .ea .now) (a .eb .now) (a .ec .now) babyBear (a .z .now) (a .m .now) (a .mask)
+    (lent s) (due s) (challenges s) (points s)
 
-fits : (c : tie.After-enum-told) → Fitting (c .before .before .before .before .before .before .before .before .before .before .before)
+fits : (c : tie.After-enum-told) → Fitting (start (c .before .before))
 fits c =
-    let s = c .before .before .before .before .before .before .before .before .before .before .before in
-    round-fits (s .args .r) (s .args .c) (s .args .x) (s .args .ea .now) (s .args .eb .now) (s .args .ec .now) babyBear (s .args .z .now) (s .args .m .now) (s .args .mask) (lent s) (due s) (challenges s) (points s)
+    let s = start (c .before .before) in
+    let a = s .args in
+    round-fits (a .r) (a .c) (a .x) (a .ea .now) (a .eb .now) (a .ec .now) babyBear (a .z .now) (a .m .now) (a .mask)
+    (lent s) (due s) (challenges s) (points s)
     (matched (c .enum-told .given .1) (judgement (c .before .before)))
 
 array-share-prefix-lengths : tie.Need-array-share-prefix-lengths
@@ -59,10 +70,10 @@ slice-aggregate-none : tie.Need-slice-aggregate-none
 slice-aggregate-none c = search needs
 
 slice-aggregate-judge-round : tie.Need-slice-aggregate-judge-round
-slice-aggregate-judge-round c = search needs
+slice-aggregate-judge-round c = refl
 
 slice-aggregate-judge-round-2 : tie.Need-slice-aggregate-judge-round-2
-slice-aggregate-judge-round-2 c = search needs
+slice-aggregate-judge-round-2 c = refl
 
 judge-round-requires : tie.Need-judge-round-requires
 judge-round-requires c κs = search needs
@@ -92,15 +103,17 @@ returns : tie.Need-returns
 unfolding secondRoundCall sums circuitOf
 returns c =
     let d = c .before .before .before in
-    let s = d .before .before .before .before .before .before .before .before .before .before .before in
+    let s = start (d .before .before) in
+    let a = s .args in
     let F = fits d in
-    let k : Circuit = circuitOf (given (s .args .r) (s .args .c) (s .args .x) (s .args .ea .now) (s .args .eb .now) (s .args .ec .now)) in
-    let on = assignment-on-C (F .fits) refl babyBear-qualifies (s .args .mask) in
-    three-done (mapThree (λ (a : Elem babyBear). a .word) (sums k (assignmentIn babyBear (input s)) (of (s .args .alpha))))
+    let k : Circuit = circuitOf (given (a .r) (a .c) (a .x) (a .ea .now) (a .eb .now) (a .ec .now)) in
+    let assigned = assignmentIn babyBear (input s) in
+    let on = assignment-on-C (F .fits) refl babyBear-qualifies (a .mask) in
+    three-done (mapThree (λ (e : Elem babyBear). e .word) (sums k assigned (of (a .alpha))))
     (matched (d .enum-told .given .1) (judgement (d .before .before)))
-    (c .before .before .row-sum-value .ensures babyBear known-prime babyBear-qualifies k (F .fits .well-formed) refl A refl (assignmentIn babyBear (input s)) on)
-    (c .before .row-sum-value2 .ensures babyBear known-prime babyBear-qualifies k (F .fits .well-formed) refl B refl (assignmentIn babyBear (input s)) on)
-    (c .row-sum-value3 .ensures babyBear known-prime babyBear-qualifies k (F .fits .well-formed) refl C refl (assignmentIn babyBear (input s)) on)
+    (c .before .before .row-sum-value .ensures babyBear known-prime babyBear-qualifies k (F .fits .well-formed) refl A refl assigned on)
+    (c .before .row-sum-value2 .ensures babyBear known-prime babyBear-qualifies k (F .fits .well-formed) refl B refl assigned on)
+    (c .row-sum-value3 .ensures babyBear known-prime babyBear-qualifies k (F .fits .well-formed) refl C refl assigned on)
 
 returns-2 : tie.Need-returns-2
 unfolding secondRoundCall

@@ -1,7 +1,7 @@
 -- `varuna::rounds::third_round` meets its contract. Assumes nothing.
 use mathlib.Core.Path.{_≡_, refl, sym, ap, ap₂, _∙_}
 use mathlib.Core.List.{List, [], _∷_}
-use Prim.Native.Nat.{ℕ, _-_}
+use Prim.Native.Nat.{ℕ, _-_, _*_, _≤_}
 use lib.Dec.{lit<}
 use lib.ListN.{length}
 use borrow.Author.Tests.{eqb-true}
@@ -26,7 +26,9 @@ use Rattle.varuna.proofs.rounds.third_round.Tie as tie
 
 -- what the call is given, the lengths of its lent slices, the lengths that they must have, its challenge words and its points
 abbrev input : tie.Start → ProverInput
-input s = proverInput (s .args .r) (s .args .c) (s .args .x) (s .args .ea .now) (s .args .eb .now) (s .args .ec .now) (s .args .z .now) (s .args .mask) (s .args .m .now)
+input s =
+    let a = s .args in
+    proverInput (a .r) (a .c) (a .x) (a .ea .now) (a .eb .now) (a .ec .now) (a .z .now) (a .mask) (a .m .now)
 
 abbrev lent : tie.Start → List ℕ
 lent s = length (s .args .remainder .now) ∷ length (s .args .quotient .now) ∷ []
@@ -40,38 +42,55 @@ challenges s = s .args .alpha ∷ (s .args .eta) .a ∷ (s .args .eta) .b ∷ (s
 abbrev points : tie.Start → List ℕ
 points s = s .args .alpha ∷ []
 
+-- the start, from the judgement
+abbrev start : tie.After-judge-round → tie.Start
+start c = c .before .before .before .before .before .before .before .before .before .before .before .before .before
+
 judgement : (c : tie.After-judge-round)
     → faultRefusal (c .judge-round .result)
-    ≡ roundRefusal babyBear (input (c .before .before .before .before .before .before .before .before .before .before .before .before .before)) (lent (c .before .before .before .before .before .before .before .before .before .before .before .before .before)) (due (c .before .before .before .before .before .before .before .before .before .before .before .before .before)) (challenges (c .before .before .before .before .before .before .before .before .before .before .before .before .before)) (points (c .before .before .before .before .before .before .before .before .before .before .before .before .before))
+    ≡ roundRefusal babyBear (input (start c)) (lent (start c)) (due (start c)) (challenges (start c)) (points (start c))
 judgement c =
-    let s = c .before .before .before .before .before .before .before .before .before .before .before .before .before in
+    let s = start c in
     c .judge-round .ensures babyBear babyBear-qualifies refl
-    ∙ ap (λ (n : ℕ). roundRefusal babyBear (input s) (lent s) (n ∷ s .args .c ∷ []) (challenges s) (points s)) (c .before .before .before .before .before .less .ensures)
+    ∙ ap (λ (n : ℕ). roundRefusal babyBear (input s) (lent s) (n ∷ s .args .c ∷ []) (challenges s) (points s))
+    (c .before .before .before .before .before .less .ensures)
 
 -- nothing was refused
 abbrev Fitting : tie.Start → Type 0
-Fitting s = RoundFits (s .args .r) (s .args .c) (s .args .x) (s .args .ea .now) (s .args .eb .now) (s .args .ec .now) babyBear (s .args .z .now) (s .args .m .now) (s .args .mask) (lent s) (due s) (challenges s) (points s)
+Fitting s =
+    let a = s .args in
+    RoundFits (a .r) (a .c) (a .x) (a .ea .now) (a .eb .now) (a .ec .now) babyBear (a .z .now) (a .m .now) (a .mask)
+    (lent s) (due s) (challenges s) (points s)
 
-fits : (c : tie.After-enum-told) → Fitting (c .before .before .before .before .before .before .before .before .before .before .before .before .before .before .before)
+fits : (c : tie.After-enum-told) → Fitting (start (c .before .before))
 fits c =
-    let s = c .before .before .before .before .before .before .before .before .before .before .before .before .before .before .before in
-    round-fits (s .args .r) (s .args .c) (s .args .x) (s .args .ea .now) (s .args .eb .now) (s .args .ec .now) babyBear (s .args .z .now) (s .args .m .now) (s .args .mask) (lent s) (due s) (challenges s) (points s)
+    let s = start (c .before .before) in
+    let a = s .args in
+    round-fits (a .r) (a .c) (a .x) (a .ea .now) (a .eb .now) (a .ec .now) babyBear (a .z .now) (a .m .now) (a .mask)
+    (lent s) (due s) (challenges s) (points s)
     (matched (c .enum-told .given .1) (judgement (c .before .before)))
 
+-- the line in the array, that it is as long as its place, and that this is within the array
+abbrev line : tie.After-line-of → List ℕ
+line c = c .line-of .last .1 .1 .1 .1 .1 .1 .1 .1 .1 .1 .1 .1 .0
+
+bounded : (c : tie.After-line-of) → 2 * start (c .before .before .before .before) .args .c ≤ 2048
+bounded c = line-bound (fits (c .before .before) .fits)
+
 less-requires : tie.Need-less-requires
-less-requires c κs = search needs
+less-requires c κs = tt
 
 slice-aggregate-judge-round : tie.Need-slice-aggregate-judge-round
-slice-aggregate-judge-round c = search needs
+slice-aggregate-judge-round c = refl
 
 slice-aggregate-judge-round-2 : tie.Need-slice-aggregate-judge-round-2
-slice-aggregate-judge-round-2 c = search needs
+slice-aggregate-judge-round-2 c = refl
 
 slice-aggregate-judge-round-3 : tie.Need-slice-aggregate-judge-round-3
-slice-aggregate-judge-round-3 c = search needs
+slice-aggregate-judge-round-3 c = refl
 
 slice-aggregate-judge-round-4 : tie.Need-slice-aggregate-judge-round-4
-slice-aggregate-judge-round-4 c = search needs
+slice-aggregate-judge-round-4 c = refl
 
 judge-round-requires : tie.Need-judge-round-requires
 judge-round-requires c κs = search needs
@@ -94,10 +113,14 @@ line-of-requires c κs =
     (lit< tt, (F .fits, sym (part-length _ _ (line-bound (F .fits)))))
 
 array-share-prefix-sum : tie.Need-array-share-prefix-sum
-array-share-prefix-sum c = filled-within _ _ (line-bound (fits (c .before .before .before) .fits)) (c .before .line-of .last .1 .1 .1 .1 .1 .1 .1 .1 .1 .1 .1 .1 .0) (c .before .line-of .kept .1 .1 .1 .1 .1 .1 .1 .1 .1 .1 .1 .1 .0)
+array-share-prefix-sum c =
+    let l = c .before in
+    filled-within _ _ (bounded l) (line l) (l .line-of .kept .1 .1 .1 .1 .1 .1 .1 .1 .1 .1 .1 .1 .0)
 
 slice-aggregate-line-remainder-into : tie.Need-slice-aggregate-line-remainder-into
-slice-aggregate-line-remainder-into c = filled-length _ _ (line-bound (fits (c .before .before .before .before) .fits)) (c .before .before .line-of .last .1 .1 .1 .1 .1 .1 .1 .1 .1 .1 .1 .1 .0) (c .before .before .line-of .kept .1 .1 .1 .1 .1 .1 .1 .1 .1 .1 .1 .1 .0)
+slice-aggregate-line-remainder-into c =
+    let l = c .before .before in
+    filled-length _ _ (bounded l) (line l) (l .line-of .kept .1 .1 .1 .1 .1 .1 .1 .1 .1 .1 .1 .1 .0)
 
 line-remainder-into-requires : tie.Need-line-remainder-into-requires
 line-remainder-into-requires c κs =
@@ -105,35 +128,46 @@ line-remainder-into-requires c κs =
     (lit< tt, (C-fits (F .fits), eqb-true _ _ (F .lent-fit .0)))
 
 array-share-prefix-sum-2 : tie.Need-array-share-prefix-sum-2
-array-share-prefix-sum-2 c = filled-within _ _ (line-bound (fits (c .before .before .before .before .before .before .before .before) .fits)) (c .before .before .before .before .before .before .line-of .last .1 .1 .1 .1 .1 .1 .1 .1 .1 .1 .1 .1 .0) (c .before .before .before .before .before .before .line-of .kept .1 .1 .1 .1 .1 .1 .1 .1 .1 .1 .1 .1 .0)
+array-share-prefix-sum-2 c =
+    let l = c .before .before .before .before .before .before in
+    filled-within _ _ (bounded l) (line l) (l .line-of .kept .1 .1 .1 .1 .1 .1 .1 .1 .1 .1 .1 .1 .0)
 
 slice-aggregate-line-quotient-into : tie.Need-slice-aggregate-line-quotient-into
-slice-aggregate-line-quotient-into c = filled-length _ _ (line-bound (fits (c .before .before .before .before .before .before .before .before .before) .fits)) (c .before .before .before .before .before .before .before .line-of .last .1 .1 .1 .1 .1 .1 .1 .1 .1 .1 .1 .1 .0) (c .before .before .before .before .before .before .before .line-of .kept .1 .1 .1 .1 .1 .1 .1 .1 .1 .1 .1 .1 .0)
+slice-aggregate-line-quotient-into c =
+    let l = c .before .before .before .before .before .before .before in
+    filled-length _ _ (bounded l) (line l) (l .line-of .kept .1 .1 .1 .1 .1 .1 .1 .1 .1 .1 .1 .1 .0)
 
 line-quotient-into-requires : tie.Need-line-quotient-into-requires
 line-quotient-into-requires c κs =
-    let F = fits (c .before .before .before .before .before .before .before .before .before .before) in
-    (lit< tt, (C-fits (F .fits), (sym (filled-length _ _ (line-bound (fits (c .before .before .before .before .before .before .before .before .before .before) .fits)) (c .before .before .before .before .before .before .before .before .line-of .last .1 .1 .1 .1 .1 .1 .1 .1 .1 .1 .1 .1 .0) (c .before .before .before .before .before .before .before .before .line-of .kept .1 .1 .1 .1 .1 .1 .1 .1 .1 .1 .1 .1 .0)), eqb-true _ _ (F .lent-fit .1 .0))))
+    let l = c .before .before .before .before .before .before .before .before in
+    let F = fits (l .before .before) in
+    let length-kept = filled-length _ _ (bounded l) (line l) (l .line-of .kept .1 .1 .1 .1 .1 .1 .1 .1 .1 .1 .1 .1 .0) in
+    (lit< tt, (C-fits (F .fits), (sym length-kept, eqb-true _ _ (F .lent-fit .1 .0))))
 
 enum-known-fault : tie.Need-enum-known-fault
 enum-known-fault c = search needs
 
 same-length : tie.Need-same-length
-same-length c = search needs
+same-length c = c .before .before .before .before .before .before .before .line-remainder-into .kept .1 .1 .1 .0
 
 same-length-2 : tie.Need-same-length-2
-same-length-2 c = search needs
+same-length-2 c = c .before .before .line-quotient-into .kept .1 .1 .1 .0
 
 returns : tie.Need-returns
 unfolding thirdRoundCall lengths sizesOf circuitOf
 returns c =
-    let d = c .before .before .before .before .before .before .before .before .before .before .before .before .before in
-    let s = d .before .before .before .before .before .before .before .before .before .before .before .before .before .before .before in
-    let k : Circuit = circuitOf (given (s .args .r) (s .args .c) (s .args .x) (s .args .ea .now) (s .args .eb .now) (s .args .ec .now)) in
-    let made = (of-filled _ _ (line-bound (fits (c .before .before .before .before .before .before .before .before .before .before .before .before .before) .fits)) (c .before .before .before .before .before .before .before .before .before .before .before .line-of .last .1 .1 .1 .1 .1 .1 .1 .1 .1 .1 .1 .1 .0) (c .before .before .before .before .before .before .before .before .before .before .before .line-of .kept .1 .1 .1 .1 .1 .1 .1 .1 .1 .1 .1 .1 .0) (lineIn babyBear (input s) (s .args .alpha) (three (s .args .eta))) (c .before .before .before .before .before .before .before .before .before .before .before .line-of .ensures babyBear known-prime babyBear-qualifies)) in
-    fill-done (s .args .remainder .now, s .args .quotient .now) (matched (d .enum-told .given .1) (judgement (d .before .before)))
+    let l = c .before .before .before .before .before .before .before .before .before .before .before in
+    let d = l .before .before in
+    let s = start (d .before .before) in
+    let a = s .args in
+    let k : Circuit = circuitOf (given (a .r) (a .c) (a .x) (a .ea .now) (a .eb .now) (a .ec .now)) in
+    let made =
+    of-filled _ _ (bounded l) (line l) (l .line-of .kept .1 .1 .1 .1 .1 .1 .1 .1 .1 .1 .1 .1 .0) (lineIn babyBear (input s) (a .alpha) (three (a .eta)))
+    (l .line-of .ensures babyBear known-prime babyBear-qualifies) in
+    fill-done (a .remainder .now, a .quotient .now) (matched (d .enum-told .given .1) (judgement (d .before .before)))
     (ap₂ (λ (l m : List ℕ). (l, m))
-    (c .before .before .before .before .before .before .before .line-remainder-into .ensures babyBear refl k refl ∙ ap (λ (f : Poly babyBear). words (lineRemainder k f)) made)
+    (c .before .before .before .before .before .before .before .line-remainder-into .ensures babyBear refl k refl
+    ∙ ap (λ (f : Poly babyBear). words (lineRemainder k f)) made)
     (c .before .before .line-quotient-into .ensures babyBear refl k refl ∙ ap (λ (f : Poly babyBear). words (lineQuotient k f)) made))
 
 returns-2 : tie.Need-returns-2
