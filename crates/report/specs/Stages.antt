@@ -36,6 +36,10 @@ pub record Free (i : ProverInput) (challenges points : List ℕ) : Type 0 where
 abbrev pub due : ProverInput → Messages ℕ ℕ
 due i = lengths (sizesOf (circuitIn babyBear i))
 
+-- w, m, h0
+unfoldable pub firstLines : List ℕ → List ℕ → List ℕ → List ℕ
+firstLines w m h = section 0 w ++ (section 1 m ++ section 2 h)
+
 -- ga, gb, gc
 unfoldable pub remaindersText : Three (List ℕ) → List ℕ
 remaindersText g = section 7 (g .a) ++ (section 8 (g .b) ++ section 9 (g .c))
@@ -47,9 +51,9 @@ module _ (i : ProverInput) where
   abbrev word : Elem babyBear → ℕ
   word a = a .word
 
-  -- w, m, h0
+  -- the lines of round 1
   unfoldable pub firstText : List ℕ
-  firstText = section 0 (words (witnessIn babyBear i)) ++ (section 1 (i .m) ++ section 2 (words (rowQuotient c (assignmentIn babyBear i))))
+  firstText = firstLines (words (witnessIn babyBear i)) (i .m) (words (rowQuotient c (assignmentIn babyBear i)))
 
   -- the σ
   unfoldable pub sumWords : ℕ → Three ℕ

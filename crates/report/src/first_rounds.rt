@@ -7,43 +7,25 @@ ghost use Rattle.protocol.specs.Three.{listed};
 ghost use Rattle.protocol.specs.Meanings.{three};
 ghost use Rattle.circuit.specs.Given.{proverInput};
 ghost use Rattle.report.specs.Printed.{Printed};
-ghost use Rattle.report.specs.Stages.{Free, due, firstText, thirdText, mostLine};
+ghost use Rattle.report.specs.Stages.{Free, due, firstLines, firstText, thirdText, mostLine};
 use crate::lines::put_line;
 use circuit::judging::less;
 use protocol::Triple;
 use varuna::rounds;
 
-// Round 1 into slices, and w, m, h0.
-fn put_first_round(
-    r: u32,
-    c: u32,
-    x: u32,
-    ea: &[u32],
-    eb: &[u32],
-    ec: &[u32],
-    z: &[u32],
-    mask: u32,
-    m: &[u32],
-    witness: &mut [u32],
-    quotient: &mut [u32],
-    out: &mut [u8],
-    at: usize,
-) -> usize
-    requires { ⌜ Free (proverInput r c x (now ea) (now eb) (now ec) (now z) mask (now m)) [] [] ⌝ }
-    requires { ⌜ length (now witness) ≡ due (proverInput r c x (now ea) (now eb) (now ec) (now z) mask (now m)) .witness ⌝ }
-    requires { ⌜ length (now quotient) ≡ due (proverInput r c x (now ea) (now eb) (now ec) (now z) mask (now m)) .rowQuotient ⌝ }
+// w, m, h0.
+fn put_first_lines(witness: &[u32], m: &[u32], quotient: &[u32], out: &mut [u8], at: usize) -> usize
+    requires { ⌜ (length (now witness) ≤ 1024) × (length (now m) ≤ 2048) × (length (now quotient) ≤ 1024) ⌝ }
     requires { ⌜ at + 4 * mostLine ≤ length (now out) ⌝ }
-    ensures { λ p. ⌜ Printed (now (out .entry)) at
-        (firstText (proverInput r c x (now (ea .entry)) (now (eb .entry)) (now (ec .entry)) (now (z .entry)) mask (now (m .entry))))
+    ensures { λ p. ⌜ Printed (now (out .entry)) at (firstLines (now (witness .entry)) (now (m .entry)) (now (quotient .entry)))
         (4 * mostLine) p (now (out .exit)) ⌝ }
 {
-    rounds::first_round(r, c, x, ea, eb, ec, z, mask, m, witness, quotient);
     let first = put_line(b"w", witness, out, at);
     let second = put_line(b"m", m, out, first);
     put_line(b"h0", quotient, out, second)
 }
 
-// w, m, h0.
+// Round 1.
 pub fn put_first(
     r: u32,
     c: u32,
@@ -67,7 +49,7 @@ pub fn put_first(
     let k = less(r, 1);
     let mut witness = [0u32; 1024];
     let mut quotient = [0u32; 1024];
-    put_first_round(
+    rounds::first_round(
         r,
         c,
         x,
@@ -79,9 +61,8 @@ pub fn put_first(
         m,
         &mut witness[..n],
         &mut quotient[..k],
-        out,
-        at,
-    )
+    );
+    put_first_lines(&witness[..n], m, &quotient[..k], out, at)
 }
 
 // Round 3 into slices, and g1, h1.
