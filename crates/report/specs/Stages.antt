@@ -40,6 +40,10 @@ due i = lengths (sizesOf (circuitIn babyBear i))
 unfoldable pub firstLines : List ℕ → List ℕ → List ℕ → List ℕ
 firstLines w m h = section 0 w ++ (section 1 m ++ section 2 h)
 
+-- g1, h1
+unfoldable pub thirdLines : List ℕ → List ℕ → List ℕ
+thirdLines g h = section 4 g ++ section 5 h
+
 -- ga, gb, gc
 unfoldable pub remaindersText : Three (List ℕ) → List ℕ
 remaindersText g = section 7 (g .a) ++ (section 8 (g .b) ++ section 9 (g .c))
@@ -59,11 +63,11 @@ module _ (i : ProverInput) where
   unfoldable pub sumWords : ℕ → Three ℕ
   sumWords α = mapThree word (sums c (assignmentIn babyBear i) (of α))
 
-  -- g1, h1
+  -- the lines of round 3
   unfoldable pub thirdText : ℕ → Three ℕ → List ℕ
   thirdText α η =
       let f : Poly babyBear = lineIn babyBear i α η in
-      section 4 (words (lineRemainder c f)) ++ section 5 (words (lineQuotient c f))
+      thirdLines (words (lineRemainder c f)) (words (lineQuotient c f))
 
   -- the ω, and the g_M
   unfoldable pub valueWords : ℕ → ℕ → Three ℕ

@@ -1,5 +1,4 @@
 // Rounds 1 and 3: the sections w, m, h0, g1, h1.
-ghost use mathlib.Core.Path.{_≡_};
 ghost use mathlib.Core.List.{[], _∷_};
 ghost use Prim.Native.Nat.{_+_, _*_, _≤_};
 ghost use lib.ListN.{length};
@@ -7,7 +6,7 @@ ghost use Rattle.protocol.specs.Three.{listed};
 ghost use Rattle.protocol.specs.Meanings.{three};
 ghost use Rattle.circuit.specs.Given.{proverInput};
 ghost use Rattle.report.specs.Printed.{Printed};
-ghost use Rattle.report.specs.Stages.{Free, due, firstLines, firstText, thirdText, mostLine};
+ghost use Rattle.report.specs.Stages.{Free, firstLines, firstText, thirdLines, thirdText, mostLine};
 use crate::lines::put_line;
 use circuit::judging::less;
 use protocol::Triple;
@@ -65,53 +64,18 @@ pub fn put_first(
     put_first_lines(&witness[..n], m, &quotient[..k], out, at)
 }
 
-// Round 3 into slices, and g1, h1.
-fn put_third_round(
-    r: u32,
-    c: u32,
-    x: u32,
-    ea: &[u32],
-    eb: &[u32],
-    ec: &[u32],
-    z: &[u32],
-    mask: u32,
-    m: &[u32],
-    alpha: u32,
-    eta: Triple,
-    remainder: &mut [u32],
-    quotient: &mut [u32],
-    out: &mut [u8],
-    at: usize,
-) -> usize
-    requires { ⌜ Free (proverInput r c x (now ea) (now eb) (now ec) (now z) mask (now m)) (alpha ∷ listed (three eta)) (alpha ∷ []) ⌝ }
-    requires { ⌜ length (now remainder) ≡ due (proverInput r c x (now ea) (now eb) (now ec) (now z) mask (now m)) .lineRemainder ⌝ }
-    requires { ⌜ length (now quotient) ≡ due (proverInput r c x (now ea) (now eb) (now ec) (now z) mask (now m)) .lineQuotient ⌝ }
+// g1, h1.
+fn put_third_lines(remainder: &[u32], quotient: &[u32], out: &mut [u8], at: usize) -> usize
+    requires { ⌜ (length (now remainder) ≤ 1024) × (length (now quotient) ≤ 1024) ⌝ }
     requires { ⌜ at + 2 * mostLine ≤ length (now out) ⌝ }
-    ensures { λ p. ⌜ Printed (now (out .entry)) at
-        (thirdText (proverInput r c x (now (ea .entry)) (now (eb .entry)) (now (ec .entry)) (now (z .entry)) mask (now (m .entry)))
-        alpha (three eta))
+    ensures { λ p. ⌜ Printed (now (out .entry)) at (thirdLines (now (remainder .entry)) (now (quotient .entry)))
         (2 * mostLine) p (now (out .exit)) ⌝ }
 {
-    rounds::third_round(
-        r,
-        c,
-        x,
-        ea,
-        eb,
-        ec,
-        z,
-        mask,
-        m,
-        alpha,
-        eta,
-        remainder,
-        quotient,
-    );
     let first = put_line(b"g1", remainder, out, at);
     put_line(b"h1", quotient, out, first)
 }
 
-// g1, h1.
+// Round 3.
 pub fn put_third(
     r: u32,
     c: u32,
@@ -138,7 +102,7 @@ pub fn put_third(
     let k = c as usize;
     let mut remainder = [0u32; 1024];
     let mut quotient = [0u32; 1024];
-    put_third_round(
+    rounds::third_round(
         r,
         c,
         x,
@@ -152,7 +116,6 @@ pub fn put_third(
         eta,
         &mut remainder[..n],
         &mut quotient[..k],
-        out,
-        at,
-    )
+    );
+    put_third_lines(&remainder[..n], &quotient[..k], out, at)
 }
