@@ -147,54 +147,7 @@ pub fn put_fourth(
     )
 }
 
-// Round 5 into a slice, and h2.
-fn put_fifth_round(
-    r: u32,
-    c: u32,
-    x: u32,
-    ea: &[u32],
-    eb: &[u32],
-    ec: &[u32],
-    z: &[u32],
-    mask: u32,
-    m: &[u32],
-    alpha: u32,
-    eta: Triple,
-    beta: u32,
-    delta: Triple,
-    quotient: &mut [u32],
-    out: &mut [u8],
-    at: usize,
-) -> usize
-    requires { ⌜ Free (proverInput r c x (now ea) (now eb) (now ec) (now z) mask (now m))
-        (alpha ∷ (listed (three eta) ++ (beta ∷ listed (three delta)))) (alpha ∷ beta ∷ []) ⌝ }
-    requires { ⌜ length (now quotient) ≡ due (proverInput r c x (now ea) (now eb) (now ec) (now z) mask (now m)) .joinedQuotient ⌝ }
-    requires { ⌜ at + mostLine ≤ length (now out) ⌝ }
-    ensures { λ p. ⌜ Printed (now (out .entry)) at
-        (fifthText (proverInput r c x (now (ea .entry)) (now (eb .entry)) (now (ec .entry)) (now (z .entry)) mask (now (m .entry)))
-        alpha beta (three delta))
-        mostLine p (now (out .exit)) ⌝ }
-{
-    rounds::fifth_round(
-        r,
-        c,
-        x,
-        ea,
-        eb,
-        ec,
-        z,
-        mask,
-        m,
-        alpha,
-        eta,
-        beta,
-        delta,
-        quotient,
-    );
-    put_line(b"h2", quotient, out, at)
-}
-
-// h2, of |K| - 1 words.
+// Round 5: h2, of |K| - 1 words.
 pub fn put_fifth(
     r: u32,
     c: u32,
@@ -224,7 +177,7 @@ pub fn put_fifth(
 {
     let n = less(k, 1);
     let mut quotient = [0u32; 1024];
-    put_fifth_round(
+    rounds::fifth_round(
         r,
         c,
         x,
@@ -239,7 +192,6 @@ pub fn put_fifth(
         beta,
         delta,
         &mut quotient[..n],
-        out,
-        at,
-    )
+    );
+    put_line(b"h2", &quotient[..n], out, at)
 }
