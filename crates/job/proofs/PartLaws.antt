@@ -24,7 +24,7 @@ use Rattle.job.specs.Parts.{Placed, challengesOf, between, inputAt}
 use Rattle.job.proofs.HeadLaws.{head-fits, whole-length}
 
 -- so many words from a place on
-pub length-part : (ws : List ℕ) (at n : ℕ) → at + n ≤ length ws → length (take n (drop at ws)) ≡ n
+length-part : (ws : List ℕ) (at n : ℕ) → at + n ≤ length ws → length (take n (drop at ws)) ≡ n
 length-part ws at n h = length-take-le n (drop at ws) (omega (arith, length-drop at ws))
 
 -- an entry list by its count: whole entries, and not over 1,024 of them

@@ -17,7 +17,7 @@ use Rattle.circuit.proofs.Fitting.{round-fits, R-fits, C-fits}
 use Rattle.prover.proofs.CallLaws.{witness-bound}
 use Rattle.report.specs.Stages.{Free, due}
 
-pub size-most : (n : ℕ) → sizeFor n ≤ 1024
+size-most : (n : ℕ) → sizeFor n ≤ 1024
 size-most n = size-bound (sizeFor n) (sizeFor-is-size n)
 
 one-less : (m n : ℕ) → m ≤ n → m - 1 ≤ n
@@ -42,22 +42,6 @@ module _ (i : ProverInput) {ws points : List ℕ} (free : Free i ws points) wher
 
   pub mask-most : length (i .m) ≤ 2048
   mask-most = omega (arith, fitting .m-length, columns-most)
-
-  pub due-witness : due i .witness ≤ 1024
-  unfolding lengths sizesOf circuitOf
-  due-witness = witness-most
-
-  pub due-row : due i .rowQuotient ≤ 1024
-  unfolding lengths sizesOf circuitOf
-  due-row = one-less (i .circuit .R) 1024 rows-most
-
-  pub due-remainder : due i .lineRemainder ≤ 1024
-  unfolding lengths sizesOf circuitOf
-  due-remainder = one-less (i .circuit .C) 1024 columns-most
-
-  pub due-quotient : due i .lineQuotient ≤ 1024
-  unfolding lengths sizesOf circuitOf
-  due-quotient = columns-most
 
   pub due-joined : due i .joinedQuotient ≤ 1024
   unfolding lengths sizesOf circuitOf largest

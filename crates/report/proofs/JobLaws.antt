@@ -36,8 +36,8 @@ use Rattle.varuna.specs.Answers.{indexesList}
 use Rattle.prover.proofs.WitnessLaws.{public-words}
 use Rattle.report.specs.ProofText.{lines, answerText, proofText, unlessRefused, refusedText}
 use Rattle.report.specs.Stages.{Free, section, publicOf, lastAnswer, afterSums, afterValues, answerAfter, openedMeaning, jobGiven, jobGivenText}
-use Rattle.report.specs.Stages.{firstText, firstLines, sumWords, thirdText, thirdLines, valueWords, remainderWords, remaindersText}
-use Rattle.report.specs.Stages.{fourthText, fifthText, restText, stagesText}
+use Rattle.report.specs.Stages.{firstText, firstLines, sumWords, thirdText, thirdLines, valueWords, remainderWords}
+use Rattle.report.specs.Stages.{fourthText, fourthLines, fifthText, restText, stagesText}
 
 -- the words of words that are below p
 words-back : (ws : List ℕ) → All (λ w. w < babyBear .p) ws → words (map (of {q = babyBear}) ws) ≡ ws
@@ -169,7 +169,7 @@ module _ (i : ProverInput) (α : ℕ) (η : Three ℕ) (β : ℕ) (δ : Three �
     -- all stages
     stages-same : (o : Opened) (x : IndexesOpened) → messageList o ++ indexesList x ≡ words (listOpenings (trueOpenings babyBear j p))
         → stagesText i α η β δ γ (openedMeaning o x) ≡ proofText babyBear j
-    unfolding stagesText firstText firstLines sumWords thirdText thirdLines valueWords remainderWords remaindersText fourthText fifthText restText
+    unfolding stagesText firstText firstLines sumWords thirdText thirdLines valueWords remainderWords fourthText fourthLines fifthText restText
         proofText lines sections proof messages
     stages-same o x e =
         let g : Three (List ℕ) = remainderWords i α β in

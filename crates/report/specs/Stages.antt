@@ -44,9 +44,9 @@ firstLines w m h = section 0 w ++ (section 1 m ++ section 2 h)
 unfoldable pub thirdLines : List ℕ → List ℕ → List ℕ
 thirdLines g h = section 4 g ++ section 5 h
 
--- ga, gb, gc
-unfoldable pub remaindersText : Three (List ℕ) → List ℕ
-remaindersText g = section 7 (g .a) ++ (section 8 (g .b) ++ section 9 (g .c))
+-- o, ga, gb, gc
+unfoldable pub fourthLines : Three ℕ → Three (List ℕ) → List ℕ
+fourthLines ω g = section 6 (listed ω) ++ (section 7 (g .a) ++ (section 8 (g .b) ++ section 9 (g .c)))
 
 module _ (i : ProverInput) where
   abbrev c : Circuit
@@ -76,9 +76,9 @@ module _ (i : ProverInput) where
   unfoldable pub remainderWords : ℕ → ℕ → Three (List ℕ)
   remainderWords α β = each (λ M. words (matrixRemainder {q = babyBear} c (of α) (of β) M))
 
-  -- o, ga, gb, gc
+  -- the lines of round 4
   unfoldable pub fourthText : ℕ → ℕ → List ℕ
-  fourthText α β = section 6 (listed (valueWords α β)) ++ remaindersText (remainderWords α β)
+  fourthText α β = fourthLines (valueWords α β) (remainderWords α β)
 
   -- h2
   unfoldable pub fifthText : ℕ → ℕ → Three ℕ → List ℕ

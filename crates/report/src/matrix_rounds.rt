@@ -1,7 +1,7 @@
 // Rounds 4 and 5: the sections o, ga, gb, gc, h2.
 ghost use mathlib.Core.Path.{_≡_};
 ghost use mathlib.Core.List.{[], _∷_, _++_};
-ghost use Prim.Native.Nat.{_+_, _*_, _≤_};
+ghost use Prim.Native.Nat.{_+_, _≤_};
 ghost use lib.ListN.{length};
 ghost use Rattle.protocol.specs.Three.{listed};
 ghost use Rattle.protocol.specs.Circuit.{sizesOf, largest};
@@ -10,25 +10,32 @@ ghost use Rattle.protocol.specs.Meanings.{three};
 ghost use Rattle.circuit.specs.Given.{given, proverInput};
 ghost use Rattle.varuna.specs.Inputs.{threeOf};
 ghost use Rattle.report.specs.Printed.{Printed};
-ghost use Rattle.report.specs.Stages.{Free, due, valueWords, remaindersText, fourthText, fifthText, mostLine, mostFourth};
+ghost use Rattle.report.specs.Stages.{Free, valueWords, fourthLines, fourthText, fifthText, mostLine, mostFourth};
 use crate::lines::put_line;
 use crate::lines::put_three;
-use crate::messages;
+use crate::messages::words_or_zeros;
 use circuit::judging::less;
-use circuit::matrices::size_of;
 use protocol::Triple;
 use varuna::rounds;
 
-// ga, gb, gc.
-fn put_remainders(ga: &[u32], gb: &[u32], gc: &[u32], out: &mut [u8], at: usize) -> usize
+// o, ga, gb, gc.
+fn put_fourth_lines(
+    values: Triple,
+    ga: &[u32],
+    gb: &[u32],
+    gc: &[u32],
+    out: &mut [u8],
+    at: usize,
+) -> usize
     requires { ⌜ (length (now ga) ≤ 1024) × (length (now gb) ≤ 1024) × (length (now gc) ≤ 1024) ⌝ }
-    requires { ⌜ at + 3 * mostLine ≤ length (now out) ⌝ }
-    ensures { λ p. ⌜ Printed (now (out .entry)) at (remaindersText (threeOf (now (ga .entry)) (now (gb .entry)) (now (gc .entry))))
-        (3 * mostLine) p (now (out .exit)) ⌝ }
+    requires { ⌜ at + mostFourth ≤ length (now out) ⌝ }
+    ensures { λ p. ⌜ Printed (now (out .entry)) at
+        (fourthLines (three values) (threeOf (now (ga .entry)) (now (gb .entry)) (now (gc .entry)))) mostFourth p (now (out .exit)) ⌝ }
 {
-    let first = put_line(b"ga", ga, out, at);
-    let second = put_line(b"gb", gb, out, first);
-    put_line(b"gc", gc, out, second)
+    let first = put_three(b"o", values, out, at);
+    let second = put_line(b"ga", ga, out, first);
+    let third = put_line(b"gb", gb, out, second);
+    put_line(b"gc", gc, out, third)
 }
 
 // The ω, and the place after the sections of round 4.
@@ -37,62 +44,7 @@ pub struct FourthRound {
     pub place: usize,
 }
 
-// Round 4 into slices, and o, ga, gb, gc.
-fn put_fourth_round(
-    r: u32,
-    c: u32,
-    x: u32,
-    ea: &[u32],
-    eb: &[u32],
-    ec: &[u32],
-    z: &[u32],
-    mask: u32,
-    m: &[u32],
-    alpha: u32,
-    eta: Triple,
-    beta: u32,
-    ga: &mut [u32],
-    gb: &mut [u32],
-    gc: &mut [u32],
-    out: &mut [u8],
-    at: usize,
-) -> FourthRound
-    requires { ⌜ Free (proverInput r c x (now ea) (now eb) (now ec) (now z) mask (now m))
-        (alpha ∷ (listed (three eta) ++ (beta ∷ []))) (alpha ∷ beta ∷ []) ⌝ }
-    requires { ⌜ threeOf (length (now ga)) (length (now gb)) (length (now gc))
-        ≡ due (proverInput r c x (now ea) (now eb) (now ec) (now z) mask (now m)) .matrixRemainders ⌝ }
-    requires { ⌜ at + mostFourth ≤ length (now out) ⌝ }
-    ensures { λ f. ⌜ three (f .values)
-        ≡ valueWords (proverInput r c x (now (ea .entry)) (now (eb .entry)) (now (ec .entry)) (now (z .entry)) mask (now (m .entry)))
-        alpha beta ⌝ }
-    ensures { λ f. ⌜ Printed (now (out .entry)) at
-        (fourthText (proverInput r c x (now (ea .entry)) (now (eb .entry)) (now (ec .entry)) (now (z .entry)) mask (now (m .entry)))
-        alpha beta)
-        mostFourth (f .place) (now (out .exit)) ⌝ }
-{
-    let values = messages::values_into(
-        r,
-        c,
-        x,
-        ea,
-        eb,
-        ec,
-        z,
-        mask,
-        m,
-        alpha,
-        eta,
-        beta,
-        ga,
-        gb,
-        gc,
-    );
-    let named = put_three(b"o", values, out, at);
-    let place = put_remainders(ga, gb, gc, out, named);
-    FourthRound { values, place }
-}
-
-// o, ga, gb, gc.
+// Round 4, by the sizes of K_A, K_B, K_C.
 pub fn put_fourth(
     r: u32,
     c: u32,
@@ -106,11 +58,13 @@ pub fn put_fourth(
     alpha: u32,
     eta: Triple,
     beta: u32,
+    k: Triple,
     out: &mut [u8],
     at: usize,
 ) -> FourthRound
     requires { ⌜ Free (proverInput r c x (now ea) (now eb) (now ec) (now z) mask (now m))
         (alpha ∷ (listed (three eta) ++ (beta ∷ []))) (alpha ∷ beta ∷ []) ⌝ }
+    requires { ⌜ three k ≡ sizesOf (circuitOf (given r c x (now ea) (now eb) (now ec))) .K ⌝ }
     requires { ⌜ at + mostFourth ≤ length (now out) ⌝ }
     ensures { λ f. ⌜ three (f .values)
         ≡ valueWords (proverInput r c x (now (ea .entry)) (now (eb .entry)) (now (ec .entry)) (now (z .entry)) mask (now (m .entry)))
@@ -120,13 +74,13 @@ pub fn put_fourth(
         alpha beta)
         mostFourth (f .place) (now (out .exit)) ⌝ }
 {
-    let na = less(size_of(ea), 1);
-    let nb = less(size_of(eb), 1);
-    let nc = less(size_of(ec), 1);
+    let na = less(k.a, 1);
+    let nb = less(k.b, 1);
+    let nc = less(k.c, 1);
     let mut ga = [0u32; 1024];
     let mut gb = [0u32; 1024];
     let mut gc = [0u32; 1024];
-    put_fourth_round(
+    let answer = rounds::fourth_round(
         r,
         c,
         x,
@@ -142,9 +96,10 @@ pub fn put_fourth(
         &mut ga[..na],
         &mut gb[..nb],
         &mut gc[..nc],
-        out,
-        at,
-    )
+    );
+    let values = words_or_zeros(answer);
+    let place = put_fourth_lines(values, &ga[..na], &gb[..nb], &gc[..nc], out, at);
+    FourthRound { values, place }
 }
 
 // Round 5: h2, of |K| - 1 words.

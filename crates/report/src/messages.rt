@@ -1,14 +1,11 @@
 // Sizes and words of a job that is not refused, by the public calls of the prover's rounds.
 ghost use mathlib.Core.Path.{_≡_};
-ghost use mathlib.Core.List.{[], _∷_, _++_};
-ghost use lib.ListN.{length};
-ghost use Rattle.protocol.specs.Three.{listed};
+ghost use mathlib.Core.List.{[], _∷_};
 ghost use Rattle.protocol.specs.Circuit.{sizesOf};
 ghost use Rattle.protocol.specs.Calls.{circuitOf};
 ghost use Rattle.protocol.specs.Meanings.{three, sizes as sizesMeaning};
 ghost use Rattle.circuit.specs.Given.{given, proverInput, ThreeLists};
-ghost use Rattle.varuna.specs.Inputs.{threeOf};
-ghost use Rattle.report.specs.Stages.{Free, due, sumWords, valueWords, remainderWords, threeOrZeros};
+ghost use Rattle.report.specs.Stages.{Free, sumWords, threeOrZeros};
 use circuit::matrices::size_of;
 use protocol::Sizes;
 use protocol::Triple;
@@ -32,7 +29,7 @@ pub fn sizes_of(r: u32, c: u32, x: u32, ea: &[u32], eb: &[u32], ec: &[u32]) -> S
 }
 
 // Three words; zeros where the call was refused.
-fn words_or_zeros(answer: ThreeWords) -> Triple
+pub fn words_or_zeros(answer: ThreeWords) -> Triple
     ensures { λ t. ⌜ three t ≡ threeOrZeros answer ⌝ }
 {
     match answer {
@@ -60,53 +57,4 @@ pub fn sums(
         alpha ⌝ }
 {
     words_or_zeros(rounds::second_round(r, c, x, ea, eb, ec, z, mask, m, alpha))
-}
-
-// ω_A, ω_B, ω_C; g_A, g_B, g_C into slices.
-pub fn values_into(
-    r: u32,
-    c: u32,
-    x: u32,
-    ea: &[u32],
-    eb: &[u32],
-    ec: &[u32],
-    z: &[u32],
-    mask: u32,
-    m: &[u32],
-    alpha: u32,
-    eta: Triple,
-    beta: u32,
-    ga: &mut [u32],
-    gb: &mut [u32],
-    gc: &mut [u32],
-) -> Triple
-    requires { ⌜ Free (proverInput r c x (now ea) (now eb) (now ec) (now z) mask (now m))
-        (alpha ∷ (listed (three eta) ++ (beta ∷ []))) (alpha ∷ beta ∷ []) ⌝ }
-    requires { ⌜ threeOf (length (now ga)) (length (now gb)) (length (now gc))
-        ≡ due (proverInput r c x (now ea) (now eb) (now ec) (now z) mask (now m)) .matrixRemainders ⌝ }
-    ensures { λ t. ⌜ three t
-        ≡ valueWords (proverInput r c x (now (ea .entry)) (now (eb .entry)) (now (ec .entry)) (now (z .entry)) mask (now (m .entry)))
-        alpha beta ⌝ }
-    ensures { λ t. ⌜ threeOf (now (ga .exit)) (now (gb .exit)) (now (gc .exit))
-        ≡ remainderWords (proverInput r c x (now (ea .entry)) (now (eb .entry)) (now (ec .entry)) (now (z .entry)) mask (now (m .entry)))
-        alpha beta ⌝ }
-{
-    let answer = rounds::fourth_round(
-        r,
-        c,
-        x,
-        ea,
-        eb,
-        ec,
-        z,
-        mask,
-        m,
-        alpha,
-        eta,
-        beta,
-        ga,
-        gb,
-        gc,
-    );
-    words_or_zeros(answer)
 }

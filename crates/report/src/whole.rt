@@ -103,8 +103,24 @@ fn put_rest(
         (openedMeaning o i))
         mostRest p (now (out .exit)) ⌝ }
 {
-    let fourth = put_fourth(r, c, x, ea, eb, ec, z, mask, m, alpha, eta, beta, out, at);
     let s = messages::sizes_of(r, c, x, ea, eb, ec);
+    let fourth = put_fourth(
+        r,
+        c,
+        x,
+        ea,
+        eb,
+        ec,
+        z,
+        mask,
+        m,
+        alpha,
+        eta,
+        beta,
+        s.k,
+        out,
+        at,
+    );
     let most = protocol::six_sizes::largest(s.k);
     let last = put_fifth(
         r,

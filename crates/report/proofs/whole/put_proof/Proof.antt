@@ -1,6 +1,5 @@
 -- `report::whole::put_proof` meets its contract. Assumes nothing.
 use mathlib.Core.List.{_++_}
-use Prim.Native.Nat.{_+_, _-_}
 use native.Mathlib.Omega.{arith}
 use Rattle.protocol.specs.Calls.{ProverInput}
 use Rattle.protocol.specs.Meanings.{three}

@@ -17,34 +17,34 @@ use borrow.Author.Needs.{needs}
 use Rattle.report.proofs.whole.put_rest.Statement.{statement}
 use Rattle.report.proofs.whole.put_rest.Tie as tie
 
+sizes-of-requires : tie.Need-sizes-of-requires
+sizes-of-requires c κs =
+    let s = c .before .before .before .before .before .before in
+    fitting _ (s .pre .0) .lists
+
 put-fourth-requires : tie.Need-put-fourth-requires
 put-fourth-requires c κs =
-    let s = c .before .before .before .before .before .before .before in
+    let s = c .before .before .before .before .before .before .before .before in
     let a = s .args in
     let i : ProverInput = proverInput (a .r) (a .c) (a .x) (a .ea .now) (a .eb .now) (a .ec .now) (a .z .now) (a .mask) (a .m .now) in (
       fourth-free i {α = a .alpha} {η = three (a .eta)} {β = a .beta} {δ = three (a .delta)} {γ = a .gamma} (s .pre .0),
-      omega (arith, s .pre .1),
+      (ap (λ (t : Sizes). t .K) (c .before .sizes-of .ensures), omega (arith, s .pre .1)),
     )
-
-sizes-of-requires : tie.Need-sizes-of-requires
-sizes-of-requires c κs =
-    let s = c .before .before .before .before .before .before .before .before .before .before in
-    let a = s .args in
-    let i : ProverInput = proverInput (a .r) (a .c) (a .x) (a .ea .now) (a .eb .now) (a .ec .now) (a .z .now) (a .mask) (a .m .now) in
-    fitting i (s .pre .0) .lists
 
 largest-requires : tie.Need-largest-requires
 largest-requires c κs = search needs
 
 put-fifth-requires : tie.Need-put-fifth-requires
 put-fifth-requires c κs =
-    let s = c .before .before .before .before .before .before .before .before .before .before .before .before .before in
+    let at-put-fourth = c .before .before .before .before in
+    let at-sizes-of = at-put-fourth .before .before in
+    let s = at-sizes-of .before .before .before .before .before .before .before in
     let a = s .args in
     let i : ProverInput = proverInput (a .r) (a .c) (a .x) (a .ea .now) (a .eb .now) (a .ec .now) (a .z .now) (a .mask) (a .m .now) in
-    let f = c .before .before .before .before .before .put-fourth .ensures .1 in (
+    let f = at-put-fourth .put-fourth .ensures .1 in (
       fifth-free i {α = a .alpha} {η = three (a .eta)} {β = a .beta} {δ = three (a .delta)} {γ = a .gamma} (s .pre .0),
       (
-        c .before .largest .ensures ∙ ap (λ (t : Sizes). largest (t .K)) (c .before .before .sizes-of .ensures),
+        c .before .largest .ensures ∙ ap (λ (t : Sizes). largest (t .K)) (at-sizes-of .sizes-of .ensures),
         omega (arith, s .pre .1, printed-place f, printed-length f),
       ),
     )
@@ -52,13 +52,16 @@ put-fifth-requires c κs =
 put-last-requires : tie.Need-put-last-requires
 unfolding sizesOf circuitOf
 put-last-requires c κs =
-    let s = c .before .before .before .before .before .before .before .before .before .before .before .before .before .before .before .before .before in
+    let at-put-fifth = c .before .before .before in
+    let at-put-fourth = at-put-fifth .before .before .before .before .before in
+    let at-sizes-of = at-put-fourth .before .before in
+    let s = at-sizes-of .before .before .before .before .before .before .before in
     let a = s .args in
     let i : ProverInput = proverInput (a .r) (a .c) (a .x) (a .ea .now) (a .eb .now) (a .ec .now) (a .z .now) (a .mask) (a .m .now) in
-    let f = c .before .before .before .before .before .before .before .before .before .put-fourth .ensures .1 in
-    let h = c .before .before .before .put-fifth .ensures in
+    let f = at-put-fourth .put-fourth .ensures .1 in
+    let h = at-put-fifth .put-fifth .ensures in
     let F = fitting i (s .pre .0) in
-    let k = c .before .before .before .before .before .before .sizes-of in
+    let k = at-sizes-of .sizes-of in
     let columns : k .result .c ≡ a .c = ap (λ (t : Sizes). t .C) (k .ensures) in
     let public : k .result .x ≡ a .x = ap (λ (t : Sizes). t .X) (k .ensures) in (
       (ap isSize columns ∙ C-fits F, ap isSize public ∙ X-fits F, omega (arith, columns, public, X-below F), F .z-length ∙ sym columns),
@@ -72,9 +75,9 @@ returns : tie.Need-returns
 unfolding restText
 returns c =
     let at-put-fifth = c .before .before .before .before .before .before in
-    let at-sizes-of = at-put-fifth .before .before .before in
-    let at-put-fourth = at-sizes-of .before .before .before in
-    let s = at-put-fourth .before .before .before .before .before .before .before .before in
+    let at-put-fourth = at-put-fifth .before .before .before .before .before in
+    let at-sizes-of = at-put-fourth .before .before in
+    let s = at-sizes-of .before .before .before .before .before .before .before in
     let a = s .args in
     let i : ProverInput = proverInput (a .r) (a .c) (a .x) (a .ea .now) (a .eb .now) (a .ec .now) (a .z .now) (a .mask) (a .m .now) in
     let f = at-put-fourth .put-fourth .ensures in
@@ -95,8 +98,8 @@ pub put-rest-spec : {M : Type 1} → statement M
 put-rest-spec =
     tie.close
     (tie.spec
-    put-fourth-requires
     sizes-of-requires
+    put-fourth-requires
     largest-requires
     put-fifth-requires
     put-last-requires
