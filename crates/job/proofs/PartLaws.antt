@@ -16,9 +16,9 @@ use Rattle.protocol.specs.Meanings.{three}
 use Rattle.circuit.specs.Given.{proverInput}
 use Rattle.varuna.specs.Inputs.{threeOf}
 use Rattle.circuit.proofs.Entries.{length-entriesOf}
+use Rattle.report.specs.declared.Challenges.{Challenges}
 use Rattle.report.specs.Stages.{jobGiven}
 use Rattle.job.specs.declared.parts.Places.{Places}
-use Rattle.job.specs.declared.parts.Challenges.{Challenges}
 use Rattle.job.specs.JobText.{headRefusal, placeα, jobLength, jobOf}
 use Rattle.job.specs.Parts.{Placed, challengesOf, between, inputAt}
 use Rattle.job.proofs.HeadLaws.{head-fits, whole-length}

@@ -8,7 +8,7 @@ use Rattle.algebra.specs.Lists.{pick}
 use Rattle.protocol.specs.Calls.{ProverInput}
 use Rattle.circuit.specs.Given.{proverInput}
 use Rattle.job.specs.declared.parts.Places.{Places}
-use Rattle.job.specs.declared.parts.Challenges.{Challenges}
+use Rattle.report.specs.declared.Challenges.{Challenges}
 use Rattle.report.specs.ProofText.{unlessRefused}
 use Rattle.report.specs.Stages.{jobGivenText}
 use Rattle.job.specs.JobText.{tooLong, tooShort, headRefusal, placeB, placeC, placeZ, placeR, placeM, placeα, jobLength, jobOf}

@@ -11,6 +11,7 @@ ghost use Rattle.report.specs.Stages.{jobGiven, jobGivenText, mostProof};
 ghost use Rattle.job.specs.JobText.{headRefusal, jobLength, jobOf};
 ghost use Rattle.job.specs.Parts.{Placed, challengesOf, inputAt};
 use protocol::Triple;
+use report::Challenges;
 use report::lines::wide;
 use report::whole::put_job;
 
@@ -58,14 +59,6 @@ pub fn job_length(ws: &[u32]) -> usize
     ensures { λ n. ⌜ n ≡ jobLength (now (ws .entry)) ⌝ }
 {
     places_of(ws).challenges + CHALLENGES
-}
-
-struct Challenges {
-    alpha: u32,
-    eta: Triple,
-    beta: u32,
-    delta: Triple,
-    gamma: u32,
 }
 
 // The last words of a job.
@@ -120,11 +113,7 @@ fn put_parts(
         &ws[z..mask],
         ws[mask],
         &ws[m..end],
-        drawn.alpha,
-        drawn.eta,
-        drawn.beta,
-        drawn.delta,
-        drawn.gamma,
+        drawn,
         out,
     )
 }

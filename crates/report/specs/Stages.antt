@@ -22,6 +22,7 @@ use Rattle.openings.specs.OpeningsGiven.{indexList}
 use Rattle.varuna.specs.declared.answers.ThreeWords.{ThreeWords}
 use Rattle.varuna.specs.declared.answers.ThreeWords.the-variants as three-words
 use Rattle.prover.specs.CallGiven.{circuitIn, witnessIn, assignmentIn, lineIn}
+use Rattle.report.specs.declared.Challenges.{Challenges}
 use Rattle.report.specs.ProofText.{line, sectionNames, answerText, unlessRefused, proofText}
 
 -- the line of section k
@@ -31,6 +32,13 @@ section k ws = line (getD sectionNames k []) ws
 -- a round with these challenge words and points is not refused, its lent slices aside
 pub record Free (i : ProverInput) (challenges points : List ℕ) : Type 0 where
   pub none-refused : roundRefusal babyBear i [] [] challenges points ≡ none
+
+-- all challenges of a job, and those that are points
+abbrev pub challengeWords : Challenges → List ℕ
+challengeWords d = d .alpha ∷ (listed (three (d .eta)) ++ (d .beta ∷ (listed (three (d .delta)) ++ (d .gamma ∷ []))))
+
+abbrev pub challengePoints : Challenges → List ℕ
+challengePoints d = d .alpha ∷ d .beta ∷ d .gamma ∷ []
 
 -- the lengths of the messages
 abbrev pub due : ProverInput → Messages ℕ ℕ

@@ -5,3 +5,14 @@ pub mod lines;
 mod matrix_rounds;
 mod messages;
 pub mod whole;
+
+use protocol::Triple;
+
+// α, η, β, δ, γ.
+pub struct Challenges {
+    pub alpha: u32,
+    pub eta: Triple,
+    pub beta: u32,
+    pub delta: Triple,
+    pub gamma: u32,
+}

@@ -1,11 +1,9 @@
 // The eleven sections and the verdict of a job, or its refusal. Where openings are given, nothing is refused in any round.
 ghost use mathlib.Core.Path.{_≡_};
-ghost use mathlib.Core.List.{[], _∷_, _++_};
 ghost use Prim.Native.Nat.{_+_, _≤_};
 ghost use lib.ListN.{length};
 ghost use mathlib.Core.Bool.{true};
 ghost use Rattle.domain.specs.Size.{isSize};
-ghost use Rattle.protocol.specs.Three.{listed};
 ghost use Rattle.protocol.specs.Admission.{countTests};
 ghost use Rattle.protocol.specs.Calls.{circuitOf, entryListTests};
 ghost use Rattle.protocol.specs.Meanings.{three, sizes};
@@ -13,8 +11,9 @@ ghost use Rattle.circuit.specs.Given.{given, proverInput};
 ghost use Rattle.text.specs.Written.{Written};
 ghost use Rattle.report.specs.ProofText.{answerText};
 ghost use Rattle.report.specs.Printed.{Printed};
-ghost use Rattle.report.specs.Stages.{Free, lastAnswer, publicOf, openedMeaning, jobGiven, jobGivenText};
+ghost use Rattle.report.specs.Stages.{Free, challengeWords, challengePoints, lastAnswer, publicOf, openedMeaning, jobGiven, jobGivenText};
 ghost use Rattle.report.specs.Stages.{restText, stagesText, mostLast, mostRest, mostProof};
+use crate::Challenges;
 use crate::conversation::last_answer;
 use crate::first_rounds::put_first;
 use crate::first_rounds::put_third;
@@ -35,13 +34,9 @@ use varuna::rounds;
 fn put_last(
     s: Sizes,
     z: &[u32],
-    alpha: u32,
+    drawn: Challenges,
     sums: Triple,
-    eta: Triple,
-    beta: u32,
     values: Triple,
-    delta: Triple,
-    gamma: u32,
     o: Opened,
     i: IndexesOpened,
     out: &mut [u8],
@@ -50,8 +45,8 @@ fn put_last(
     requires { ⌜ (isSize (s .c) ≡ true) × (isSize (s .x) ≡ true) × (s .x ≤ s .c) × (length (now z) ≡ s .c) ⌝ }
     requires { ⌜ at + mostLast ≤ length (now out) ⌝ }
     ensures { λ p. ⌜ Printed (now (out .entry)) at
-        (answerText (lastAnswer (sizes s) (publicOf (sizes s) (now (z .entry))) alpha (three sums) (three eta) beta (three values)
-        (three delta) gamma (openedMeaning o i))) mostLast p (now (out .exit)) ⌝ }
+        (answerText (lastAnswer (sizes s) (publicOf (sizes s) (now (z .entry))) (drawn .alpha) (three sums) (three (drawn .eta)) (drawn .beta)
+        (three values) (three (drawn .delta)) (drawn .gamma) (openedMeaning o i))) mostLast p (now (out .exit)) ⌝ }
 {
     let n = s.x as usize;
     let mut x = [0u32; 1024];
@@ -59,13 +54,13 @@ fn put_last(
     let answer = last_answer(
         s,
         &x[..n],
-        alpha,
+        drawn.alpha,
         sums,
-        eta,
-        beta,
+        drawn.eta,
+        drawn.beta,
         values,
-        delta,
-        gamma,
+        drawn.delta,
+        drawn.gamma,
         o,
         i.arrays(),
     );
@@ -83,23 +78,19 @@ fn put_rest(
     z: &[u32],
     mask: u32,
     m: &[u32],
-    alpha: u32,
+    drawn: Challenges,
     sums: Triple,
-    eta: Triple,
-    beta: u32,
-    delta: Triple,
-    gamma: u32,
     o: Opened,
     i: IndexesOpened,
     out: &mut [u8],
     at: usize,
 ) -> usize
     requires { ⌜ Free (proverInput r c x (now ea) (now eb) (now ec) (now z) mask (now m))
-        (alpha ∷ (listed (three eta) ++ (beta ∷ (listed (three delta) ++ (gamma ∷ []))))) (alpha ∷ beta ∷ gamma ∷ []) ⌝ }
+        (challengeWords drawn) (challengePoints drawn) ⌝ }
     requires { ⌜ at + mostRest ≤ length (now out) ⌝ }
     ensures { λ p. ⌜ Printed (now (out .entry)) at
         (restText (proverInput r c x (now (ea .entry)) (now (eb .entry)) (now (ec .entry)) (now (z .entry)) mask (now (m .entry)))
-        alpha (three sums) (three eta) beta (three delta) gamma
+        (drawn .alpha) (three sums) (three (drawn .eta)) (drawn .beta) (three (drawn .delta)) (drawn .gamma)
         (openedMeaning o i))
         mostRest p (now (out .exit)) ⌝ }
 {
@@ -114,9 +105,9 @@ fn put_rest(
         z,
         mask,
         m,
-        alpha,
-        eta,
-        beta,
+        drawn.alpha,
+        drawn.eta,
+        drawn.beta,
         s.k,
         out,
         at,
@@ -132,29 +123,15 @@ fn put_rest(
         z,
         mask,
         m,
-        alpha,
-        eta,
-        beta,
-        delta,
+        drawn.alpha,
+        drawn.eta,
+        drawn.beta,
+        drawn.delta,
         most,
         out,
         fourth.place,
     );
-    put_last(
-        s,
-        z,
-        alpha,
-        sums,
-        eta,
-        beta,
-        fourth.values,
-        delta,
-        gamma,
-        o,
-        i,
-        out,
-        last,
-    )
+    put_last(s, z, drawn, sums, fourth.values, o, i, out, last)
 }
 
 // A job that is not refused, with its openings.
@@ -168,29 +145,39 @@ fn put_proof(
     z: &[u32],
     mask: u32,
     m: &[u32],
-    alpha: u32,
-    eta: Triple,
-    beta: u32,
-    delta: Triple,
-    gamma: u32,
+    drawn: Challenges,
     o: Opened,
     i: IndexesOpened,
     out: &mut [u8],
     at: usize,
 ) -> usize
     requires { ⌜ Free (proverInput r c x (now ea) (now eb) (now ec) (now z) mask (now m))
-        (alpha ∷ (listed (three eta) ++ (beta ∷ (listed (three delta) ++ (gamma ∷ []))))) (alpha ∷ beta ∷ gamma ∷ []) ⌝ }
+        (challengeWords drawn) (challengePoints drawn) ⌝ }
     requires { ⌜ at + mostProof ≤ length (now out) ⌝ }
     ensures { λ p. ⌜ Printed (now (out .entry)) at
         (stagesText (proverInput r c x (now (ea .entry)) (now (eb .entry)) (now (ec .entry)) (now (z .entry)) mask (now (m .entry)))
-        alpha (three eta) beta (three delta) gamma
+        (drawn .alpha) (three (drawn .eta)) (drawn .beta) (three (drawn .delta)) (drawn .gamma)
         (openedMeaning o i))
         mostProof p (now (out .exit)) ⌝ }
 {
     let first = put_first(r, c, x, ea, eb, ec, z, mask, m, out, at);
-    let sums = messages::sums(r, c, x, ea, eb, ec, z, mask, m, alpha);
+    let sums = messages::sums(r, c, x, ea, eb, ec, z, mask, m, drawn.alpha);
     let second = put_three(b"s", sums, out, first);
-    let third = put_third(r, c, x, ea, eb, ec, z, mask, m, alpha, eta, out, second);
+    let third = put_third(
+        r,
+        c,
+        x,
+        ea,
+        eb,
+        ec,
+        z,
+        mask,
+        m,
+        drawn.alpha,
+        drawn.eta,
+        out,
+        second,
+    );
     put_rest(
         r,
         c,
@@ -201,12 +188,8 @@ fn put_proof(
         z,
         mask,
         m,
-        alpha,
+        drawn,
         sums,
-        eta,
-        beta,
-        delta,
-        gamma,
         o,
         i,
         out,
@@ -225,11 +208,7 @@ pub fn put_job(
     z: &[u32],
     mask: u32,
     m: &[u32],
-    alpha: u32,
-    eta: Triple,
-    beta: u32,
-    delta: Triple,
-    gamma: u32,
+    drawn: Challenges,
     out: &mut [u8],
 ) -> usize
     requires { ⌜ entryListTests (given r c x (now ea) (now eb) (now ec))
@@ -237,7 +216,7 @@ pub fn put_job(
     requires { ⌜ mostProof ≤ length (now out) ⌝ }
     ensures { λ p. ⌜ Written (now (out .entry)) 0 (jobGivenText
         (jobGiven (proverInput r c x (now (ea .entry)) (now (eb .entry)) (now (ec .entry)) (now (z .entry)) mask (now (m .entry)))
-        alpha (three eta) beta (three delta) gamma)) p (now (out .exit)) ⌝ }
+        (drawn .alpha) (three (drawn .eta)) (drawn .beta) (three (drawn .delta)) (drawn .gamma))) p (now (out .exit)) ⌝ }
 {
     let opened = rounds::openings(
         r,
@@ -249,33 +228,14 @@ pub fn put_job(
         z,
         mask,
         m,
-        alpha,
-        eta,
-        beta,
-        delta,
-        gamma,
+        drawn.alpha,
+        drawn.eta,
+        drawn.beta,
+        drawn.delta,
+        drawn.gamma,
     );
     match opened {
         Openings::Refused(number, position) => put_refused(number, position, out, 0),
-        Openings::Value(o, i) => put_proof(
-            r,
-            c,
-            x,
-            ea,
-            eb,
-            ec,
-            z,
-            mask,
-            m,
-            alpha,
-            eta,
-            beta,
-            delta,
-            gamma,
-            o,
-            i,
-            out,
-            0,
-        ),
+        Openings::Value(o, i) => put_proof(r, c, x, ea, eb, ec, z, mask, m, drawn, o, i, out, 0),
     }
 }

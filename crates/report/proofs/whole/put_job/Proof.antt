@@ -1,16 +1,15 @@
 -- `report::whole::put_job` meets its contract. Assumes nothing.
 use mathlib.Core.Path.{sym, ap, _∙_}
-use mathlib.Core.List.{_++_}
 use Rattle.protocol.specs.Calls.{ProverInput}
 use Rattle.protocol.specs.Meanings.{three}
 use Rattle.circuit.specs.Given.{proverInput}
-use mathlib.Core.List.{[], _∷_}
+use mathlib.Core.List.{[]}
 use Rattle.domain.specs.BabyBear.{babyBear}
-use Rattle.protocol.specs.Three.{listed}
 use Rattle.protocol.specs.Calls.{roundRefusal, openingsCall}
 use Rattle.protocol.specs.Job.{proof, trueOpenings}
 use Rattle.varuna.specs.Answers.{openingsMeaning}
 use Rattle.text.proofs.WrittenLaws.{written-as}
+use Rattle.report.specs.Stages.{challengeWords, challengePoints}
 use Rattle.report.proofs.JobLaws.{done-free, refused-some, refused-text, free-text}
 use borrow.Author.Needs.{needs}
 use Rattle.report.proofs.whole.put_job.Statement.{statement}
@@ -34,9 +33,9 @@ put-proof-requires c κs =
     let at-openings = c .before .before .before .before in
     let s = at-openings .before .before .before .before .before .before .before in
     let a = s .args in
+    let d = a .drawn in
     let i : ProverInput = proverInput (a .r) (a .c) (a .x) (a .ea .now) (a .eb .now) (a .ec .now) (a .z .now) (a .mask) (a .m .now) in
-    let words = a .alpha ∷ (listed (three (a .eta)) ++ (a .beta ∷ (listed (three (a .delta)) ++ (a .gamma ∷ [])))) in
-    let refusal = roundRefusal babyBear i [] [] words (a .alpha ∷ a .beta ∷ a .gamma ∷ []) in
+    let refusal = roundRefusal babyBear i [] [] (challengeWords d) (challengePoints d) in
     let found = done-free refusal _ (sym (ap openingsMeaning (c .before .before .opened2 .given .1)) ∙ at-openings .openings .ensures) in
     (record { none-refused = found .0 }, search needs)
 
@@ -50,11 +49,11 @@ returns c =
     let at-openings = at-opened .before .before in
     let s = at-openings .before .before .before .before .before .before .before in
     let a = s .args in
+    let d = a .drawn in
     let i : ProverInput = proverInput (a .r) (a .c) (a .x) (a .ea .now) (a .eb .now) (a .ec .now) (a .z .now) (a .mask) (a .m .now) in
-    let words = a .alpha ∷ (listed (three (a .eta)) ++ (a .beta ∷ (listed (three (a .delta)) ++ (a .gamma ∷ [])))) in
-    let refusal = roundRefusal babyBear i [] [] words (a .alpha ∷ a .beta ∷ a .gamma ∷ []) in
+    let refusal = roundRefusal babyBear i [] [] (challengeWords d) (challengePoints d) in
     let found = refused-some refusal _ (sym (ap openingsMeaning (at-opened .opened .given .1)) ∙ at-openings .openings .ensures) in
-    written-as (refused-text i (a .alpha) (three (a .eta)) (a .beta) (three (a .delta)) (a .gamma) (s .pre .0) found)
+    written-as (refused-text i (d .alpha) (three (d .eta)) (d .beta) (three (d .delta)) (d .gamma) (s .pre .0) found)
     (c .before .before .put-refused .ensures .written)
 
 same-length-2 : tie.Need-same-length-2
@@ -67,12 +66,12 @@ returns-2 c =
     let at-openings = at-opened2 .before .before in
     let s = at-openings .before .before .before .before .before .before .before in
     let a = s .args in
+    let d = a .drawn in
     let i : ProverInput = proverInput (a .r) (a .c) (a .x) (a .ea .now) (a .eb .now) (a .ec .now) (a .z .now) (a .mask) (a .m .now) in
-    let words = a .alpha ∷ (listed (three (a .eta)) ++ (a .beta ∷ (listed (three (a .delta)) ++ (a .gamma ∷ [])))) in
-    let refusal = roundRefusal babyBear i [] [] words (a .alpha ∷ a .beta ∷ a .gamma ∷ []) in
+    let refusal = roundRefusal babyBear i [] [] (challengeWords d) (challengePoints d) in
     let found = done-free refusal _ (sym (ap openingsMeaning (at-opened2 .opened2 .given .1)) ∙ at-openings .openings .ensures) in
     written-as
-    (free-text i (a .alpha) (three (a .eta)) (a .beta) (three (a .delta)) (a .gamma) (s .pre .0) _ _ (record { none-refused = found .0 }) (found .1))
+    (free-text i (d .alpha) (three (d .eta)) (d .beta) (three (d .delta)) (d .gamma) (s .pre .0) _ _ (record { none-refused = found .0 }) (found .1))
     (c .before .before .put-proof .ensures .written)
 
 pub put-job-spec : {M : Type 1} → statement M

@@ -71,6 +71,7 @@ returns c =
     let start = at-public-words-into .before .before .before .before .before .before in
     let call = at-public-words-into .public-words-into in
     let a = start .args in
+    let d = a .drawn in
     let within : a .s .x ≤ 1024 = size-bound _ (start .pre .0 .1) in
     let public =
     filled-part _ _ within (call .last .1 .1 .0) (call .kept .1 .1 .0) ∙ call .ensures
@@ -79,7 +80,7 @@ returns c =
     (ap answerText
     (at-last-answer .last-answer .ensures
     ∙ (λ t.
-    lastAnswer (sizes (a .s)) (public t) (a .alpha) (three (a .sums)) (three (a .eta)) (a .beta) (three (a .values)) (three (a .delta)) (a .gamma)
+    lastAnswer (sizes (a .s)) (public t) (d .alpha) (three (a .sums)) (three (d .eta)) (d .beta) (three (a .values)) (three (d .delta)) (d .gamma)
     (openings (a .o) (at-arrays .arrays .ensures t)))))
     (c .before .before .put-answer .ensures)
 

@@ -16,15 +16,17 @@ put-first-requires : tie.Need-put-first-requires
 put-first-requires c κs =
     let s = c .before .before .before .before .before .before .before in
     let a = s .args in
+    let d = a .drawn in
     let i : ProverInput = proverInput (a .r) (a .c) (a .x) (a .ea .now) (a .eb .now) (a .ec .now) (a .z .now) (a .mask) (a .m .now) in
-    (first-free i {α = a .alpha} {η = three (a .eta)} {β = a .beta} {δ = three (a .delta)} {γ = a .gamma} (s .pre .0), search needs)
+    (first-free i {α = d .alpha} {η = three (d .eta)} {β = d .beta} {δ = three (d .delta)} {γ = d .gamma} (s .pre .0), search needs)
 
 sums-requires : tie.Need-sums-requires
 sums-requires c κs =
     let s = c .before .before .before .before .before .before .before .before .before .before in
     let a = s .args in
+    let d = a .drawn in
     let i : ProverInput = proverInput (a .r) (a .c) (a .x) (a .ea .now) (a .eb .now) (a .ec .now) (a .z .now) (a .mask) (a .m .now) in
-    second-free i {α = a .alpha} {η = three (a .eta)} {β = a .beta} {δ = three (a .delta)} {γ = a .gamma} (s .pre .0)
+    second-free i {α = d .alpha} {η = three (d .eta)} {β = d .beta} {δ = three (d .delta)} {γ = d .gamma} (s .pre .0)
 
 slice-aggregate-put-three : tie.Need-slice-aggregate-put-three
 slice-aggregate-put-three c = search needs
@@ -38,10 +40,11 @@ put-third-requires c κs =
     let at-put-first = at-put-three .before .before .before .before .before .before in
     let s = at-put-first .before .before .before .before .before .before .before .before in
     let a = s .args in
+    let d = a .drawn in
     let i : ProverInput = proverInput (a .r) (a .c) (a .x) (a .ea .now) (a .eb .now) (a .ec .now) (a .z .now) (a .mask) (a .m .now) in
     let f = at-put-first .put-first .ensures in
     let g = at-put-three .put-three .ensures in (
-      third-free i {α = a .alpha} {η = three (a .eta)} {β = a .beta} {δ = three (a .delta)} {γ = a .gamma} (s .pre .0),
+      third-free i {α = d .alpha} {η = three (d .eta)} {β = d .beta} {δ = three (d .delta)} {γ = d .gamma} (s .pre .0),
       omega (arith, s .pre .1, printed-place f, printed-length f, printed-place g, printed-length g),
     )
 
@@ -81,6 +84,7 @@ returns c =
     let at-put-first = at-sums .before .before .before in
     let s = at-put-first .before .before .before .before .before .before .before .before in
     let a = s .args in
+    let d = a .drawn in
     let i : ProverInput = proverInput (a .r) (a .c) (a .x) (a .ea .now) (a .eb .now) (a .ec .now) (a .z .now) (a .mask) (a .m .now) in
     let σ = at-sums .sums .ensures in
     let whole =
@@ -91,8 +95,8 @@ returns c =
     (λ t.
     firstText i
     ++ (section 3 (listed (σ t))
-    ++ (thirdText i (a .alpha) (three (a .eta))
-    ++ restText i (a .alpha) (σ t) (three (a .eta)) (a .beta) (three (a .delta)) (a .gamma) (openedMeaning (a .o) (a .i)))))
+    ++ (thirdText i (d .alpha) (three (d .eta))
+    ++ restText i (d .alpha) (σ t) (three (d .eta)) (d .beta) (three (d .delta)) (d .gamma) (openedMeaning (a .o) (a .i)))))
     whole)
     (omega arith)
 

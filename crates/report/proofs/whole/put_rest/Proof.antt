@@ -26,8 +26,9 @@ put-fourth-requires : tie.Need-put-fourth-requires
 put-fourth-requires c κs =
     let s = c .before .before .before .before .before .before .before .before in
     let a = s .args in
+    let d = a .drawn in
     let i : ProverInput = proverInput (a .r) (a .c) (a .x) (a .ea .now) (a .eb .now) (a .ec .now) (a .z .now) (a .mask) (a .m .now) in (
-      fourth-free i {α = a .alpha} {η = three (a .eta)} {β = a .beta} {δ = three (a .delta)} {γ = a .gamma} (s .pre .0),
+      fourth-free i {α = d .alpha} {η = three (d .eta)} {β = d .beta} {δ = three (d .delta)} {γ = d .gamma} (s .pre .0),
       (ap (λ (t : Sizes). t .K) (c .before .sizes-of .ensures), omega (arith, s .pre .1)),
     )
 
@@ -40,9 +41,10 @@ put-fifth-requires c κs =
     let at-sizes-of = at-put-fourth .before .before in
     let s = at-sizes-of .before .before .before .before .before .before .before in
     let a = s .args in
+    let d = a .drawn in
     let i : ProverInput = proverInput (a .r) (a .c) (a .x) (a .ea .now) (a .eb .now) (a .ec .now) (a .z .now) (a .mask) (a .m .now) in
     let f = at-put-fourth .put-fourth .ensures .1 in (
-      fifth-free i {α = a .alpha} {η = three (a .eta)} {β = a .beta} {δ = three (a .delta)} {γ = a .gamma} (s .pre .0),
+      fifth-free i {α = d .alpha} {η = three (d .eta)} {β = d .beta} {δ = three (d .delta)} {γ = d .gamma} (s .pre .0),
       (
         c .before .largest .ensures ∙ ap (λ (t : Sizes). largest (t .K)) (at-sizes-of .sizes-of .ensures),
         omega (arith, s .pre .1, printed-place f, printed-length f),
@@ -79,6 +81,7 @@ returns c =
     let at-sizes-of = at-put-fourth .before .before in
     let s = at-sizes-of .before .before .before .before .before .before .before in
     let a = s .args in
+    let d = a .drawn in
     let i : ProverInput = proverInput (a .r) (a .c) (a .x) (a .ea .now) (a .eb .now) (a .ec .now) (a .z .now) (a .mask) (a .m .now) in
     let f = at-put-fourth .put-fourth .ensures in
     let k = at-sizes-of .sizes-of .ensures in
@@ -86,10 +89,10 @@ returns c =
     printed-within
     (printed-as
     (λ t.
-    fourthText i (a .alpha) (a .beta)
-    ++ (fifthText i (a .alpha) (a .beta) (three (a .delta))
+    fourthText i (d .alpha) (d .beta)
+    ++ (fifthText i (d .alpha) (d .beta) (three (d .delta))
     ++ answerText
-    (lastAnswer (k t) (publicOf (k t) (a .z .now)) (a .alpha) (three (a .sums)) (three (a .eta)) (a .beta) (f .0 t) (three (a .delta)) (a .gamma)
+    (lastAnswer (k t) (publicOf (k t) (a .z .now)) (d .alpha) (three (a .sums)) (three (d .eta)) (d .beta) (f .0 t) (three (d .delta)) (d .gamma)
     (openedMeaning (a .o) (a .i)))))
     whole)
     (omega arith)
