@@ -1,11 +1,36 @@
--- The lengths of the parts of arrays that openings are made in, and lists of words, word by word. Assumes nothing.
-use mathlib.Core.Path.{_≡_, refl, ap, ap₂}
-use mathlib.Core.List.{List, [], _∷_}
+-- The parts of arrays that polynomials are made and opened in, their lengths, and lists of words, word by word. Assumes nothing.
+use mathlib.Core.Path.{_≡_, refl, ap, ap₂, _∙_}
+use mathlib.Core.List.{List, [], _∷_, map}
 use Prim.Native.Nat.{ℕ, _+_, _-_, _≤_, max}
 use native.Mathlib.Omega.{arith}
+use lib.ListN.{length, take}
+use Rattle.field.specs.Prime.{Prime}
+use Rattle.field.specs.Element.{of, words}
 use Rattle.domain.specs.Size.{sizeFor}
+use Rattle.domain.specs.Polynomial.{Poly, eval}
 use Rattle.domain.proofs.SizeLaws.{size-positive, size-bound}
+use Rattle.poly.proofs.LentParts.{array, returned, back-holds, back-length, back-list}
 use Rattle.circuit.proofs.Parts.{larger-is-size}
+
+-- a call was lent the first n words of an array of s words, left l there and kept their length
+pub record MadeIn (s n : ℕ) (l : List ℕ) : Type 0 where
+  pub fits : n ≤ s
+  pub kept : length l ≡ length (take n (array s))
+
+module _ {s n : ℕ} {l : List ℕ} (m : MadeIn s n l) where
+  pub made-holds : n ≤ length (returned s n l)
+  made-holds = back-holds s (m .fits) l (m .kept)
+
+  pub made-length : n ≡ length (take n (returned s n l))
+  made-length = back-length s (m .fits) l (m .kept)
+
+  -- where the words are those of a polynomial f, they are read as f, and their value at x is f(x)
+  module _ {q : Prime} (f : Poly q) (made : l ≡ words f) where
+    pub made-list : map of (take n (returned s n l)) ≡ f
+    made-list = back-list s (m .fits) l (m .kept) f made
+
+    pub opened : (x : ℕ) {v : ℕ} → v ≡ eval (map of (take n (returned s n l))) (of {q = q} x) .word → v ≡ eval f (of x) .word
+    opened x value = value ∙ ap (λ (g : Poly q). eval g (of x) .word) made-list
 
 -- |K| words, and one less
 module _ (k a b c : ℕ) (e : k ≡ max (sizeFor a) (max (sizeFor b) (sizeFor c))) where
