@@ -13,13 +13,17 @@ use borrow.Author.Needs.{needs}
 use Rattle.openings.proofs.messages_opened.Statement.{statement}
 use Rattle.openings.proofs.messages_opened.Tie as tie
 
+-- the start, from the first opening
+abbrev start : tie.After-line-at → tie.Start
+start c = c .before .before .before .before .before .before
+
 line-at-requires : tie.Need-line-at-requires
 line-at-requires c κs = search needs
 
 witness-at-requires : tie.Need-witness-at-requires
 witness-at-requires c κs =
-    let F = c .before .before .before .before .before .before .pre .1 in
-    (c .before .before .before .before .before .before .pre .0, ((C-fits F, X-fits F, X-below F), F .z-length))
+    let h = start c .pre in
+    (h .0, ((C-fits (h .1), X-fits (h .1), X-below (h .1)), h .1 .z-length))
 
 evaluate-requires : tie.Need-evaluate-requires
 evaluate-requires c κs = search needs
@@ -28,33 +32,42 @@ row-quotient-at-requires : tie.Need-row-quotient-at-requires
 row-quotient-at-requires c κs = search needs
 
 joined-at-requires : tie.Need-joined-at-requires
-joined-at-requires c κs = (c .before .before .before .before .before .before .before .before .before .pre .0, shaped (c .before .before .before .before .before .before .before .before .before .pre .1))
+joined-at-requires c κs =
+    let h = start (c .before .before .before) .pre in
+    (h .0, shaped (h .1))
 
 remainder-at-requires : tie.Need-remainder-at-requires
 remainder-at-requires c κs =
-    let F = c .before .before .before .before .before .before .before .before .before .before .pre .1 in
-    (c .before .before .before .before .before .before .before .before .before .before .pre .0, ((R-fits F, C-fits F), F .lists .list-a))
+    let h = start (c .before .before .before .before) .pre in
+    (h .0, ((R-fits (h .1), C-fits (h .1)), h .1 .lists .list-a))
 
 remainder-at-requires-2 : tie.Need-remainder-at-requires-2
 remainder-at-requires-2 c κs =
-    let F = c .before .before .before .before .before .before .before .before .before .before .before .pre .1 in
-    (c .before .before .before .before .before .before .before .before .before .before .before .pre .0, ((R-fits F, C-fits F), F .lists .list-b))
+    let h = start (c .before .before .before .before .before) .pre in
+    (h .0, ((R-fits (h .1), C-fits (h .1)), h .1 .lists .list-b))
 
 remainder-at-requires-3 : tie.Need-remainder-at-requires-3
 remainder-at-requires-3 c κs =
-    let F = c .before .before .before .before .before .before .before .before .before .before .before .before .pre .1 in
-    (c .before .before .before .before .before .before .before .before .before .before .before .before .pre .0, ((R-fits F, C-fits F), F .lists .list-c))
+    let h = start (c .before .before .before .before .before .before) .pre in
+    (h .0, ((R-fits (h .1), C-fits (h .1)), h .1 .lists .list-c))
 
 returns : tie.Need-returns
 unfolding circuitOf messages openings
 returns c q K Q H =
-    let s = c .before .before .before .before .before .before .before .before .before .before .before .before .before in
-    let k : Circuit = circuitOf (given (s .args .r) (s .args .c) (s .args .x) (s .args .ea .now) (s .args .eb .now) (s .args .ec .now)) in
-    nine-same (c .before .before .before .before .before .before .witness-at .ensures q K k refl refl) (c .before .before .before .before .before .evaluate .ensures q (K .value)) (c .before .before .before .before .before .before .before .line-at .ensures q K Q .0) (c .before .before .before .before .before .before .before .line-at .ensures q K Q .1)
-    (c .before .before .before .before .row-quotient-at .ensures q K Q) (c .before .before .before .joined-at .ensures q k (matrix-given K Q (s .args .r) (s .args .c) (s .args .x) (s .args .ea .now) (s .args .eb .now) (s .args .ec .now)) H)
-    (c .before .before .remainder-at .ensures q k A (matrix-given K Q (s .args .r) (s .args .c) (s .args .x) (s .args .ea .now) (s .args .eb .now) (s .args .ec .now) A) H)
-    (c .before .remainder-at2 .ensures q k B (matrix-given K Q (s .args .r) (s .args .c) (s .args .x) (s .args .ea .now) (s .args .eb .now) (s .args .ec .now) B) H)
-    (c .remainder-at3 .ensures q k C (matrix-given K Q (s .args .r) (s .args .c) (s .args .x) (s .args .ea .now) (s .args .eb .now) (s .args .ec .now) C) H)
+    let l = c .before .before .before .before .before .before .before in
+    let a = start l .args in
+    let k : Circuit = circuitOf (given (a .r) (a .c) (a .x) (a .ea .now) (a .eb .now) (a .ec .now)) in
+    let G = matrix-given K Q (a .r) (a .c) (a .x) (a .ea .now) (a .eb .now) (a .ec .now) in
+    nine-same
+    (c .before .before .before .before .before .before .witness-at .ensures q K k refl refl)
+    (c .before .before .before .before .before .evaluate .ensures q (K .value))
+    (l .line-at .ensures q K Q .0)
+    (l .line-at .ensures q K Q .1)
+    (c .before .before .before .before .row-quotient-at .ensures q K Q)
+    (c .before .before .before .joined-at .ensures q k G H)
+    (c .before .before .remainder-at .ensures q k A (G A) H)
+    (c .before .remainder-at2 .ensures q k B (G B) H)
+    (c .remainder-at3 .ensures q k C (G C) H)
 
 pub messages-opened-spec : {M : Type 1} → statement M
 messages-opened-spec =
