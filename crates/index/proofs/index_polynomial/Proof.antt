@@ -1,6 +1,7 @@
 -- `index::index_polynomial` meets its contract. Assumes nothing.
 use borrow.Author.Needs.{needs}
-use mathlib.Core.Path.{sym, ap, ap₂, _∙_}
+use mathlib.Core.Path.{_≡_, sym, ap, ap₂, _∙_}
+use mathlib.Core.Bool.{true}
 use mathlib.Core.List.{List, map}
 use Prim.Native.Nat.{ℕ}
 use native.Mathlib.Omega.{arith}
@@ -8,7 +9,7 @@ use lib.ListN.{length}
 use Rattle.algebra.specs.Lists.{tabulate}
 use Rattle.field.specs.Element.{Elem, of, words}
 use Rattle.field.proofs.Words.{of-words}
-use Rattle.domain.specs.Size.{isSize}
+use Rattle.domain.specs.Size.{isSize, sizeFor}
 use Rattle.domain.specs.Domain.{root}
 use Rattle.domain.specs.Polynomial.{interpolate}
 use Rattle.domain.proofs.SizeLaws.{sizeFor-is-size}
@@ -19,6 +20,20 @@ use Rattle.index.specs.IndexParts.{indexPart}
 use Rattle.index.proofs.IndexValues.{K-bound, index-by-words}
 use Rattle.index.proofs.index_polynomial.Statement.{statement}
 use Rattle.index.proofs.index_polynomial.Tie as tie
+
+-- the start, from the fill
+abbrev start : tie.After-fill-index-values → tie.Start
+start c = c .before .before .before .before .before .before .before
+
+-- the values are |K_M| many
+abbrev count : tie.Start → ℕ
+count s = sizeFor (length (entriesOf (s .args .entries .now)))
+
+long : (c : tie.After-fill-index-values) → length (c .fill-index-values .last .1 .1 .1 .1 .1 .0) ≡ count (start c)
+long c = c .fill-index-values .kept .1 .1 .1 .1 .1 .0 ∙ start c .pre .1 .1 .1 .0
+
+long-is-size : (c : tie.After-fill-index-values) → isSize (length (c .fill-index-values .last .1 .1 .1 .1 .1 .0)) ≡ true
+long-is-size c = ap isSize (long c) ∙ sizeFor-is-size (length (entriesOf (start c .args .entries .now)))
 
 root-of-requires : tie.Need-root-of-requires
 root-of-requires c κs = search needs
@@ -33,42 +48,37 @@ fill-index-values-requires c κs =
 
 cast-root-of : tie.Need-cast-root-of
 cast-root-of c =
-    let s = c .before .before .before .before .before .before .before .before .before in
-    omega (arith, c .before .before .fill-index-values .kept .1 .1 .1 .1 .1 .0, s .pre .1 .1 .1 .0, K-bound (s .args .entries .now))
+    let f = c .before .before in
+    omega (arith, long f, K-bound (start f .args .entries .now))
 
 root-of-requires-3 : tie.Need-root-of-requires-3
-root-of-requires-3 c κs =
-    let s = c .before .before .before .before .before .before .before .before .before in
-    ap isSize (c .before .before .fill-index-values .kept .1 .1 .1 .1 .1 .0 ∙ s .pre .1 .1 .1 .0) ∙ sizeFor-is-size (length (entriesOf (s .args .entries .now)))
+root-of-requires-3 c κs = long-is-size (c .before .before)
 
 interpolate-into-requires : tie.Need-interpolate-into-requires
 interpolate-into-requires c κs =
-    let s = c .before .before .before .before .before .before .before .before .before .before .before .before in
-    let kept = c .before .before .before .before .before .fill-index-values .kept .1 .1 .1 .1 .1 .0 in (
-      s .pre .0,
-      (
-        s .pre .1 .1 .1 .1 ∙ sym (kept ∙ s .pre .1 .1 .1 .0),
-        ap isSize (kept ∙ s .pre .1 .1 .1 .0) ∙ sizeFor-is-size (length (entriesOf (s .args .entries .now))),
-      ),
-    )
+    let f = c .before .before .before .before .before in
+    let h = start f .pre in
+    (h .0, (h .1 .1 .1 .1 ∙ sym (long f), long-is-size f))
 
 same-length : tie.Need-same-length
-same-length c = search needs
+same-length c = c .before .before .before .before .before .before .before .before .fill-index-values .kept .1 .1 .1 .1 .1 .0
 
 same-length-2 : tie.Need-same-length-2
-same-length-2 c = search needs
+same-length-2 c = c .before .before .interpolate-into .kept .1 .1 .1 .0
 
 returns : tie.Need-returns
 returns c q known k M er ec matrix =
-    let s = c .before .before .before .before .before .before .before .before .before .before .before .before .before .before .before in
+    let i = c .before .before in
+    let v = i .before .before .before .before .before .before in
+    let s = start v in
     let a = s .args in
     let n : ℕ = length (a .values .now) in
     let f : ℕ → Elem q = λ i. indexPart (entryIndex {q = q} k (entryWords (a .entries .now) i)) (a .which) in
-    let gr = c .before .before .before .before .before .before .before .before .before .before .before .root-of .ensures q known ∙ ap (λ (m : ℕ). root {q = q} m .word) (sym er) in
-    let gc = c .before .before .before .before .before .before .before .before .before .before .root-of2 .ensures q known ∙ ap (λ (m : ℕ). root {q = q} m .word) (sym ec) in
-    c .before .before .interpolate-into .ensures q (known .value) (c .before .before .before .before .before .root-of3 .ensures q known)
-    ∙ ap₂ (λ (m : ℕ) (l : List ℕ). words (interpolate m (map (of {q = q}) l))) (c .before .before .before .before .before .before .before .before .fill-index-values .kept .1 .1 .1 .1 .1 .0)
-    (c .before .before .before .before .before .before .before .before .fill-index-values .ensures q (known .value) k gr gc)
+    let gr = v .before .before .before .root-of .ensures q known ∙ ap (λ (m : ℕ). root {q = q} m .word) (sym er) in
+    let gc = v .before .before .root-of2 .ensures q known ∙ ap (λ (m : ℕ). root {q = q} m .word) (sym ec) in
+    i .interpolate-into .ensures q (known .value) (i .before .before .before .root-of3 .ensures q known)
+    ∙ ap₂ (λ (m : ℕ) (l : List ℕ). words (interpolate m (map (of {q = q}) l))) (v .fill-index-values .kept .1 .1 .1 .1 .1 .0)
+    (v .fill-index-values .ensures q (known .value) k gr gc)
     ∙ ap (λ l. words (interpolate n l)) (of-words (tabulate n f))
     ∙ ap words (index-by-words k M (a .entries .now) n (s .pre .1 .1 .0 .1) matrix (s .pre .1 .1 .1 .0) (a .which))
 
