@@ -1,6 +1,7 @@
 -- The values of index polynomials from words: each entry's element as a power of a root, and the values on K_M with the filling
 -- after the last entry. Assumes nothing.
 use mathlib.Core.Path.{_≡_, refl, sym, ap, ap₂, _∙_, fun-ext}
+use mathlib.Core.Bool.{true}
 use mathlib.Core.List.{List, [], _∷_, _++_, map}
 use Prim.Native.Nat.{ℕ, zero, suc, _-_, _≤_}
 use native.Mathlib.Omega.{arith}
@@ -14,7 +15,7 @@ use Rattle.field.specs.Power.{power}
 use Rattle.field.proofs.ElementLaws.{mul-one, primeRing}
 use Rattle.field.proofs.Field.{power-is-pow}
 use Rattle.field.proofs.Words.{of-result}
-use Rattle.domain.specs.Size.{maxSize, sizeFor}
+use Rattle.domain.specs.Size.{isSize, maxSize, sizeFor}
 use Rattle.domain.specs.Domain.{root, element}
 use Rattle.domain.specs.Polynomial.{interpolate}
 use Rattle.domain.proofs.SizeLaws.{size-bound, sizeFor-is-size, sizeFor-holds}
@@ -52,16 +53,22 @@ K-by-count k A = refl
 K-by-count k B = refl
 K-by-count k C = refl
 
--- |K_M| is at most 1,024
-pub K-bound : (l : List ℕ) → sizeFor (length (entriesOf l)) ≤ maxSize
-K-bound l = size-bound (sizeFor (length (entriesOf l))) (sizeFor-is-size (length (entriesOf l)))
+-- |K_M| from the words of the entries: a size, and at most 1,024
+abbrev pub K-size : List ℕ → ℕ
+K-size l = sizeFor (length (entriesOf l))
+
+pub K-is-size : (l : List ℕ) → isSize (K-size l) ≡ true
+K-is-size l = sizeFor-is-size (length (entriesOf l))
+
+pub K-bound : (l : List ℕ) → K-size l ≤ maxSize
+K-bound l = size-bound (K-size l) (K-is-size l)
 
 -- the entry after the last one
 abbrev noEntry : Entry
 noEntry = record { row = 0; column = 0; value = 0 }
 
 module _ {q : Prime} (k : Circuit) (M : MatrixName) (l : List ℕ) (n : ℕ) (h : EntryWords l) (entries : at (k .matrices) M ≡ entriesOf l)
-    (size : n ≡ sizeFor (length (entriesOf l))) where
+    (size : n ≡ K-size l) where
   placed-by-words : (f : Entry → Elem q) (a : Elem q) → a ≡ f noEntry → placed k M a f ≡ interpolate n (tabulate n (λ i. f (entryWords l i)))
   unfolding placed
   placed-by-words f a e =

@@ -9,15 +9,13 @@ use lib.ListN.{length}
 use Rattle.algebra.specs.Lists.{tabulate}
 use Rattle.field.specs.Element.{Elem, of, words}
 use Rattle.field.proofs.Words.{of-words}
-use Rattle.domain.specs.Size.{isSize, sizeFor}
+use Rattle.domain.specs.Size.{isSize}
 use Rattle.domain.specs.Domain.{root}
 use Rattle.domain.specs.Polynomial.{interpolate}
-use Rattle.domain.proofs.SizeLaws.{sizeFor-is-size}
-use Rattle.protocol.specs.Calls.{entriesOf}
 use Rattle.protocol.proofs.IndexPolynomials.{entryIndex}
 use Rattle.circuit.specs.Given.{entryWords}
 use Rattle.index.specs.IndexParts.{indexPart}
-use Rattle.index.proofs.IndexValues.{K-bound, index-by-words}
+use Rattle.index.proofs.IndexValues.{K-size, K-is-size, K-bound, index-by-words}
 use Rattle.index.proofs.index_polynomial.Statement.{statement}
 use Rattle.index.proofs.index_polynomial.Tie as tie
 
@@ -26,14 +24,11 @@ abbrev start : tie.After-fill-index-values → tie.Start
 start c = c .before .before .before .before .before .before .before
 
 -- the values are |K_M| many
-abbrev count : tie.Start → ℕ
-count s = sizeFor (length (entriesOf (s .args .entries .now)))
-
-long : (c : tie.After-fill-index-values) → length (c .fill-index-values .last .1 .1 .1 .1 .1 .0) ≡ count (start c)
+long : (c : tie.After-fill-index-values) → length (c .fill-index-values .last .1 .1 .1 .1 .1 .0) ≡ K-size (start c .args .entries .now)
 long c = c .fill-index-values .kept .1 .1 .1 .1 .1 .0 ∙ start c .pre .1 .1 .1 .0
 
 long-is-size : (c : tie.After-fill-index-values) → isSize (length (c .fill-index-values .last .1 .1 .1 .1 .1 .0)) ≡ true
-long-is-size c = ap isSize (long c) ∙ sizeFor-is-size (length (entriesOf (start c .args .entries .now)))
+long-is-size c = ap isSize (long c) ∙ K-is-size (start c .args .entries .now)
 
 root-of-requires : tie.Need-root-of-requires
 root-of-requires c κs = search needs

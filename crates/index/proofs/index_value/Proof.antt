@@ -27,6 +27,7 @@ at-row c = c .before .before .before
 abbrev at-column : tie.After-multiply → tie.After-raise2
 at-column c = c .before .before
 
+-- the entry at the place
 abbrev entry : tie.Start → Entry
 entry s = entryWords (s .args .entries .now) (s .args .i)
 

@@ -4,9 +4,9 @@ use mathlib.Core.Bool.{true}
 use Prim.Native.Nat.{ℕ, _<_}
 use lib.Dec.{lit<}
 use lib.ListN.{length}
-use Rattle.domain.specs.Size.{isSize, sizeFor}
-use Rattle.protocol.specs.Calls.{entriesOf}
+use Rattle.domain.specs.Size.{isSize}
 use Rattle.circuit.specs.Given.{EntryWords}
+use Rattle.index.proofs.IndexValues.{K-size}
 use Rattle.index.proofs.index_with.Statement.{statement}
 use Rattle.index.proofs.index_with.Tie as tie
 
@@ -34,13 +34,11 @@ rowcol-kept : (c : tie.After-index-polynomial3)
     → length (c .index-polynomial3 .last .1 .1 .1 .1 .1 .0) ≡ length (start (at-row (at-col c)) .args .values .now)
 rowcol-kept c = c .index-polynomial3 .kept .1 .1 .1 .1 .1 .0 ∙ col-kept (at-col c)
 
--- |K_M|, and what each call asks
-abbrev count : tie.Start → ℕ
-count s = sizeFor (length (entriesOf (s .args .entries .now)))
-
-ready : (s : tie.Start) {which values out : ℕ} → which < 4 → values ≡ length (s .args .values .now) → out ≡ count s → let a = s .args in
-    (1 < a .p) × (((isSize (a .r) ≡ true) × (isSize (a .c) ≡ true))
-    × (((which < 4) × EntryWords (a .entries .now)) × ((values ≡ count s) × (out ≡ count s))))
+-- what each call asks
+ready : (s : tie.Start) {which values out : ℕ} → let a = s .args in
+    which < 4 → values ≡ length (a .values .now) → out ≡ K-size (a .entries .now)
+    → (1 < a .p) × (((isSize (a .r) ≡ true) × (isSize (a .c) ≡ true))
+    × (((which < 4) × EntryWords (a .entries .now)) × ((values ≡ K-size (a .entries .now)) × (out ≡ K-size (a .entries .now)))))
 ready s below kept long =
     let h = s .pre in
     (h .0, ((h .1 .0 .0, h .1 .0 .1 .0), ((below, h .1 .0 .1 .1), (kept ∙ h .1 .1 .0, long))))
