@@ -23,72 +23,79 @@ use Rattle.circuit.proofs.Parts.{largest-by-counts, larger-is-size, ent
 use Rattle.circuit.proofs.judging.judge_contents.Statement.{statement}
 use Rattle.circuit.proofs.judging.judge_contents.Tie as tie
 
--- the rows after 9, after 8, after 7 and after 6
-module _ (q : Prime) (k : Circuit) (points : List ℕ) where
+-- the start, from the places of the four answers
+abbrev from-words : tie.After-check-call-words → tie.Start
+from-words c = c .before .before .before .before .before .before .before .before
+
+abbrev from-entries : tie.After-check-three-entries → tie.Start
+from-entries c = from-words (c .before .before .before)
+
+abbrev from-mask : tie.After-check-mask → tie.Start
+from-mask c = from-entries (c .before .before .before)
+
+abbrev from-rows : tie.After-check-assignment → tie.Start
+from-rows c = from-mask (c .before .before .before)
+
+-- what is to be answered, and the rows after 9, after 8, after 7 and after 6
+module _ (q : Prime) (k : Circuit) (s : tie.Start) where
+  abbrev due : Option Refusal
+  due = contentsRefusal q k (s .args .z .now) (s .args .mask) (s .args .m .now) (s .args .challenges .now) (s .args .points .now)
+
   abbrev after-rows : List (Option Refusal)
-  after-rows = challengeRefusal {q = q} 0 (k .R ∷ k .C ∷ largest (sizesOf k .K) ∷ []) (map of points) ∷ []
+  after-rows = challengeRefusal {q = q} 0 (k .R ∷ k .C ∷ largest (sizesOf k .K) ∷ []) (map of (s .args .points .now)) ∷ []
 
-  module _ (z : List ℕ) where
-    abbrev after-mask : List (Option Refusal)
-    after-mask = assignmentRefusal {q = q} k (map of z) ∷ after-rows
+  abbrev after-mask : List (Option Refusal)
+  after-mask = assignmentRefusal {q = q} k (map of (s .args .z .now)) ∷ after-rows
 
-    module _ (m : List ℕ) where
-      abbrev after-entries : List (Option Refusal)
-      after-entries = maskRefusal {q = q} k (map of m) ∷ after-mask
+  abbrev after-entries : List (Option Refusal)
+  after-entries = maskRefusal {q = q} k (map of (s .args .m .now)) ∷ after-mask
 
-      abbrev after-words : List (Option Refusal)
-      after-words = entryRefusal k ∷ after-entries
+  abbrev after-words : List (Option Refusal)
+  after-words = entryRefusal k ∷ after-entries
+
+-- k is the circuit that the call is given, over the field of q
+record Given (q : Prime) (k : Circuit) (s : tie.Start) : Type 0 where
+  prime : q .p ≡ s .args .p
+  rows : k .R ≡ s .args .r
+  columns : k .C ≡ s .args .c
+  matrices : k .matrices ≡ entryLists (s .args .ea .now) (s .args .eb .now) (s .args .ec .now)
 
 -- past the words, the entries, the mask and the rows
 module _ (q : Prime) (Q : Qualifies q) (k : Circuit) {x : Option Refusal} where
-  pass-words : (c : tie.Else1) → let a = c .before .before .before .before .before .before .before .before .before .before .args in
-      q .p ≡ a .p → k .matrices ≡ entryLists (a .ea .now) (a .eb .now) (a .ec .now)
-      → x ≡ first (after-words q k (a .points .now) (a .z .now) (a .m .now))
-      → x ≡ contentsRefusal q k (a .z .now) (a .mask) (a .m .now) (a .challenges .now) (a .points .now)
+  pass-words : (c : tie.Else1) → let s = from-words (c .before .before) in Given q k s → x ≡ first (after-words q k s) → x ≡ due q k s
   unfolding contentsRefusal
-  pass-words c e matrices y =
-      let a = c .before .before .before .before .before .before .before .before .before .before .args in
-      goes-on (c .before .before .check-call-words .result) (c .before .before .check-call-words .ensures q e k matrices) (after-words q k (a .points .now) (a .z .now) (a .m .now))
+  pass-words c g y =
+      let w = c .before .before in
+      goes-on (w .check-call-words .result) (w .check-call-words .ensures q (g .prime) k (g .matrices)) (after-words q k (from-words w))
       (sym (c .before .is-fine .ensures) ∙ not-false _ (c .if1 .left)) y
 
-  module _ (c : tie.Else2) where
-    pass-entries : let a = c .before .before .before .before .before .before .before .before .before .before .before .before .before .args in
-        q .p ≡ a .p → k .R ≡ a .r → k .C ≡ a .c → k .matrices ≡ entryLists (a .ea .now) (a .eb .now) (a .ec .now)
-        → x ≡ first (after-entries q k (a .points .now) (a .z .now) (a .m .now))
-        → x ≡ contentsRefusal q k (a .z .now) (a .mask) (a .m .now) (a .challenges .now) (a .points .now)
-    pass-entries e er ec matrices y =
-        let a = c .before .before .before .before .before .before .before .before .before .before .before .before .before .args in
-        pass-words (c .before .before .before) e matrices
-        (goes-on (c .before .before .check-three-entries .result) (c .before .before .check-three-entries .ensures k er ec matrices)
-        (after-entries q k (a .points .now) (a .z .now) (a .m .now)) (sym (c .before .is-fine2 .ensures) ∙ not-false _ (c .if2 .left)) y)
+  pass-entries : (c : tie.Else2) → let s = from-entries (c .before .before) in Given q k s → x ≡ first (after-entries q k s) → x ≡ due q k s
+  pass-entries c g y =
+      let e = c .before .before in
+      pass-words (e .before) g
+      (goes-on (e .check-three-entries .result) (e .check-three-entries .ensures k (g .rows) (g .columns) (g .matrices))
+      (after-entries q k (from-entries e)) (sym (c .before .is-fine2 .ensures) ∙ not-false _ (c .if2 .left)) y)
 
-  module _ (c : tie.Else3) where
-    pass-mask : let a = c .before .before .before .before .before .before .before .before .before .before .before .before .before .before .before .before .args in
-        q .p ≡ a .p → k .R ≡ a .r → k .C ≡ a .c → k .matrices ≡ entryLists (a .ea .now) (a .eb .now) (a .ec .now)
-        → x ≡ first (after-mask q k (a .points .now) (a .z .now))
-        → x ≡ contentsRefusal q k (a .z .now) (a .mask) (a .m .now) (a .challenges .now) (a .points .now)
-    pass-mask e er ec matrices y =
-        let a = c .before .before .before .before .before .before .before .before .before .before .before .before .before .before .before .before .args in
-        pass-entries (c .before .before .before) e er ec matrices
-        (goes-on (c .before .before .check-mask .result) (c .before .before .check-mask .ensures q Q e k ec) (after-mask q k (a .points .now) (a .z .now))
-        (sym (c .before .is-fine3 .ensures) ∙ not-false _ (c .if3 .left)) y)
+  pass-mask : (c : tie.Else3) → let s = from-mask (c .before .before) in Given q k s → x ≡ first (after-mask q k s) → x ≡ due q k s
+  pass-mask c g y =
+      let m = c .before .before in
+      pass-entries (m .before) g
+      (goes-on (m .check-mask .result) (m .check-mask .ensures q Q (g .prime) k (g .columns)) (after-mask q k (from-mask m))
+      (sym (c .before .is-fine3 .ensures) ∙ not-false _ (c .if3 .left)) y)
 
-  module _ (c : tie.Else4) where
-    pass-rows : let a = c .before .before .before .before .before .before .before .before .before .before .before .before .before .before .before .before .before .before .before .args in
-        q .p ≡ a .p → k .R ≡ a .r → k .C ≡ a .c → k .matrices ≡ entryLists (a .ea .now) (a .eb .now) (a .ec .now)
-        → x ≡ first (after-rows q k (a .points .now))
-        → x ≡ contentsRefusal q k (a .z .now) (a .mask) (a .m .now) (a .challenges .now) (a .points .now)
-    pass-rows e er ec matrices y =
-        let a = c .before .before .before .before .before .before .before .before .before .before .before .before .before .before .before .before .before .before .before .args in
-        pass-mask (c .before .before .before) e er ec matrices
-        (goes-on (c .before .before .check-assignment .result) (c .before .before .check-assignment .ensures q e k er matrices) (after-rows q k (a .points .now))
-        (sym (c .before .is-fine4 .ensures) ∙ not-false _ (c .if4 .left)) y)
+  pass-rows : (c : tie.Else4) → let s = from-rows (c .before .before) in Given q k s → x ≡ first (after-rows q k s) → x ≡ due q k s
+  pass-rows c g y =
+      let r = c .before .before in
+      pass-mask (r .before) g
+      (goes-on (r .check-assignment .result) (r .check-assignment .ensures q (g .prime) k (g .rows) (g .matrices)) (after-rows q k (from-rows r))
+      (sym (c .before .is-fine4 .ensures) ∙ not-false _ (c .if4 .left)) y)
 
 check-call-words-requires : tie.Need-check-call-words-requires
 check-call-words-requires c κs =
     let s = c .before .before .before .before .before .before .before in
     let h = s .pre .1 .0 in
-    (h .circuit .lists, (omega (arith, h .z-length, size-bound (s .args .c) (h .circuit .C-size)), omega (arith, h .m-length, size-bound (s .args .c) (h .circuit .C-size))))
+    let bound = size-bound (s .args .c) (h .circuit .C-size) in
+    (h .circuit .lists, (omega (arith, h .z-length, bound), omega (arith, h .m-length, bound)))
 
 is-fine-requires : tie.Need-is-fine-requires
 is-fine-requires c κs = search needs
@@ -96,8 +103,8 @@ is-fine-requires c κs = search needs
 returns : tie.Need-returns
 unfolding contentsRefusal
 returns c q Q e k er ec matrices =
-    let a = c .before .before .before .before .before .before .before .before .before .before .args in
-    stops (c .before .before .check-call-words .result) (c .before .before .check-call-words .ensures q e k matrices) (after-words q k (a .points .now) (a .z .now) (a .m .now))
+    let w = c .before .before in
+    stops (w .check-call-words .result) (w .check-call-words .ensures q e k matrices) (after-words q k (from-words w))
     (sym (c .before .is-fine .ensures) ∙ not-true _ (c .if1 .taken))
 
 check-three-entries-requires : tie.Need-check-three-entries-requires
@@ -108,10 +115,10 @@ is-fine-requires-2 c κs = search needs
 
 returns-2 : tie.Need-returns-2
 returns-2 c q Q e k er ec matrices =
-    let a = c .before .before .before .before .before .before .before .before .before .before .before .before .before .args in
-    pass-words q Q k (c .before .before .before) e matrices
-    (stops (c .before .before .check-three-entries .result) (c .before .before .check-three-entries .ensures k er ec matrices)
-    (after-entries q k (a .points .now) (a .z .now) (a .m .now)) (sym (c .before .is-fine2 .ensures) ∙ not-true _ (c .if2 .taken)))
+    let t = c .before .before in
+    pass-words q Q k (t .before) (record { prime = e; rows = er; columns = ec; matrices = matrices })
+    (stops (t .check-three-entries .result) (t .check-three-entries .ensures k er ec matrices) (after-entries q k (from-entries t))
+    (sym (c .before .is-fine2 .ensures) ∙ not-true _ (c .if2 .taken)))
 
 check-mask-requires : tie.Need-check-mask-requires
 check-mask-requires c κs = search needs
@@ -121,25 +128,34 @@ is-fine-requires-3 c κs = search needs
 
 returns-3 : tie.Need-returns-3
 returns-3 c q Q e k er ec matrices =
-    let a = c .before .before .before .before .before .before .before .before .before .before .before .before .before .before .before .before .args in
-    pass-entries q Q k (c .before .before .before) e er ec matrices
-    (stops (c .before .before .check-mask .result) (c .before .before .check-mask .ensures q Q e k ec) (after-mask q k (a .points .now) (a .z .now))
+    let m = c .before .before in
+    pass-entries q Q k (m .before) (record { prime = e; rows = er; columns = ec; matrices = matrices })
+    (stops (m .check-mask .result) (m .check-mask .ensures q Q e k ec) (after-mask q k (from-mask m))
     (sym (c .before .is-fine3 .ensures) ∙ not-true _ (c .if3 .taken)))
 
-check-assignment-requires : tie.Need-check-assignment-requires
+-- the circuit that the call is given; no row tells its public inputs
+abbrev circuit : tie.Start → Circuit
+circuit s = circuitOf (given (s .args .r) (s .args .c) 0 (s .args .ea .now) (s .args .eb .now) (s .args .ec .now))
+
+-- the entries that passed are within the matrices
+within : (c : tie.Else2) → let a = from-entries (c .before .before) .args in EachWithin (a .r) (a .c) (a .ea .now) (a .eb .now) (a .ec .now)
 unfolding circuitOf
-check-assignment-requires c κs =
-    let s = c .before .before .before .before .before .before .before .before .before .before .before .before .before .before .before .before in
-    let h = s .pre .1 .0 in
-    let k : Circuit = circuitOf (given (s .args .r) (s .args .c) 0 (s .args .ea .now) (s .args .eb .now) (s .args .ec .now)) in
-    let within : EachWithin (s .args .r) (s .args .c) (s .args .ea .now) (s .args .eb .now) (s .args .ec .now) =
+within c =
+    let e = c .before .before in
+    let s = from-entries e in
     entries-within (s .args .r) (s .args .c) 0 (s .args .ea .now) (s .args .eb .now) (s .args .ec .now)
-    (fine-none (c .before .before .before .before .before .check-three-entries .result) (c .before .before .before .before .before .check-three-entries .ensures k refl refl refl)
-    (sym (c .before .before .before .before .is-fine2 .ensures) ∙ not-false _ (c .before .before .before .if2 .left))) in (
+    (fine-none (e .check-three-entries .result) (e .check-three-entries .ensures (circuit s) refl refl refl)
+    (sym (c .before .is-fine2 .ensures) ∙ not-false _ (c .if2 .left)))
+
+check-assignment-requires : tie.Need-check-assignment-requires
+check-assignment-requires c κs =
+    let m = c .before .before in
+    let s = from-mask m in
+    let h = s .pre .1 .0 in (
       omega arith,
       (
         size-bound (s .args .r) (h .circuit .R-size),
-        subst⁻¹ (λ (n : ℕ). EachWithin (s .args .r) n (s .args .ea .now) (s .args .eb .now) (s .args .ec .now)) (h .z-length) within,
+        subst⁻¹ (λ (n : ℕ). EachWithin (s .args .r) n (s .args .ea .now) (s .args .eb .now) (s .args .ec .now)) (h .z-length) (within (m .before)),
       ),
     )
 
@@ -148,9 +164,9 @@ is-fine-requires-4 c κs = search needs
 
 returns-4 : tie.Need-returns-4
 returns-4 c q Q e k er ec matrices =
-    let a = c .before .before .before .before .before .before .before .before .before .before .before .before .before .before .before .before .before .before .before .args in
-    pass-mask q Q k (c .before .before .before) e er ec matrices
-    (stops (c .before .before .check-assignment .result) (c .before .before .check-assignment .ensures q e k er matrices) (after-rows q k (a .points .now))
+    let r = c .before .before in
+    pass-mask q Q k (r .before) (record { prime = e; rows = er; columns = ec; matrices = matrices })
+    (stops (r .check-assignment .result) (r .check-assignment .ensures q e k er matrices) (after-rows q k (from-rows r))
     (sym (c .before .is-fine4 .ensures) ∙ not-true _ (c .if4 .taken)))
 
 largest-size-requires : tie.Need-largest-size-requires
@@ -159,20 +175,20 @@ largest-size-requires c κs = search needs
 check-points-requires : tie.Need-check-points-requires
 unfolding circuitOf
 check-points-requires c κs =
-    let s = c .before .before .before .before .before .before .before .before .before .before .before .before .before .before .before .before .before .before .before .before in
+    let s = from-rows (c .before .before .before) in
     let h = s .pre .1 .0 in
-    let k : Circuit = circuitOf (given (s .args .r) (s .args .c) 0 (s .args .ea .now) (s .args .eb .now) (s .args .ec .now)) in
     let size : isSize (c .largest-size .result) ≡ true =
-    ap isSize (c .largest-size .ensures k refl ∙ largest-by-counts k (s .args .ea .now) (s .args .eb .now) (s .args .ec .now) refl)
+    ap isSize (c .largest-size .ensures (circuit s) refl ∙ largest-by-counts (circuit s) (s .args .ea .now) (s .args .eb .now) (s .args .ec .now) refl)
     ∙ larger-is-size (length (entriesOf (s .args .ea .now))) (length (entriesOf (s .args .eb .now))) (length (entriesOf (s .args .ec .now))) in
     (s .pre .0, ((h .circuit .R-size, (h .circuit .C-size, size)), s .pre .1 .1))
 
 returns-5 : tie.Need-returns-5
 returns-5 c q Q e k er ec matrices =
-    let a = c .before .before .before .before .before .before .before .before .before .before .before .before .before .before .before .before .before .before .before .before .before .args in
-    let same : a .r ∷ a .c ∷ c .before .largest-size .result ∷ [] ≡ k .R ∷ k .C ∷ largest (sizesOf k .K) ∷ [] =
-    ap₂ _∷_ (sym er) (ap₂ _∷_ (sym ec) (ap (λ (n : ℕ). n ∷ []) (c .before .largest-size .ensures k matrices))) in
-    pass-rows q Q k (c .before .before) e er ec matrices
+    let l = c .before in
+    let a = from-rows (l .before .before .before) .args in
+    let same : a .r ∷ a .c ∷ l .largest-size .result ∷ [] ≡ k .R ∷ k .C ∷ largest (sizesOf k .K) ∷ [] =
+    ap₂ _∷_ (sym er) (ap₂ _∷_ (sym ec) (ap (λ (n : ℕ). n ∷ []) (l .largest-size .ensures k matrices))) in
+    pass-rows q Q k (l .before) (record { prime = e; rows = er; columns = ec; matrices = matrices })
     (last-answer (c .check-points .ensures q Q e ∙ ap (λ (ns : List ℕ). challengeRefusal {q = q} 0 ns (map of (a .points .now))) same))
 
 pub judge-contents-spec : {M : Type 1} → statement M

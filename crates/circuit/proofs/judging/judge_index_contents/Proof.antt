@@ -19,7 +19,8 @@ is-fine-requires c κs = search needs
 returns : tie.Need-returns
 unfolding indexContentsRefusal
 returns c q e k er ec matrices =
-    stops (c .before .before .check-three-values .result) (c .before .before .check-three-values .ensures k matrices ∙ circuit-words q k e) (entryRefusal k ∷ [])
+    let v = c .before .before in
+    stops (v .check-three-values .result) (v .check-three-values .ensures k matrices ∙ circuit-words q k e) (entryRefusal k ∷ [])
     (sym (c .before .is-fine .ensures) ∙ not-true _ (c .if1 .taken))
 
 check-three-entries-requires : tie.Need-check-three-entries-requires
@@ -28,8 +29,10 @@ check-three-entries-requires c κs = search needs
 returns-2 : tie.Need-returns-2
 unfolding indexContentsRefusal
 returns-2 c q e k er ec matrices =
-    goes-on (c .before .before .before .check-three-values .result) (c .before .before .before .check-three-values .ensures k matrices ∙ circuit-words q k e) (entryRefusal k ∷ [])
-    (sym (c .before .before .is-fine .ensures) ∙ not-false _ (c .before .if1 .left)) (last-answer (c .check-three-entries .ensures k er ec matrices))
+    let d = c .before in
+    let v = d .before .before in
+    goes-on (v .check-three-values .result) (v .check-three-values .ensures k matrices ∙ circuit-words q k e) (entryRefusal k ∷ [])
+    (sym (d .before .is-fine .ensures) ∙ not-false _ (d .if1 .left)) (last-answer (c .check-three-entries .ensures k er ec matrices))
 
 pub judge-index-contents-spec : {M : Type 1} → statement M
 judge-index-contents-spec =

@@ -1,19 +1,65 @@
 -- `circuit::judging::judge_round` meets its contract. Assumes nothing.
-use mathlib.Core.Path.{refl, sym, _∙_}
-use mathlib.Core.Bool.{Bool}
+use mathlib.Core.Path.{_≡_, refl, sym, _∙_}
+use mathlib.Core.Bool.{true}
 use mathlib.Core.List.{List, [], _∷_}
 use mathlib.Core.Option.{Option}
 use lib.Dec.{eqb}
 use borrow.Author.Tests.{not-true, not-false}
-use Rattle.protocol.specs.Refusals.{Refusal, refuse, pairs}
+use Rattle.field.specs.Prime.{Prime}
+use Rattle.protocol.specs.Refusals.{Refusal, first, refuse, pairs}
 use Rattle.protocol.specs.Calls.{CircuitWords, circuitOf, roundRefusal}
-use Rattle.circuit.specs.Given.{given}
-use Rattle.circuit.specs.Judgement.{contentsRefusal}
+use Rattle.circuit.specs.Given.{given, proverInput, isFine}
+use Rattle.circuit.specs.Judgement.{shapeRefusal, contentsRefusal}
 use Rattle.circuit.proofs.EarlyReturns.{stops, goes-on, fine-none, last-answer}
 use Rattle.circuit.proofs.Parts.{prover-in-parts, shape-fits}
 use borrow.Author.Needs.{needs}
 use Rattle.circuit.proofs.judging.judge_round.Statement.{statement}
 use Rattle.circuit.proofs.judging.judge_round.Tie as tie
+
+-- the start, from the answers on the shape and on the lent slices
+abbrev from-shape : tie.After-judge-shape → tie.Start
+from-shape c = c .before .before .before .before .before .before .before .before .before .before
+
+abbrev from-lent : tie.After-check-lent → tie.Start
+from-lent c = from-shape (c .before .before .before)
+
+-- the circuit that the call is given, and what is to be answered: the shape, the lent slices, the contents
+abbrev circuit : tie.Start → CircuitWords
+circuit s = given (s .args .r) (s .args .c) (s .args .x) (s .args .ea .now) (s .args .eb .now) (s .args .ec .now)
+
+abbrev shape : tie.Start → Option Refusal
+shape s = shapeRefusal (circuit s) (s .args .z .now) (s .args .m .now)
+
+module _ (q : Prime) (s : tie.Start) where
+  abbrev contents : List (Option Refusal)
+  contents =
+      let a = s .args in
+      contentsRefusal q (circuitOf (circuit s)) (a .z .now) (a .mask) (a .m .now) (a .challenges .now) (a .points .now) ∷ []
+
+  abbrev after-shape : List (Option Refusal)
+  after-shape = refuse 5 5 (pairs eqb (s .args .lent .now) (s .args .due .now)) ∷ contents
+
+  abbrev due : Option Refusal
+  due =
+      let a = s .args in
+      roundRefusal q (proverInput (a .r) (a .c) (a .x) (a .ea .now) (a .eb .now) (a .ec .now) (a .z .now) (a .mask) (a .m .now))
+      (a .lent .now) (a .due .now) (a .challenges .now) (a .points .now)
+
+  in-parts : first (shape s ∷ after-shape) ≡ due
+  unfolding roundRefusal
+  in-parts =
+      let a = s .args in
+      sym (prover-in-parts q (circuit s) (pairs eqb (a .lent .now) (a .due .now)) (a .z .now) (a .mask) (a .m .now) (a .challenges .now) (a .points .now))
+
+-- past the shape
+shape-fine : (c : tie.Else1) → isFine (c .before .before .judge-shape .result) ≡ true
+shape-fine c = sym (c .before .is-fine .ensures) ∙ not-false _ (c .if1 .left)
+
+pass-shape : (q : Prime) (c : tie.Else1) {x : Option Refusal} → let s = from-shape (c .before .before) in x ≡ first (after-shape q s) → x ≡ due q s
+pass-shape q c y =
+    let j = c .before .before in
+    goes-on (j .judge-shape .result) {o = shape (from-shape j)} (j .judge-shape .ensures) (after-shape q (from-shape j)) (shape-fine c) y
+    ∙ in-parts q (from-shape j)
 
 judge-shape-requires : tie.Need-judge-shape-requires
 judge-shape-requires c κs = search needs
@@ -22,15 +68,11 @@ is-fine-requires : tie.Need-is-fine-requires
 is-fine-requires c κs = search needs
 
 returns : tie.Need-returns
-unfolding roundRefusal
 returns c q Q e =
-    let a = c .before .before .before .before .before .before .before .before .before .before .before .before .args in
-    let k : CircuitWords = given (a .r) (a .c) (a .x) (a .ea .now) (a .eb .now) (a .ec .now) in
-    let lent : List Bool = pairs eqb (a .lent .now) (a .due .now) in
-    let contents : Option Refusal =
-    contentsRefusal q (circuitOf k) (a .z .now) (a .mask) (a .m .now) (a .challenges .now) (a .points .now) in
-    stops (c .before .before .judge-shape .result) (c .before .before .judge-shape .ensures) (refuse 5 5 lent ∷ contents ∷ []) (sym (c .before .is-fine .ensures) ∙ not-true _ (c .if1 .taken))
-    ∙ sym (prover-in-parts q k lent (a .z .now) (a .mask) (a .m .now) (a .challenges .now) (a .points .now))
+    let j = c .before .before in
+    stops (j .judge-shape .result) {o = shape (from-shape j)} (j .judge-shape .ensures) (after-shape q (from-shape j))
+    (sym (c .before .is-fine .ensures) ∙ not-true _ (c .if1 .taken))
+    ∙ in-parts q (from-shape j)
 
 check-lent-requires : tie.Need-check-lent-requires
 check-lent-requires c κs = search needs
@@ -39,41 +81,30 @@ is-fine-requires-2 : tie.Need-is-fine-requires-2
 is-fine-requires-2 c κs = search needs
 
 returns-2 : tie.Need-returns-2
-unfolding roundRefusal
 returns-2 c q Q e =
-    let a = c .before .before .before .before .before .before .before .before .before .before .before .before .before .before .before .args in
-    let k : CircuitWords = given (a .r) (a .c) (a .x) (a .ea .now) (a .eb .now) (a .ec .now) in
-    let lent : List Bool = pairs eqb (a .lent .now) (a .due .now) in
-    let contents : Option Refusal =
-    contentsRefusal q (circuitOf k) (a .z .now) (a .mask) (a .m .now) (a .challenges .now) (a .points .now) in
-    goes-on (c .before .before .before .before .before .judge-shape .result) (c .before .before .before .before .before .judge-shape .ensures) (refuse 5 5 lent ∷ contents ∷ []) (sym (c .before .before .before .before .is-fine .ensures) ∙ not-false _ (c .before .before .before .if1 .left))
-    (stops (c .before .before .check-lent .result) (c .before .before .check-lent .ensures) (contents ∷ []) (sym (c .before .is-fine2 .ensures) ∙ not-true _ (c .if2 .taken)))
-    ∙ sym (prover-in-parts q k lent (a .z .now) (a .mask) (a .m .now) (a .challenges .now) (a .points .now))
+    let l = c .before .before in
+    pass-shape q (l .before)
+    (stops (l .check-lent .result) (l .check-lent .ensures) (contents q (from-lent l)) (sym (c .before .is-fine2 .ensures) ∙ not-true _ (c .if2 .taken)))
 
 judge-contents-requires : tie.Need-judge-contents-requires
 judge-contents-requires c κs =
-    let s = c .before .before .before .before .before .before .before .before .before .before .before .before .before .before .before in
-    let a = s .args in (
-      s .pre .0,
-      (
-        shape-fits (a .r) (a .c) (a .x) (a .ea .now) (a .eb .now) (a .ec .now) (a .z .now) (a .m .now)
-            (fine-none (c .before .before .before .before .before .judge-shape .result) (c .before .before .before .before .before .judge-shape .ensures) (sym (c .before .before .before .before .is-fine .ensures) ∙ not-false _ (c .before .before .before .if1 .left))),
-        s .pre .1 .1,
-      ),
-    )
+    let j = c .before .before .before .before .before in
+    let s = from-shape j in
+    let a = s .args in
+    let fits =
+    shape-fits (a .r) (a .c) (a .x) (a .ea .now) (a .eb .now) (a .ec .now) (a .z .now) (a .m .now)
+    (fine-none (j .judge-shape .result) {o = shape s} (j .judge-shape .ensures) (shape-fine (c .before .before .before))) in
+    (s .pre .0, (fits, s .pre .1 .1))
 
 returns-3 : tie.Need-returns-3
-unfolding roundRefusal circuitOf
+unfolding circuitOf
 returns-3 c q Q e =
-    let a = c .before .before .before .before .before .before .before .before .before .before .before .before .before .before .before .before .args in
-    let k : CircuitWords = given (a .r) (a .c) (a .x) (a .ea .now) (a .eb .now) (a .ec .now) in
-    let lent : List Bool = pairs eqb (a .lent .now) (a .due .now) in
-    let contents : Option Refusal =
-    contentsRefusal q (circuitOf k) (a .z .now) (a .mask) (a .m .now) (a .challenges .now) (a .points .now) in
-    goes-on (c .before .before .before .before .before .before .judge-shape .result) (c .before .before .before .before .before .before .judge-shape .ensures) (refuse 5 5 lent ∷ contents ∷ []) (sym (c .before .before .before .before .before .is-fine .ensures) ∙ not-false _ (c .before .before .before .before .if1 .left))
-    (goes-on (c .before .before .before .check-lent .result) (c .before .before .before .check-lent .ensures) (contents ∷ []) (sym (c .before .before .is-fine2 .ensures) ∙ not-false _ (c .before .if2 .left))
-    (last-answer (c .judge-contents .ensures q Q e (circuitOf k) refl refl refl)))
-    ∙ sym (prover-in-parts q k lent (a .z .now) (a .mask) (a .m .now) (a .challenges .now) (a .points .now))
+    let d = c .before in
+    let l = d .before .before in
+    let s = from-lent l in
+    pass-shape q (l .before)
+    (goes-on (l .check-lent .result) (l .check-lent .ensures) (contents q s) (sym (d .before .is-fine2 .ensures) ∙ not-false _ (d .if2 .left))
+    (last-answer (c .judge-contents .ensures q Q e (circuitOf (circuit s)) refl refl refl)))
 
 pub judge-round-spec : {M : Type 1} → statement M
 judge-round-spec =
