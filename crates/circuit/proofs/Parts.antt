@@ -16,7 +16,8 @@ use Rattle.field.specs.Element.{of}
 use Rattle.domain.specs.Size.{maxSize, isSize, sizeFor}
 use Rattle.domain.proofs.SizeLaws.{sizeFor-is-size, max-is-size}
 use Rattle.protocol.specs.Circuit.{Entry, Circuit, sizesOf, largest}
-use Rattle.protocol.specs.Refusals.{Refusal, first, refuse, sizeTests, sizeRefusal, listRefusal, wordRefusal, fits, rises, entryTestsAfter, entryTests, entryRefusal, maskRefusal, assignmentRefusal, challengeRefusal}
+use Rattle.protocol.specs.Refusals.{Refusal, first, refuse, sizeTests, fits, rises, entryTestsAfter, entryTests}
+use Rattle.protocol.specs.Refusals.{sizeRefusal, listRefusal, wordRefusal, entryRefusal, maskRefusal, assignmentRefusal, challengeRefusal}
 use Rattle.protocol.specs.Admission.{entryValues, assignmentTests, circuitRefusals, proverRefusal}
 use Rattle.protocol.specs.Calls.{CircuitWords, entriesOf, circuitOf, entryListTests}
 use Rattle.protocol.proofs.RefusalLaws.{refuse-none, first-none, and-true}

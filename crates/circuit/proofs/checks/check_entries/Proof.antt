@@ -1,9 +1,11 @@
 -- `circuit::checks::check_entries` meets its contract: the entries passed fit and rise. Assumes nothing.
 use borrow.Author.Needs.{needs}
 use mathlib.Core.Path.{_≡_, refl, sym, _∙_}
-use mathlib.Core.Bool.{true}
-use Prim.Native.Nat.{_-_, _≤_}
+use mathlib.Core.Bool.{Bool, true}
+use mathlib.Core.List.{List}
+use Prim.Native.Nat.{ℕ, _-_, _/_, _≤_}
 use native.Mathlib.Omega.{arith}
+use lib.ListN.{length}
 use borrow.Author.Tests.{not-true, not-false}
 use Rattle.protocol.specs.Circuit.{Circuit}
 use Rattle.protocol.specs.Refusals.{entryTests}
@@ -13,8 +15,15 @@ use Rattle.circuit.proofs.Entries.{length-entriesOf, length-entryTests}
 use Rattle.circuit.proofs.checks.check_entries.Statement.{statement}
 use Rattle.circuit.proofs.checks.check_entries.Tie as tie
 
+-- the tests, and how many they are
+abbrev tests : Circuit → List ℕ → List Bool
+tests k entries = entryTests k (entriesOf entries)
+
+tests-count : (k : Circuit) (entries : List ℕ) → length (tests k entries) ≡ length entries / 3
+tests-count k entries = omega (arith, length-entryTests k (entriesOf entries), length-entriesOf entries)
+
 abbrev Inv-loop : tie.InvT-loop
-Inv-loop r c start entries count i₀ i = (i ≤ count) × ((k : Circuit) → k .R ≡ r → k .C ≡ c → Passed 7 start (entryTests k (entriesOf entries)) i)
+Inv-loop r c start entries count i₀ i = (i ≤ count) × ((k : Circuit) → k .R ≡ r → k .C ≡ c → Passed 7 start (tests k entries) i)
 
 abbrev μ-loop : tie.MeasureT-loop
 μ-loop r c start entries count i₀ i = count - i
@@ -32,8 +41,7 @@ returns : tie.Need-returns Inv-loop μ-loop
 returns c k er ec =
     let l = c .before .before .before .loop in
     let a = c .before .before .before .before .before .args in
-    let es = entriesOf (a .entries .now) in
-    passed-stop 7 (a .start) (entryTests k es) (l .i) (l .inv .1 k er ec) (omega (arith, length-entryTests k es, length-entriesOf (a .entries .now))) true _ refl
+    passed-stop 7 (a .start) (tests k (a .entries .now)) (l .i) (l .inv .1 k er ec) (omega (arith, tests-count k (a .entries .now))) true _ refl
     (sym (c .before .entry-passes .ensures k er ec) ∙ not-true _ (c .if1 .taken))
 
 add-i : tie.Need-add-i Inv-loop μ-loop
@@ -45,11 +53,10 @@ loop-less c = search needs
 loop-again : tie.Need-loop-again Inv-loop μ-loop
 loop-again c =
     let l = c .before .before .before .loop in
-    let a = c .before .before .before .before .before .args in
-    let es = entriesOf (a .entries .now) in (
+    let a = c .before .before .before .before .before .args in (
       omega arith,
       λ k er ec.
-          passed-turn 7 (a .start) (entryTests k es) (l .i) (l .inv .1 k er ec) (omega (arith, length-entryTests k es, length-entriesOf (a .entries .now))) true
+          passed-turn 7 (a .start) (tests k (a .entries .now)) (l .i) (l .inv .1 k er ec) (omega (arith, tests-count k (a .entries .now))) true
           (sym (c .before .entry-passes .ensures k er ec) ∙ not-false _ (c .if1 .left)),
     )
 
@@ -57,8 +64,7 @@ returns-2 : tie.Need-returns-2 Inv-loop μ-loop
 returns-2 c k er ec =
     let l = c .before .loop in
     let a = c .before .before .before .args in
-    let es = entriesOf (a .entries .now) in
-    sym (passed-end 7 (a .start) (entryTests k es) (l .i) (l .inv .1 k er ec) (omega (arith, length-entryTests k es, length-entriesOf (a .entries .now))))
+    sym (passed-end 7 (a .start) (tests k (a .entries .now)) (l .i) (l .inv .1 k er ec) (omega (arith, tests-count k (a .entries .now))))
 
 pub check-entries-spec : {M : Type 1} → statement M
 check-entries-spec =

@@ -1,7 +1,8 @@
 -- `circuit::checks::check_lent` meets its contract. Assumes nothing.
 use borrow.Author.Needs.{needs}
-use mathlib.Core.Path.{sym, _∙_}
-use mathlib.Core.Bool.{true}
+use mathlib.Core.Path.{_≡_, sym, _∙_}
+use mathlib.Core.Bool.{Bool, true}
+use mathlib.Core.List.{List}
 use Prim.Native.Nat.{_-_, _≤_}
 use native.Mathlib.Omega.{arith}
 use lib.Dec.{eqb}
@@ -17,6 +18,13 @@ Inv-loop start lent due i₀ i = (i ≤ length lent) × Passed 5 start (pairs eq
 
 abbrev μ-loop : tie.MeasureT-loop
 μ-loop start lent due i₀ i = length lent - i
+
+-- the tests, and how many they are
+abbrev tests : tie.Start Inv-loop μ-loop → List Bool
+tests s = pairs eqb (s .args .lent .now) (s .args .due .now)
+
+tests-count : (s : tie.Start Inv-loop μ-loop) → length (tests s) ≡ length (s .args .lent .now)
+tests-count s = omega (arith, length-pairs eqb (s .args .lent .now) (s .args .due .now), s .pre .1)
 
 loop-holds : tie.Need-loop-holds Inv-loop μ-loop
 loop-holds c = (omega arith, passed-none 5 _ _)
@@ -42,8 +50,7 @@ returns : tie.Need-returns Inv-loop μ-loop
 returns c =
     let s = c .before .before .before .before .before in
     let l = c .before .before .before .before .loop in
-    let count = length-pairs eqb (s .args .lent .now) (s .args .due .now) in
-    passed-stop 5 (s .args .start) (pairs eqb (s .args .lent .now) (s .args .due .now)) (l .i) (l .inv .1) (omega (arith, count, s .pre .1)) true _ (omega arith)
+    passed-stop 5 (s .args .start) (tests s) (l .i) (l .inv .1) (omega (arith, tests-count s)) true _ (omega arith)
     (pairs-at eqb (s .args .lent .now) (s .args .due .now) (l .i) 0 0 true (omega arith) (omega (arith, s .pre .1)) ∙ ne-eqb _ _ (c .if1 .taken))
 
 add-i : tie.Need-add-i Inv-loop μ-loop
@@ -55,10 +62,9 @@ loop-less c = search needs
 loop-again : tie.Need-loop-again Inv-loop μ-loop
 loop-again c =
     let s = c .before .before .before .before .before in
-    let l = c .before .before .before .before .loop in
-    let count = length-pairs eqb (s .args .lent .now) (s .args .due .now) in (
+    let l = c .before .before .before .before .loop in (
       omega arith,
-      passed-turn 5 (s .args .start) (pairs eqb (s .args .lent .now) (s .args .due .now)) (l .i) (l .inv .1) (omega (arith, count, s .pre .1)) true
+      passed-turn 5 (s .args .start) (tests s) (l .i) (l .inv .1) (omega (arith, tests-count s)) true
           (pairs-at eqb (s .args .lent .now) (s .args .due .now) (l .i) 0 0 true (omega arith) (omega (arith, s .pre .1)) ∙ eq-eqb _ _ (c .if1 .left)),
     )
 
@@ -66,8 +72,7 @@ returns-2 : tie.Need-returns-2 Inv-loop μ-loop
 returns-2 c =
     let s = c .before .before in
     let l = c .before .loop in
-    let count = length-pairs eqb (s .args .lent .now) (s .args .due .now) in
-    sym (passed-end 5 (s .args .start) (pairs eqb (s .args .lent .now) (s .args .due .now)) (l .i) (l .inv .1) (omega (arith, count, s .pre .1)))
+    sym (passed-end 5 (s .args .start) (tests s) (l .i) (l .inv .1) (omega (arith, tests-count s)))
 
 pub check-lent-spec : {M : Type 1} → statement M
 check-lent-spec =

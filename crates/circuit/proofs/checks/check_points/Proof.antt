@@ -39,6 +39,23 @@ Inv-loop p r c k points sizes i₀ i = (i ≤ length points) × ((q : Prime) →
 abbrev μ-loop : tie.MeasureT-loop
 μ-loop p r c k points sizes i₀ i = length points - i
 
+-- how many tests a call makes, and the one that a turn makes
+abbrev due : Prime → tie.Start Inv-loop μ-loop → List Bool
+due q s = tests q (s .args .r ∷ s .args .c ∷ s .args .k ∷ []) (s .args .points .now)
+
+due-count : (q : Prime) (s : tie.Start Inv-loop μ-loop) → length (due q s) ≡ length (s .args .points .now)
+due-count q s = tests-count q (s .args .r ∷ s .args .c ∷ s .args .k ∷ []) (s .args .points .now) (s .pre .1 .1)
+
+abbrev start : tie.After-is-inside Inv-loop μ-loop → tie.Start Inv-loop μ-loop
+start c = c .before .before .before .before .before
+
+turn-test : (c : tie.After-is-inside Inv-loop μ-loop) (q : Prime) → Qualifies q → q .p ≡ start c .args .p
+    → getD (due q (start c)) (c .before .before .before .loop .i) true ≡ not (c .is-inside .result)
+turn-test c q Q e =
+    let s = start c in
+    test-at q (s .args .r ∷ s .args .c ∷ s .args .k ∷ []) (s .args .points .now) (c .before .before .before .loop .i) (c .is-inside .result)
+    (s .pre .1 .1) (omega arith) (c .is-inside .ensures q Q e)
+
 loop-holds : tie.Need-loop-holds Inv-loop μ-loop
 loop-holds c = (omega arith, λ q Q e. passed-none 10 0 _)
 
@@ -58,16 +75,16 @@ is-inside-requires : tie.Need-is-inside-requires Inv-loop μ-loop
 is-inside-requires c κs =
     let s = c .before .before .before .before in
     let ns : List ℕ = s .args .r ∷ s .args .c ∷ s .args .k ∷ [] in
-    (s .pre .0, all-at (λ n. isSize n ≡ true) ns (s .pre .1 .0 .0, (s .pre .1 .0 .1 .0, (s .pre .1 .0 .1 .1, tt))) (c .before .before .loop .i) 0 (omega arith))
+    let sizes = s .pre .1 .0 in
+    (s .pre .0, all-at (λ n. isSize n ≡ true) ns (sizes .0, (sizes .1 .0, (sizes .1 .1, tt))) (c .before .before .loop .i) 0 (omega arith))
 
 returns : tie.Need-returns Inv-loop μ-loop
 unfolding challengeRefusal
 returns c q Q e =
-    let a = c .before .before .before .before .before .before .args in
-    let l = c .before .before .before .before .loop in
-    let ns : List ℕ = a .r ∷ a .c ∷ a .k ∷ [] in
-    passed-stop 10 0 (tests q ns (a .points .now)) (l .i) (l .inv .1 q Q e) (omega (arith, tests-count q ns (a .points .now) (c .before .before .before .before .before .before .pre .1 .1))) true (l .i) (omega arith)
-    (test-at q ns (a .points .now) (l .i) (c .before .is-inside .result) (c .before .before .before .before .before .before .pre .1 .1) (omega arith) (c .before .is-inside .ensures q Q e) ∙ ap not (c .if1 .taken))
+    let t = c .before in
+    let l = t .before .before .before .loop in
+    passed-stop 10 0 (due q (start t)) (l .i) (l .inv .1 q Q e) (omega (arith, due-count q (start t))) true (l .i) (omega arith)
+    (turn-test t q Q e ∙ ap not (c .if1 .taken))
 
 add-i : tie.Need-add-i Inv-loop μ-loop
 add-i c = search needs
@@ -77,23 +94,20 @@ loop-less c = search needs
 
 loop-again : tie.Need-loop-again Inv-loop μ-loop
 loop-again c =
-    let a = c .before .before .before .before .before .before .args in
-    let l = c .before .before .before .before .loop in
-    let ns : List ℕ = a .r ∷ a .c ∷ a .k ∷ [] in (
+    let t = c .before in
+    let l = t .before .before .before .loop in (
       omega arith,
       λ q Q e.
-          passed-turn 10 0 (tests q ns (a .points .now)) (l .i) (l .inv .1 q Q e) (omega (arith, tests-count q ns (a .points .now) (c .before .before .before .before .before .before .pre .1 .1))) true
-          (test-at q ns (a .points .now) (l .i) (c .before .is-inside .result) (c .before .before .before .before .before .before .pre .1 .1) (omega arith) (c .before .is-inside .ensures q Q e) ∙ ap not (c .if1 .left)),
+          passed-turn 10 0 (due q (start t)) (l .i) (l .inv .1 q Q e) (omega (arith, due-count q (start t))) true
+          (turn-test t q Q e ∙ ap not (c .if1 .left)),
     )
 
 returns-2 : tie.Need-returns-2 Inv-loop μ-loop
 unfolding challengeRefusal
 returns-2 c q Q e =
-    let a = c .before .before .before .args in
+    let s = c .before .before .before in
     let l = c .before .loop in
-    let ns : List ℕ = a .r ∷ a .c ∷ a .k ∷ [] in
-    sym
-    (passed-end 10 0 (tests q ns (a .points .now)) (l .i) (l .inv .1 q Q e) (omega (arith, tests-count q ns (a .points .now) (c .before .before .before .pre .1 .1))))
+    sym (passed-end 10 0 (due q s) (l .i) (l .inv .1 q Q e) (omega (arith, due-count q s)))
 
 pub check-points-spec : {M : Type 1} → statement M
 check-points-spec =

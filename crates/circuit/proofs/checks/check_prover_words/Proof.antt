@@ -1,25 +1,57 @@
 -- `circuit::checks::check_prover_words` meets its contract: each part of the words in order. Assumes nothing.
 use borrow.Author.Needs.{needs}
-use mathlib.Core.Path.{sym, _∙_}
-use mathlib.Core.List.{List, [], _∷_, map}
+use mathlib.Core.Path.{_≡_, sym, _∙_}
+use mathlib.Core.Bool.{Bool}
+use mathlib.Core.List.{List, [], _∷_, _++_, map}
 use mathlib.Core.Option.{Option}
 use Prim.Native.Nat.{ℕ, _+_}
 use lib.Dec.{ltb}
 use lib.ListN.{length}
 use borrow.Author.Tests.{lt-ltb, le-ltb, not-true, not-false}
-use Rattle.protocol.specs.Refusals.{Refusal, refuse}
+use Rattle.protocol.specs.Refusals.{Refusal, first, refuse}
 use Rattle.circuit.proofs.EarlyReturns.{stops, goes-on, passes, fails-first, last-answer}
 use Rattle.circuit.proofs.Parts.{prover-words}
 use Rattle.circuit.proofs.checks.check_prover_words.Statement.{statement}
 use Rattle.circuit.proofs.checks.check_prover_words.Tie as tie
 
--- the parts after z, and after the mask word
-abbrev after-mask : (p start : ℕ) (z m challenges : List ℕ) → List (Option Refusal)
-after-mask p start z m challenges =
-    refuse 6 (start + length z + 1) (map (λ w. ltb w p) m) ∷ refuse 6 (start + length z + 1 + length m) (map (λ w. ltb w p) challenges) ∷ []
+-- the start, from the answer on z
+abbrev start : tie.After-judge-words → tie.Start
+start c = c .before .before .before .before
 
-abbrev after-z : (p start : ℕ) (z : List ℕ) (mask : ℕ) (m challenges : List ℕ) → List (Option Refusal)
-after-z p start z mask m challenges = refuse 6 (start + length z) (ltb mask p ∷ []) ∷ after-mask p start z m challenges
+-- what is to be answered, and its parts after m, after the mask word and after z
+module _ (s : tie.Start) where
+  abbrev below : ℕ → Bool
+  below w = ltb w (s .args .p)
+
+  abbrev due : Option Refusal
+  due = refuse 6 (s .args .start) (map below (s .args .z .now ++ (s .args .mask ∷ (s .args .m .now ++ s .args .challenges .now))))
+
+  abbrev place : ℕ
+  place = s .args .start + length (s .args .z .now)
+
+  abbrev after-m : List (Option Refusal)
+  after-m = refuse 6 (place + 1 + length (s .args .m .now)) (map below (s .args .challenges .now)) ∷ []
+
+  abbrev after-mask : List (Option Refusal)
+  after-mask = refuse 6 (place + 1) (map below (s .args .m .now)) ∷ after-m
+
+  abbrev after-z : List (Option Refusal)
+  after-z = refuse 6 place (below (s .args .mask) ∷ []) ∷ after-mask
+
+  in-parts : first (refuse 6 (s .args .start) (map below (s .args .z .now)) ∷ after-z) ≡ due
+  in-parts = sym (prover-words (s .args .p) (s .args .start) (s .args .z .now) (s .args .mask) (s .args .m .now) (s .args .challenges .now))
+
+-- past z, and past the mask word
+pass-z : (c : tie.Else1) {x : Option Refusal} → let s = start (c .before .before) in x ≡ first (after-z s) → x ≡ due s
+pass-z c y =
+    let j = c .before .before in
+    goes-on (j .judge-words .result) (j .judge-words .ensures) (after-z (start j)) (sym (c .before .is-fine .ensures) ∙ not-false _ (c .if1 .left)) y
+    ∙ in-parts (start j)
+
+pass-mask : (c : tie.Else2) {x : Option Refusal} → let s = start (c .before .before .before) in x ≡ first (after-mask s) → x ≡ due s
+pass-mask c y =
+    let s = start (c .before .before .before) in
+    pass-z (c .before) (passes 6 (place s) (after-mask s) (lt-ltb _ _ (c .if2 .left)) y)
 
 judge-words-requires : tie.Need-judge-words-requires
 judge-words-requires c κs = search needs
@@ -29,21 +61,17 @@ is-fine-requires c κs = search needs
 
 returns : tie.Need-returns
 returns c =
-    let a = c .before .before .before .before .before .before .args in
-    stops (c .before .before .judge-words .result) (c .before .before .judge-words .ensures)
-    (after-z (a .p) (a .start) (a .z .now) (a .mask) (a .m .now) (a .challenges .now)) (sym (c .before .is-fine .ensures) ∙ not-true _ (c .if1 .taken))
-    ∙ sym (prover-words (a .p) (a .start) (a .z .now) (a .mask) (a .m .now) (a .challenges .now))
+    let j = c .before .before in
+    stops (j .judge-words .result) (j .judge-words .ensures) (after-z (start j)) (sym (c .before .is-fine .ensures) ∙ not-true _ (c .if1 .taken))
+    ∙ in-parts (start j)
 
 add-place : tie.Need-add-place
 add-place c = search needs
 
 returns-2 : tie.Need-returns-2
 returns-2 c =
-    let a = c .before .before .before .before .before .before .before .args in
-    goes-on (c .before .before .before .judge-words .result) (c .before .before .before .judge-words .ensures)
-    (after-z (a .p) (a .start) (a .z .now) (a .mask) (a .m .now) (a .challenges .now)) (sym (c .before .before .is-fine .ensures) ∙ not-false _ (c .before .if1 .left))
-    (fails-first 6 (a .start + length (a .z .now)) (after-mask (a .p) (a .start) (a .z .now) (a .m .now) (a .challenges .now)) (le-ltb _ _ (c .if2 .taken)))
-    ∙ sym (prover-words (a .p) (a .start) (a .z .now) (a .mask) (a .m .now) (a .challenges .now))
+    let s = start (c .before .before .before) in
+    pass-z (c .before) (fails-first 6 (place s) (after-mask s) (le-ltb _ _ (c .if2 .taken)))
 
 add-judge-words : tie.Need-add-judge-words
 add-judge-words c = search needs
@@ -56,14 +84,10 @@ is-fine-requires-2 c κs = search needs
 
 returns-3 : tie.Need-returns-3
 returns-3 c =
-    let a = c .before .before .before .before .before .before .before .before .before .before .args in
-    goes-on (c .before .before .before .before .before .before .judge-words .result) (c .before .before .before .before .before .before .judge-words .ensures)
-    (after-z (a .p) (a .start) (a .z .now) (a .mask) (a .m .now) (a .challenges .now)) (sym (c .before .before .before .before .before .is-fine .ensures) ∙ not-false _ (c .before .before .before .before .if1 .left))
-    (passes 6 (a .start + length (a .z .now)) (after-mask (a .p) (a .start) (a .z .now) (a .m .now) (a .challenges .now)) (lt-ltb _ _ (c .before .before .before .if2 .left))
-    (stops (c .before .before .judge-words2 .result) (c .before .before .judge-words2 .ensures)
-    (refuse 6 (a .start + length (a .z .now) + 1 + length (a .m .now)) (map (λ w. ltb w (a .p)) (a .challenges .now)) ∷ [])
-    (sym (c .before .is-fine2 .ensures) ∙ not-true _ (c .if3 .taken))))
-    ∙ sym (prover-words (a .p) (a .start) (a .z .now) (a .mask) (a .m .now) (a .challenges .now))
+    let j = c .before .before in
+    let s = start (j .before .before .before .before) in
+    pass-mask (j .before)
+    (stops (j .judge-words2 .result) (j .judge-words2 .ensures) (after-m s) (sym (c .before .is-fine2 .ensures) ∙ not-true _ (c .if3 .taken)))
 
 add-judge-words-2 : tie.Need-add-judge-words-2
 add-judge-words-2 c = search needs
@@ -76,14 +100,12 @@ judge-words-requires-3 c κs = search needs
 
 returns-4 : tie.Need-returns-4
 returns-4 c =
-    let a = c .before .before .before .before .before .before .before .before .before .before .before .args in
-    goes-on (c .before .before .before .before .before .before .before .judge-words .result) (c .before .before .before .before .before .before .before .judge-words .ensures)
-    (after-z (a .p) (a .start) (a .z .now) (a .mask) (a .m .now) (a .challenges .now)) (sym (c .before .before .before .before .before .before .is-fine .ensures) ∙ not-false _ (c .before .before .before .before .before .if1 .left))
-    (passes 6 (a .start + length (a .z .now)) (after-mask (a .p) (a .start) (a .z .now) (a .m .now) (a .challenges .now)) (lt-ltb _ _ (c .before .before .before .before .if2 .left))
-    (goes-on (c .before .before .before .judge-words2 .result) (c .before .before .before .judge-words2 .ensures)
-    (refuse 6 (a .start + length (a .z .now) + 1 + length (a .m .now)) (map (λ w. ltb w (a .p)) (a .challenges .now)) ∷ [])
-    (sym (c .before .before .is-fine2 .ensures) ∙ not-false _ (c .before .if3 .left)) (last-answer (c .judge-words3 .ensures))))
-    ∙ sym (prover-words (a .p) (a .start) (a .z .now) (a .mask) (a .m .now) (a .challenges .now))
+    let d = c .before in
+    let j = d .before .before in
+    let s = start (j .before .before .before .before) in
+    pass-mask (j .before)
+    (goes-on (j .judge-words2 .result) (j .judge-words2 .ensures) (after-m s) (sym (d .before .is-fine2 .ensures) ∙ not-false _ (d .if3 .left))
+    (last-answer (c .judge-words3 .ensures)))
 
 pub check-prover-words-spec : {M : Type 1} → statement M
 check-prover-words-spec =

@@ -19,7 +19,8 @@ use Rattle.circuit.proofs.matrices.row_sums.Statement.{statement}
 use Rattle.circuit.proofs.matrices.row_sums.Tie as tie
 
 abbrev Inv-loop : tie.InvT-loop
-Inv-loop p entries z out₀ count i₀ out i = (i ≤ count) × (length out ≡ length out₀) × ((q : Prime) → q .p ≡ p → Summed (map (of {q = q}) z) (entriesOf entries) out i)
+Inv-loop p entries z out₀ count i₀ out i =
+    (i ≤ count) × (length out ≡ length out₀) × ((q : Prime) → q .p ≡ p → Summed (map (of {q = q}) z) (entriesOf entries) out i)
 
 abbrev μ-loop : tie.MeasureT-loop
 μ-loop p entries z out₀ count i₀ out i = count - i
@@ -38,10 +39,12 @@ clear-requires c κs = search needs
 
 loop-holds : tie.Need-loop-holds Inv-loop μ-loop
 loop-holds c =
-    let s = c .before .before .before .before .before .before .before in (
+    let cleared = c .before .before in
+    let a = cleared .before .before .before .before .before .args in (
       omega arith,
       refl,
-      λ q e. summed-none (map of (s .args .z .now)) (entriesOf (s .args .entries .now)) (c .before .before .clear .last .0) (length (s .args .out .now)) (c .before .before .clear .ensures),
+      λ q e.
+          summed-none (map of (a .z .now)) (entriesOf (a .entries .now)) (cleared .clear .last .0) (length (a .out .now)) (cleared .clear .ensures),
     )
 
 mul-row : tie.Need-mul-row Inv-loop μ-loop
