@@ -1,5 +1,8 @@
 -- `circuit::checks::check_entry_lists` meets its contract. Assumes nothing.
 use borrow.Author.Needs.{needs}
+use mathlib.Core.Path.{_∙_}
+use mathlib.Core.List.{[], _∷_}
+use Rattle.protocol.specs.Refusals.{refuse}
 use Rattle.circuit.proofs.checks.check_entry_lists.Statement.{statement}
 use Rattle.circuit.proofs.checks.check_entry_lists.Tie as tie
 
@@ -19,7 +22,12 @@ first-failed-requires : tie.Need-first-failed-requires
 first-failed-requires c κs = search needs
 
 returns : tie.Need-returns
-returns c = cc
+returns c =
+    let third = c .before .before in
+    let second = third .before in
+    let first = second .before in
+    c .first-failed .ensures
+    ∙ (λ t. refuse 5 0 (first .entry-list-fits .ensures t ∷ second .entry-list-fits2 .ensures t ∷ third .entry-list-fits3 .ensures t ∷ []))
 
 pub check-entry-lists-spec : {M : Type 1} → statement M
 check-entry-lists-spec =

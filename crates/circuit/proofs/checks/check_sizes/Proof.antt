@@ -1,6 +1,8 @@
 -- `circuit::checks::check_sizes` meets its contract. Assumes nothing.
 use borrow.Author.Needs.{needs}
-use Rattle.protocol.specs.Refusals.{sizeTests, sizeRefusal}
+use mathlib.Core.Path.{_∙_}
+use mathlib.Core.List.{[], _∷_}
+use Rattle.protocol.specs.Refusals.{refuse, sizeTests, sizeRefusal}
 use Rattle.circuit.proofs.checks.check_sizes.Statement.{statement}
 use Rattle.circuit.proofs.checks.check_sizes.Tie as tie
 
@@ -21,7 +23,12 @@ first-failed-requires c κs = search needs
 
 returns : tie.Need-returns
 unfolding sizeRefusal sizeTests
-returns c = cc
+returns c =
+    let public = c .before .before in
+    let columns = public .before in
+    let rows = columns .before in
+    c .first-failed .ensures
+    ∙ (λ t. refuse 4 0 (rows .is-size .ensures t ∷ columns .is-size2 .ensures t ∷ public .is-public-size .ensures t ∷ []))
 
 pub check-sizes-spec : {M : Type 1} → statement M
 check-sizes-spec =
