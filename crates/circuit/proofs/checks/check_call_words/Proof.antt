@@ -29,11 +29,11 @@ module _ (s : tie.Start) where
   abbrev place : ℕ
   place = length (s .args .ea .now) / 3 + (length (s .args .eb .now) / 3 + length (s .args .ec .now) / 3)
 
-  abbrev after-values : List (Option Refusal)
-  after-values = refuse 6 place (map (λ w. ltb w (s .args .p)) others) ∷ []
+  abbrev part : Option Refusal
+  part = refuse 6 place (map (λ w. ltb w (s .args .p)) others)
 
   in-parts : (q : Prime) (k : Circuit) → q .p ≡ s .args .p → k .matrices ≡ entryLists (s .args .ea .now) (s .args .eb .now) (s .args .ec .now)
-      → first (refuse 6 0 (map (λ w. ltb w (s .args .p)) (entryValues k)) ∷ after-values) ≡ wordRefusal q (entryValues k ++ others)
+      → first (refuse 6 0 (map (λ w. ltb w (s .args .p)) (entryValues k)) ∷ part ∷ []) ≡ wordRefusal q (entryValues k ++ others)
   in-parts q k e matrices =
       sym (words-in-parts q k e others place (sym (values-length k (s .args .ea .now) (s .args .eb .now) (s .args .ec .now) matrices)))
 
@@ -46,7 +46,7 @@ is-fine-requires c κs = search needs
 returns : tie.Need-returns
 returns c q e k matrices =
     let v = c .before .before in
-    stops (v .check-three-values .result) (v .check-three-values .ensures k matrices) (after-values (start v))
+    stops (v .check-three-values .result) (v .check-three-values .ensures k matrices) (part (start v) ∷ [])
     (sym (c .before .is-fine .ensures) ∙ not-true _ (c .if1 .taken))
     ∙ in-parts (start v) q k e matrices
 
@@ -63,8 +63,8 @@ returns-2 : tie.Need-returns-2
 returns-2 c q e k matrices =
     let d = c .before in
     let v = d .before .before in
-    goes-on (v .check-three-values .result) (v .check-three-values .ensures k matrices) (after-values (start v))
-    (sym (d .before .is-fine .ensures) ∙ not-false _ (d .if1 .left)) (last-answer (c .check-prover-words .ensures))
+    goes-on (v .check-three-values .result) (v .check-three-values .ensures k matrices) (part (start v) ∷ [])
+    (sym (d .before .is-fine .ensures) ∙ not-false _ (d .if1 .left)) (last-answer {o = part (start v)} (c .check-prover-words .ensures))
     ∙ in-parts (start v) q k e matrices
 
 pub check-call-words-spec : {M : Type 1} → statement M

@@ -2,7 +2,7 @@
 use borrow.Author.Needs.{needs}
 use mathlib.Core.Path.{_≡_, refl, sym, ap, ap₂, _∙_, subst⁻¹}
 use mathlib.Core.Bool.{true}
-use mathlib.Core.List.{List, [], _∷_, map}
+use mathlib.Core.List.{List, [], _∷_, _++_, map}
 use mathlib.Core.Option.{Option}
 use Prim.Native.Nat.{ℕ}
 use native.Mathlib.Omega.{arith}
@@ -14,7 +14,8 @@ use Rattle.domain.specs.Size.{isSize}
 use Rattle.domain.specs.Qualifies.{Qualifies}
 use Rattle.domain.proofs.SizeLaws.{size-bound}
 use Rattle.protocol.specs.Circuit.{Circuit, sizesOf, largest}
-use Rattle.protocol.specs.Refusals.{Refusal, first, entryRefusal, maskRefusal, assignmentRefusal, challengeRefusal}
+use Rattle.protocol.specs.Refusals.{Refusal, first, wordRefusal, entryRefusal, maskRefusal, assignmentRefusal, challengeRefusal}
+use Rattle.protocol.specs.Admission.{entryValues}
 use Rattle.protocol.specs.Calls.{entriesOf, circuitOf}
 use Rattle.circuit.specs.Given.{given, entryLists, EachWithin}
 use Rattle.circuit.specs.Judgement.{contentsRefusal}
@@ -36,10 +37,13 @@ from-mask c = from-entries (c .before .before .before)
 abbrev from-rows : tie.After-check-assignment → tie.Start
 from-rows c = from-mask (c .before .before .before)
 
--- what is to be answered, and the rows after 9, after 8, after 7 and after 6
+-- what is to be answered, its row 6, and the rows after 9, after 8, after 7 and after 6
 module _ (q : Prime) (k : Circuit) (s : tie.Start) where
   abbrev due : Option Refusal
   due = contentsRefusal q k (s .args .z .now) (s .args .mask) (s .args .m .now) (s .args .challenges .now) (s .args .points .now)
+
+  abbrev words : Option Refusal
+  words = wordRefusal q (entryValues k ++ (s .args .z .now ++ (s .args .mask ∷ (s .args .m .now ++ s .args .challenges .now))))
 
   abbrev after-rows : List (Option Refusal)
   after-rows = challengeRefusal {q = q} 0 (k .R ∷ k .C ∷ largest (sizesOf k .K) ∷ []) (map of (s .args .points .now)) ∷ []
@@ -66,7 +70,8 @@ module _ (q : Prime) (Q : Qualifies q) (k : Circuit) {x : Option Refusal} where
   unfolding contentsRefusal
   pass-words c g y =
       let w = c .before .before in
-      goes-on (w .check-call-words .result) (w .check-call-words .ensures q (g .prime) k (g .matrices)) (after-words q k (from-words w))
+      let s = from-words w in
+      goes-on (w .check-call-words .result) {o = words q k s} (w .check-call-words .ensures q (g .prime) k (g .matrices)) (after-words q k s)
       (sym (c .before .is-fine .ensures) ∙ not-false _ (c .if1 .left)) y
 
   pass-entries : (c : tie.Else2) → let s = from-entries (c .before .before) in Given q k s → x ≡ first (after-entries q k s) → x ≡ due q k s
@@ -104,7 +109,8 @@ returns : tie.Need-returns
 unfolding contentsRefusal
 returns c q Q e k er ec matrices =
     let w = c .before .before in
-    stops (w .check-call-words .result) (w .check-call-words .ensures q e k matrices) (after-words q k (from-words w))
+    let s = from-words w in
+    stops (w .check-call-words .result) {o = words q k s} (w .check-call-words .ensures q e k matrices) (after-words q k s)
     (sym (c .before .is-fine .ensures) ∙ not-true _ (c .if1 .taken))
 
 check-three-entries-requires : tie.Need-check-three-entries-requires

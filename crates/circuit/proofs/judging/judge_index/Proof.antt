@@ -8,28 +8,63 @@ use lib.Dec.{eqb}
 use borrow.Author.Tests.{not-true, not-false}
 use Rattle.field.specs.Prime.{Prime}
 use Rattle.protocol.specs.Meanings.{faultRefusal}
-use Rattle.protocol.specs.Refusals.{Refusal, refuse, pairs}
+use Rattle.protocol.specs.Refusals.{Refusal, first, refuse, pairs}
 use Rattle.protocol.specs.Calls.{CircuitWords, circuitOf}
 use Rattle.circuit.specs.Given.{given, isFine}
-use Rattle.circuit.specs.Judgement.{indexDue, indexRefusal, indexContentsRefusal}
+use Rattle.circuit.specs.Judgement.{indexDue, indexShapeRefusal, indexRefusal, indexContentsRefusal}
 use Rattle.circuit.proofs.EarlyReturns.{stops, goes-on, fine-none, last-answer}
 use Rattle.circuit.proofs.Parts.{index-in-parts, index-shape-fits}
 use borrow.Author.Needs.{needs}
 use Rattle.circuit.proofs.judging.judge_index.Statement.{statement}
 use Rattle.circuit.proofs.judging.judge_index.Tie as tie
 
--- what the call is given: its circuit and, argument 8, the lengths of the lent slices; the tests of these, and the refusal of its contents
-abbrev circuit : tie.Start → CircuitWords
-circuit s = let a = s .args in given (a .r) (a .c) (a .x) (a .ea .now) (a .eb .now) (a .ec .now)
+-- the start, from the answers on the shape and on the lent slices
+abbrev from-shape : tie.After-judge-index-shape → tie.Start
+from-shape c = c .before .before .before .before
 
-abbrev lengths : tie.Start → List ℕ
-lengths s = s .args .t8
+abbrev from-lent : tie.After-check-lent → tie.Start
+from-lent c = from-shape (c .before .before .before .before .before .before)
 
-abbrev tests : tie.Start → List Bool
-tests s = pairs eqb (lengths s) (indexDue (circuitOf (circuit s) .matrices))
+-- what the call is given: its circuit and, argument 8, the lengths of the lent slices; the tests of these, and the parts of the answer
+module _ (s : tie.Start) where
+  abbrev circuit : CircuitWords
+  circuit = given (s .args .r) (s .args .c) (s .args .x) (s .args .ea .now) (s .args .eb .now) (s .args .ec .now)
 
-abbrev contents : tie.Start → Prime → Option Refusal
-contents s q = indexContentsRefusal q (circuitOf (circuit s))
+  abbrev lengths : List ℕ
+  lengths = s .args .t8
+
+  abbrev tests : List Bool
+  tests = pairs eqb lengths (indexDue (circuitOf circuit .matrices))
+
+  module _ (q : Prime) where
+    abbrev contents : Option Refusal
+    contents = indexContentsRefusal q (circuitOf circuit)
+
+    abbrev after-shape : List (Option Refusal)
+    after-shape = refuse 5 3 tests ∷ contents ∷ []
+
+    in-parts : first (indexShapeRefusal circuit ∷ after-shape) ≡ indexRefusal q circuit lengths
+    unfolding indexRefusal
+    in-parts = sym (index-in-parts q circuit tests)
+
+-- past the shape
+shape-fine : (c : tie.Else1) → isFine (c .before .before .judge-index-shape .result) ≡ true
+shape-fine c = sym (c .before .is-fine .ensures) ∙ not-false _ (c .if1 .left)
+
+pass-shape : (q : Prime) (c : tie.Else1) {x : Option Refusal} → let s = from-shape (c .before .before) in
+    x ≡ first (after-shape s q) → x ≡ indexRefusal q (circuit s) (lengths s)
+pass-shape q c y =
+    let j = c .before .before in
+    let s = from-shape j in
+    goes-on (j .judge-index-shape .result) {o = indexShapeRefusal (circuit s)} (j .judge-index-shape .ensures) (after-shape s q) (shape-fine c) y
+    ∙ in-parts s q
+
+-- the slices are judged by the lengths that are due
+slices : (c : tie.After-check-lent) → faultRefusal (c .check-lent .result) ≡ refuse 5 3 (tests (from-lent c))
+unfolding circuitOf
+slices c =
+    c .check-lent .ensures
+    ∙ ap (λ (due : List ℕ). refuse 5 3 (pairs eqb (lengths (from-lent c)) due)) (c .before .before .before .index-lengths .ensures)
 
 judge-index-shape-requires : tie.Need-judge-index-shape-requires
 judge-index-shape-requires c κs = search needs
@@ -38,13 +73,12 @@ is-fine-requires : tie.Need-is-fine-requires
 is-fine-requires c κs = search needs
 
 returns : tie.Need-returns
-unfolding indexRefusal
 returns c q e =
-    let shape = c .before .before in
-    let s = shape .before .before .before .before in
-    stops (shape .judge-index-shape .result) (shape .judge-index-shape .ensures) (refuse 5 3 (tests s) ∷ contents s q ∷ [])
+    let j = c .before .before in
+    let s = from-shape j in
+    stops (j .judge-index-shape .result) {o = indexShapeRefusal (circuit s)} (j .judge-index-shape .ensures) (after-shape s q)
     (sym (c .before .is-fine .ensures) ∙ not-true _ (c .if1 .taken))
-    ∙ sym (index-in-parts q (circuit s) (tests s))
+    ∙ in-parts s q
 
 index-lengths-requires : tie.Need-index-lengths-requires
 index-lengths-requires c κs = search needs
@@ -61,50 +95,29 @@ check-lent-requires c κs = search needs
 is-fine-requires-2 : tie.Need-is-fine-requires-2
 is-fine-requires-2 c κs = search needs
 
--- the shape is fine where the slices are judged, and they are judged by the lengths that are due
-shape-fine : (c : tie.After-check-lent) → isFine (c .before .before .before .before .before .before .judge-index-shape .result) ≡ true
-shape-fine c =
-    let branch = c .before .before .before .before in
-    sym (branch .before .is-fine .ensures) ∙ not-false _ (branch .if1 .left)
-
-slices : (c : tie.After-check-lent) → faultRefusal (c .check-lent .result)
-    ≡ refuse 5 3 (tests (c .before .before .before .before .before .before .before .before .before .before))
-unfolding circuitOf
-slices c =
-    let s = c .before .before .before .before .before .before .before .before .before .before in
-    c .check-lent .ensures
-    ∙ ap (λ (due : List ℕ). refuse 5 3 (pairs eqb (lengths s) due)) (c .before .before .before .index-lengths .ensures)
-
 returns-2 : tie.Need-returns-2
-unfolding indexRefusal
 returns-2 c q e =
-    let lent = c .before .before in
-    let shape = lent .before .before .before .before .before .before in
-    let s = shape .before .before .before .before in
-    goes-on (shape .judge-index-shape .result) (shape .judge-index-shape .ensures) (refuse 5 3 (tests s) ∷ contents s q ∷ []) (shape-fine lent)
-    (stops (lent .check-lent .result) (slices lent) (contents s q ∷ [])
-    (sym (c .before .is-fine2 .ensures) ∙ not-true _ (c .if2 .taken)))
-    ∙ sym (index-in-parts q (circuit s) (tests s))
+    let l = c .before .before in
+    pass-shape q (l .before .before .before .before)
+    (stops (l .check-lent .result) (slices l) (contents (from-lent l) q ∷ []) (sym (c .before .is-fine2 .ensures) ∙ not-true _ (c .if2 .taken)))
 
 judge-index-contents-requires : tie.Need-judge-index-contents-requires
 judge-index-contents-requires c κs =
-    let lent = c .before .before in
-    let shape = lent .before .before .before .before .before .before in
-    let a = shape .before .before .before .before .args in
-    index-shape-fits (a .r) (a .c) (a .x) (a .ea .now) (a .eb .now) (a .ec .now)
-    (fine-none (shape .judge-index-shape .result) (shape .judge-index-shape .ensures) (shape-fine lent)) .lists
+    let d = c .before .before .before .before .before .before in
+    let j = d .before .before in
+    let s = from-shape j in
+    index-shape-fits (s .args .r) (s .args .c) (s .args .x) (s .args .ea .now) (s .args .eb .now) (s .args .ec .now)
+    (fine-none (j .judge-index-shape .result) {o = indexShapeRefusal (circuit s)} (j .judge-index-shape .ensures) (shape-fine d)) .lists
 
 returns-3 : tie.Need-returns-3
-unfolding indexRefusal circuitOf
+unfolding circuitOf
 returns-3 c q e =
-    let lent = c .before .before .before in
-    let shape = lent .before .before .before .before .before .before in
-    let s = shape .before .before .before .before in
-    goes-on (shape .judge-index-shape .result) (shape .judge-index-shape .ensures) (refuse 5 3 (tests s) ∷ contents s q ∷ []) (shape-fine lent)
-    (goes-on (lent .check-lent .result) (slices lent) (contents s q ∷ [])
-    (sym (c .before .before .is-fine2 .ensures) ∙ not-false _ (c .before .if2 .left))
+    let d = c .before in
+    let l = d .before .before in
+    let s = from-lent l in
+    pass-shape q (l .before .before .before .before)
+    (goes-on (l .check-lent .result) (slices l) (contents s q ∷ []) (sym (d .before .is-fine2 .ensures) ∙ not-false _ (d .if2 .left))
     (last-answer (c .judge-index-contents .ensures q e (circuitOf (circuit s)) refl refl refl)))
-    ∙ sym (index-in-parts q (circuit s) (tests s))
 
 pub judge-index-spec : {M : Type 1} → statement M
 judge-index-spec =

@@ -31,13 +31,13 @@ abbrev shape : tie.Start → Option Refusal
 shape s = shapeRefusal (circuit s) (s .args .z .now) (s .args .m .now)
 
 module _ (q : Prime) (s : tie.Start) where
-  abbrev contents : List (Option Refusal)
+  abbrev contents : Option Refusal
   contents =
       let a = s .args in
-      contentsRefusal q (circuitOf (circuit s)) (a .z .now) (a .mask) (a .m .now) (a .challenges .now) (a .points .now) ∷ []
+      contentsRefusal q (circuitOf (circuit s)) (a .z .now) (a .mask) (a .m .now) (a .challenges .now) (a .points .now)
 
   abbrev after-shape : List (Option Refusal)
-  after-shape = refuse 5 5 (pairs eqb (s .args .lent .now) (s .args .due .now)) ∷ contents
+  after-shape = refuse 5 5 (pairs eqb (s .args .lent .now) (s .args .due .now)) ∷ contents ∷ []
 
   abbrev due : Option Refusal
   due =
@@ -84,7 +84,7 @@ returns-2 : tie.Need-returns-2
 returns-2 c q Q e =
     let l = c .before .before in
     pass-shape q (l .before)
-    (stops (l .check-lent .result) (l .check-lent .ensures) (contents q (from-lent l)) (sym (c .before .is-fine2 .ensures) ∙ not-true _ (c .if2 .taken)))
+    (stops (l .check-lent .result) (l .check-lent .ensures) (contents q (from-lent l) ∷ []) (sym (c .before .is-fine2 .ensures) ∙ not-true _ (c .if2 .taken)))
 
 judge-contents-requires : tie.Need-judge-contents-requires
 judge-contents-requires c κs =
@@ -103,8 +103,8 @@ returns-3 c q Q e =
     let l = d .before .before in
     let s = from-lent l in
     pass-shape q (l .before)
-    (goes-on (l .check-lent .result) (l .check-lent .ensures) (contents q s) (sym (d .before .is-fine2 .ensures) ∙ not-false _ (d .if2 .left))
-    (last-answer (c .judge-contents .ensures q Q e (circuitOf (circuit s)) refl refl refl)))
+    (goes-on (l .check-lent .result) (l .check-lent .ensures) (contents q s ∷ []) (sym (d .before .is-fine2 .ensures) ∙ not-false _ (d .if2 .left))
+    (last-answer {o = contents q s} (c .judge-contents .ensures q Q e (circuitOf (circuit s)) refl refl refl)))
 
 pub judge-round-spec : {M : Type 1} → statement M
 judge-round-spec =

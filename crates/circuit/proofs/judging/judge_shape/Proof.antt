@@ -1,16 +1,28 @@
 -- `circuit::judging::judge_shape` meets its contract. Assumes nothing.
 use borrow.Author.Needs.{needs}
 use mathlib.Core.Path.{sym, _∙_}
-use mathlib.Core.List.{[], _∷_}
+use mathlib.Core.List.{List, [], _∷_}
+use mathlib.Core.Option.{Option}
 use borrow.Author.Tests.{not-true, not-false}
-use Rattle.protocol.specs.Refusals.{refuse}
+use Rattle.protocol.specs.Refusals.{Refusal, refuse}
 use Rattle.protocol.specs.Admission.{assignmentTests}
 use Rattle.protocol.specs.Calls.{CircuitWords, circuitOf}
 use Rattle.circuit.specs.Given.{given}
+use Rattle.circuit.specs.Judgement.{indexShapeRefusal}
 use Rattle.circuit.proofs.EarlyReturns.{stops, goes-on, last-answer}
 use Rattle.circuit.proofs.Parts.{shape-in-parts}
 use Rattle.circuit.proofs.judging.judge_shape.Statement.{statement}
 use Rattle.circuit.proofs.judging.judge_shape.Tie as tie
+
+-- the start, from the answer on the circuit; the circuit that the call is given, and the part of the answer after it
+abbrev start : tie.After-judge-index-shape → tie.Start
+start c = c .before .before .before .before .before .before
+
+abbrev circuit : tie.Start → CircuitWords
+circuit s = given (s .args .r) (s .args .c) (s .args .x) (s .args .ea .now) (s .args .eb .now) (s .args .ec .now)
+
+abbrev after-circuit : tie.Start → List (Option Refusal)
+after-circuit s = refuse 5 3 (assignmentTests (circuitOf (circuit s)) (s .args .z .now) (s .args .m .now)) ∷ []
 
 judge-index-shape-requires : tie.Need-judge-index-shape-requires
 judge-index-shape-requires c κs = search needs
@@ -20,11 +32,11 @@ is-fine-requires c κs = search needs
 
 returns : tie.Need-returns
 returns c =
-    let a = c .before .before .before .before .before .before .before .before .args in
-    let k : CircuitWords = given (a .r) (a .c) (a .x) (a .ea .now) (a .eb .now) (a .ec .now) in
-    stops (c .before .before .judge-index-shape .result) (c .before .before .judge-index-shape .ensures)
-    (refuse 5 3 (assignmentTests (circuitOf k) (a .z .now) (a .m .now)) ∷ []) (sym (c .before .is-fine .ensures) ∙ not-true _ (c .if1 .taken))
-    ∙ sym (shape-in-parts k (a .z .now) (a .m .now))
+    let j = c .before .before in
+    let s = start j in
+    stops (j .judge-index-shape .result) {o = indexShapeRefusal (circuit s)} (j .judge-index-shape .ensures) (after-circuit s)
+    (sym (c .before .is-fine .ensures) ∙ not-true _ (c .if1 .taken))
+    ∙ sym (shape-in-parts (circuit s) (s .args .z .now) (s .args .m .now))
 
 check-assignment-lists-requires : tie.Need-check-assignment-lists-requires
 check-assignment-lists-requires c κs = search needs
@@ -32,12 +44,12 @@ check-assignment-lists-requires c κs = search needs
 returns-2 : tie.Need-returns-2
 unfolding assignmentTests circuitOf
 returns-2 c =
-    let a = c .before .before .before .before .before .before .before .before .before .args in
-    let k : CircuitWords = given (a .r) (a .c) (a .x) (a .ea .now) (a .eb .now) (a .ec .now) in
-    goes-on (c .before .before .before .judge-index-shape .result) (c .before .before .before .judge-index-shape .ensures)
-    (refuse 5 3 (assignmentTests (circuitOf k) (a .z .now) (a .m .now)) ∷ []) (sym (c .before .before .is-fine .ensures) ∙ not-false _ (c .before .if1 .left))
-    (last-answer (c .check-assignment-lists .ensures))
-    ∙ sym (shape-in-parts k (a .z .now) (a .m .now))
+    let d = c .before in
+    let j = d .before .before in
+    let s = start j in
+    goes-on (j .judge-index-shape .result) {o = indexShapeRefusal (circuit s)} (j .judge-index-shape .ensures) (after-circuit s)
+    (sym (d .before .is-fine .ensures) ∙ not-false _ (d .if1 .left)) (last-answer (c .check-assignment-lists .ensures))
+    ∙ sym (shape-in-parts (circuit s) (s .args .z .now) (s .args .m .now))
 
 pub judge-shape-spec : {M : Type 1} → statement M
 judge-shape-spec =
