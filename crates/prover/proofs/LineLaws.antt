@@ -194,6 +194,7 @@ words-tail [] = refl
 words-tail (x ∷ l) = refl
 
 -- g1 from the remainder's words
-pub line-remainder-made : (q : Prime) (k : Circuit) {c : ℕ} {ws : List ℕ} (f : Poly q) → k .C ≡ c → ws ≡ words (remainder c f) → tail ws ≡ words (lineRemainder k f)
+pub line-remainder-made : (q : Prime) (k : Circuit) {c : ℕ} {ws : List ℕ} (f : Poly q) → k .C ≡ c → ws ≡ words (remainder c f)
+    → tail ws ≡ words (lineRemainder k f)
 unfolding lineRemainder
 line-remainder-made q k {c} f eC made = ap tail made ∙ words-tail (remainder c f) ∙ (λ t. words (tail (remainder (sym eC t) f)))

@@ -143,7 +143,9 @@ witness-made q k {c} {x} z r {f} {e} {g} eC eX pad made ratio shorter =
     ∙ ap (λ l. plus l (scale r G)) (map-append of e (0 ∷ []))
     ∙ plus-padded (primeRing q) (map of e) (scale r G) (omega (arith, length-map e (of {q = q}), length-scale (primeRing q) r G))
     ∙ ap (λ l. plus l (scale r G)) (of-results F made)
-    ∙ (λ t. plus (quotient (sym eX t) (minus (interpolate (sym eC t) z) (publicPoly k (publicPart k z)))) (scale r (quotient (sym eX t) (vanishingPoly (sym eC t))))))
+    ∙ (λ t.
+    plus (quotient (sym eX t) (minus (interpolate (sym eC t) z) (publicPoly k (publicPart k z))))
+    (scale r (quotient (sym eX t) (vanishingPoly (sym eC t))))))
 
 -- ẑ from ŵ v_X and x̂
 pub assignment-made :

@@ -18,6 +18,16 @@ use Rattle.prover.proofs.rows.row_quotient_into.Tie as tie
 bound : (c : tie.Start) → c .args .r ≤ 1024
 bound c = size-bound (c .args .r) (c .pre .1 .0)
 
+-- the start, from the first fill; the places of the first two fills, from the third
+abbrev start : tie.After-image-into → tie.Start
+start c = c .before .before .before .before .before .before .before
+
+abbrev at-b : tie.After-image-into3 → tie.After-image-into2
+at-b c = c .before .before .before
+
+abbrev at-a : tie.After-image-into3 → tie.After-image-into
+at-a c = at-b c .before .before .before
+
 array-borrow-prefix-image-a : tie.Need-array-borrow-prefix-image-a
 array-borrow-prefix-image-a c = bound (c .before .before .before .before .before)
 
@@ -26,85 +36,80 @@ slice-aggregate-image-into c = part-length _ _ (bound (c .before .before .before
 
 image-into-requires : tie.Need-image-into-requires
 image-into-requires c κs =
-    let start = c .before .before .before .before .before .before in
-    (start .pre .0, (start .pre .1 .0, (sym (part-length _ _ (bound start)), start .pre .1 .1 .1 .in-a)))
+    let s = c .before .before .before .before .before .before in
+    (s .pre .0, (s .pre .1 .0, (sym (part-length _ _ (bound s)), s .pre .1 .1 .1 .in-a)))
 
 array-borrow-prefix-image-b : tie.Need-array-borrow-prefix-image-b
-array-borrow-prefix-image-b c = bound (c .before .before .before .before .before .before .before .before)
+array-borrow-prefix-image-b c = bound (start (c .before))
 
 slice-aggregate-image-into-2 : tie.Need-slice-aggregate-image-into-2
-slice-aggregate-image-into-2 c =
-    let start = c .before .before .before .before .before .before .before .before .before in
-    part-length _ _ (bound start)
+slice-aggregate-image-into-2 c = part-length _ _ (bound (start (c .before .before)))
 
 image-into-requires-2 : tie.Need-image-into-requires-2
 image-into-requires-2 c κs =
-    let start = c .before .before .before .before .before .before .before .before .before in
-    (start .pre .0, (start .pre .1 .0, (sym (part-length _ _ (bound start)), start .pre .1 .1 .1 .in-b)))
+    let s = start (c .before .before) in
+    (s .pre .0, (s .pre .1 .0, (sym (part-length _ _ (bound s)), s .pre .1 .1 .1 .in-b)))
 
 array-borrow-prefix-image-c : tie.Need-array-borrow-prefix-image-c
-array-borrow-prefix-image-c c = bound (c .before .before .before .before .before .before .before .before .before .before .before)
+array-borrow-prefix-image-c c = bound (start (c .before .before .before .before))
 
 slice-aggregate-image-into-3 : tie.Need-slice-aggregate-image-into-3
-slice-aggregate-image-into-3 c =
-    let start = c .before .before .before .before .before .before .before .before .before .before .before .before in
-    part-length _ _ (bound start)
+slice-aggregate-image-into-3 c = part-length _ _ (bound (start (c .before .before .before .before .before)))
 
 image-into-requires-3 : tie.Need-image-into-requires-3
 image-into-requires-3 c κs =
-    let start = c .before .before .before .before .before .before .before .before .before .before .before .before in
-    (start .pre .0, (start .pre .1 .0, (sym (part-length _ _ (bound start)), start .pre .1 .1 .1 .in-c)))
+    let s = start (c .before .before .before .before .before) in
+    (s .pre .0, (s .pre .1 .0, (sym (part-length _ _ (bound s)), s .pre .1 .1 .1 .in-c)))
 
 array-share-prefix-image-a : tie.Need-array-share-prefix-image-a
 array-share-prefix-image-a c =
-    let start = c .before .before .before .before .before .before .before .before .before .before .before .before .before .before in
-    let call = c .before .before .before .before .before .before .before .image-into in
-    filled-within _ _ (bound start) (call .last .1 .1 .1 .1 .0) (call .kept .1 .1 .1 .1 .0)
+    let a = at-a (c .before) in
+    filled-within _ _ (bound (start a)) (a .image-into .last .1 .1 .1 .1 .0) (a .image-into .kept .1 .1 .1 .1 .0)
 
 slice-aggregate-product-quotient-into : tie.Need-slice-aggregate-product-quotient-into
 slice-aggregate-product-quotient-into c =
-    let start = c .before .before .before .before .before .before .before .before .before .before .before .before .before .before .before in
-    let call = c .before .before .before .before .before .before .before .before .image-into in
-    filled-length _ _ (bound start) (call .last .1 .1 .1 .1 .0) (call .kept .1 .1 .1 .1 .0)
+    let a = at-a (c .before .before) in
+    filled-length _ _ (bound (start a)) (a .image-into .last .1 .1 .1 .1 .0) (a .image-into .kept .1 .1 .1 .1 .0)
 
 array-share-prefix-image-b : tie.Need-array-share-prefix-image-b
 array-share-prefix-image-b c =
-    let start = c .before .before .before .before .before .before .before .before .before .before .before .before .before .before .before in
-    let call = c .before .before .before .before .before .image-into2 in
-    filled-within _ _ (bound start) (call .last .1 .1 .1 .1 .0) (call .kept .1 .1 .1 .1 .0)
+    let third = c .before .before in
+    let b = at-b third .image-into2 in
+    filled-within _ _ (bound (start (at-a third))) (b .last .1 .1 .1 .1 .0) (b .kept .1 .1 .1 .1 .0)
 
 slice-aggregate-product-quotient-into-2 : tie.Need-slice-aggregate-product-quotient-into-2
 slice-aggregate-product-quotient-into-2 c =
-    let start = c .before .before .before .before .before .before .before .before .before .before .before .before .before .before .before .before in
-    let call = c .before .before .before .before .before .before .image-into2 in
-    filled-length _ _ (bound start) (call .last .1 .1 .1 .1 .0) (call .kept .1 .1 .1 .1 .0)
+    let third = c .before .before .before in
+    let b = at-b third .image-into2 in
+    filled-length _ _ (bound (start (at-a third))) (b .last .1 .1 .1 .1 .0) (b .kept .1 .1 .1 .1 .0)
 
 array-share-prefix-image-c : tie.Need-array-share-prefix-image-c
 array-share-prefix-image-c c =
-    let start = c .before .before .before .before .before .before .before .before .before .before .before .before .before .before .before .before in
-    let call = c .before .before .before .image-into3 in
-    filled-within _ _ (bound start) (call .last .1 .1 .1 .1 .0) (call .kept .1 .1 .1 .1 .0)
+    let third = c .before .before .before in
+    let m = third .image-into3 in
+    filled-within _ _ (bound (start (at-a third))) (m .last .1 .1 .1 .1 .0) (m .kept .1 .1 .1 .1 .0)
 
 slice-aggregate-product-quotient-into-3 : tie.Need-slice-aggregate-product-quotient-into-3
 slice-aggregate-product-quotient-into-3 c =
-    let start = c .before .before .before .before .before .before .before .before .before .before .before .before .before .before .before .before .before in
-    let call = c .before .before .before .before .image-into3 in
-    filled-length _ _ (bound start) (call .last .1 .1 .1 .1 .0) (call .kept .1 .1 .1 .1 .0)
+    let third = c .before .before .before .before in
+    let m = third .image-into3 in
+    filled-length _ _ (bound (start (at-a third))) (m .last .1 .1 .1 .1 .0) (m .kept .1 .1 .1 .1 .0)
 
 product-quotient-into-requires : tie.Need-product-quotient-into-requires
 product-quotient-into-requires c κs =
-    let start = c .before .before .before .before .before .before .before .before .before .before .before .before .before .before .before .before .before .before in
-    let a = c .before .before .before .before .before .before .before .before .before .before .before .image-into in
-    let b = c .before .before .before .before .before .before .before .before .image-into2 in
-    let m = c .before .before .before .before .before .image-into3 in (
+    let third = c .before .before .before .before .before in
+    let s = start (at-a third) in
+    let a = at-a third .image-into in
+    let b = at-b third .image-into2 in
+    let m = third .image-into3 in (
       omega arith,
       (
-        start .pre .1 .0,
+        s .pre .1 .0,
         (
-          sym (filled-length _ _ (bound start) (a .last .1 .1 .1 .1 .0) (a .kept .1 .1 .1 .1 .0)),
-          sym (filled-length _ _ (bound start) (b .last .1 .1 .1 .1 .0) (b .kept .1 .1 .1 .1 .0)),
-          sym (filled-length _ _ (bound start) (m .last .1 .1 .1 .1 .0) (m .kept .1 .1 .1 .1 .0)),
-          start .pre .1 .1 .0,
+          sym (filled-length _ _ (bound s) (a .last .1 .1 .1 .1 .0) (a .kept .1 .1 .1 .1 .0)),
+          sym (filled-length _ _ (bound s) (b .last .1 .1 .1 .1 .0) (b .kept .1 .1 .1 .1 .0)),
+          sym (filled-length _ _ (bound s) (m .last .1 .1 .1 .1 .0) (m .kept .1 .1 .1 .1 .0)),
+          s .pre .1 .1 .0,
         ),
       ),
     )
@@ -114,20 +119,21 @@ same-length c = search needs
 
 returns : tie.Need-returns
 returns c q known Q k W eR matrices ẑ values =
-    let start = c .before .before .before .before .before .before .before .before .before .before .before .before .before .before .before .before .before .before .before .before .before in
-    let a = c .before .before .before .before .before .before .before .before .before .before .before .before .before .before .image-into in
-    let b = c .before .before .before .before .before .before .before .before .before .before .before .image-into2 in
-    let m = c .before .before .before .before .before .before .before .before .image-into3 in
-    let r : ℕ = start .args .r in
-    let z : List (Elem q) = map of (start .args .z .now) in
+    let third = c .before .before .before .before .before .before .before .before in
+    let s = start (at-a third) in
+    let a = at-a third .image-into in
+    let b = at-b third .image-into2 in
+    let m = third .image-into3 in
+    let r : ℕ = s .args .r in
+    let z : List (Elem q) = map of (s .args .z .now) in
     let poly : MatrixName → Poly q = λ M. interpolate r (tabulate r (rowSum k M z)) in
     c .before .before .product-quotient-into .ensures q (known .value)
     ∙ row-quotient-made q Q k (known-formed known W) eR ẑ z values
-    (of-filled _ _ (bound start) (a .last .1 .1 .1 .1 .0) (a .kept .1 .1 .1 .1 .0) (poly A)
+    (of-filled _ _ (bound s) (a .last .1 .1 .1 .1 .0) (a .kept .1 .1 .1 .1 .0) (poly A)
     (a .ensures q known k A (ap (λ (t : Three (List Entry)). t .a) matrices)))
-    (of-filled _ _ (bound start) (b .last .1 .1 .1 .1 .0) (b .kept .1 .1 .1 .1 .0) (poly B)
+    (of-filled _ _ (bound s) (b .last .1 .1 .1 .1 .0) (b .kept .1 .1 .1 .1 .0) (poly B)
     (b .ensures q known k B (ap (λ (t : Three (List Entry)). t .b) matrices)))
-    (of-filled _ _ (bound start) (m .last .1 .1 .1 .1 .0) (m .kept .1 .1 .1 .1 .0) (poly C)
+    (of-filled _ _ (bound s) (m .last .1 .1 .1 .1 .0) (m .kept .1 .1 .1 .1 .0) (poly C)
     (m .ensures q known k C (ap (λ (t : Three (List Entry)). t .c) matrices)))
 
 pub row-quotient-into-spec : {M : Type 1} → statement M

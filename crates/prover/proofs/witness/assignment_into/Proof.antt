@@ -25,6 +25,16 @@ x-bound c = size-bound (c .args .x) (c .pre .1 .0 .1)
 positive : (c : tie.Start) → 0 < c .args .x
 positive c = size-positive (c .args .x) (c .pre .1 .0 .1)
 
+-- the start, from the fill with v_X; the places of the product, from the fill with x̂, and of the first fill, from the product
+abbrev start : tie.After-fill-vanishing → tie.Start
+start c = c .before .before .before .before .before
+
+abbrev at-product : tie.After-public-poly-into → tie.After-multiply-into
+at-product c = c .before .before .before .before
+
+abbrev at-fill : tie.After-multiply-into → tie.After-fill-vanishing
+at-fill c = c .before .before .before .before
+
 add-n : tie.Need-add-n
 add-n c = search needs
 
@@ -36,87 +46,83 @@ slice-aggregate-fill-vanishing c = part-length _ _ (bound (c .before .before .be
 
 fill-vanishing-requires : tie.Need-fill-vanishing-requires
 fill-vanishing-requires c κs =
-    let start = c .before .before .before .before in
-    (omega arith, above-one (c .before .before .before .before .args .x) (part-length _ _ (bound start)) (positive start))
+    let s = c .before .before .before .before in
+    (omega arith, above-one (s .args .x) (part-length _ _ (bound s)) (positive s))
 
 array-share-prefix-vanishing : tie.Need-array-share-prefix-vanishing
 array-share-prefix-vanishing c =
-    let start = c .before .before .before .before .before .before in
-    let fill = c .before .fill-vanishing in
-    filled-within _ _ (bound start) (fill .last .1 .0) (fill .kept .1 .0)
+    let f = c .before in
+    filled-within _ _ (bound (start f)) (f .fill-vanishing .last .1 .0) (f .fill-vanishing .kept .1 .0)
 
 slice-aggregate-multiply-into : tie.Need-slice-aggregate-multiply-into
 slice-aggregate-multiply-into c =
-    let start = c .before .before .before .before .before .before .before in
-    let fill = c .before .before .fill-vanishing in
-    filled-length _ _ (bound start) (fill .last .1 .0) (fill .kept .1 .0)
+    let f = c .before .before in
+    filled-length _ _ (bound (start f)) (f .fill-vanishing .last .1 .0) (f .fill-vanishing .kept .1 .0)
 
 multiply-into-requires : tie.Need-multiply-into-requires
 multiply-into-requires c κs =
-    let start = c .before .before .before .before .before .before .before .before in
-    let call = c .before .before .before .fill-vanishing in
-    let w : ℕ = length (start .args .witness .now) in
+    let f = c .before .before .before in
+    let s = start f in
+    let size = filled-length _ _ (bound s) (f .fill-vanishing .last .1 .0) (f .fill-vanishing .kept .1 .0) in
+    let w : ℕ = length (s .args .witness .now) in
     let above : 0 < w = omega arith in
-    let within : start .args .x ≤ start .args .c = start .pre .1 .0 .2 in
-    let whole : length (start .args .out .now) + 1 ≡ w + (start .args .x + 1) = omega arith in (
-      omega arith,
-      (
-        (above, part-above (start .args .x) (filled-length _ _ (bound start) (call .last .1 .0) (call .kept .1 .0))),
-        whole ∙ ap (λ (n : ℕ). w + n) (filled-length _ _ (bound start) (call .last .1 .0) (call .kept .1 .0)),
-      ),
-    )
+    let within : s .args .x ≤ s .args .c = s .pre .1 .0 .2 in
+    let whole : length (s .args .out .now) + 1 ≡ w + (s .args .x + 1) = omega arith in
+    (omega arith, ((above, part-above (s .args .x) size), whole ∙ ap (λ (n : ℕ). w + n) size))
 
 array-borrow-prefix-public : tie.Need-array-borrow-prefix-public
-array-borrow-prefix-public c = x-bound (c .before .before .before .before .before .before .before .before .before .before .before)
+array-borrow-prefix-public c = x-bound (start (at-fill (c .before .before)))
 
 slice-aggregate-public-poly-into : tie.Need-slice-aggregate-public-poly-into
-slice-aggregate-public-poly-into c =
-    let start = c .before .before .before .before .before .before .before .before .before .before .before .before in
-    part-length _ _ (x-bound start)
+slice-aggregate-public-poly-into c = part-length _ _ (x-bound (start (at-fill (c .before .before .before))))
 
 public-poly-into-requires : tie.Need-public-poly-into-requires
 public-poly-into-requires c κs =
-    let start = c .before .before .before .before .before .before .before .before .before .before .before .before in
-    (start .pre .0, (start .pre .1 .0, (start .pre .1 .1 .0, sym (part-length _ _ (x-bound start)))))
+    let s = start (at-fill (c .before .before .before)) in
+    (s .pre .0, (s .pre .1 .0, (s .pre .1 .1 .0, sym (part-length _ _ (x-bound s)))))
 
 array-share-prefix-public : tie.Need-array-share-prefix-public
 array-share-prefix-public c =
-    let start = c .before .before .before .before .before .before .before .before .before .before .before .before .before .before .before in
-    let public = c .before .before .public-poly-into in
-    filled-within _ _ (x-bound start) (public .last .1 .1 .1 .1 .0) (public .kept .1 .1 .1 .1 .0)
+    let p = c .before .before in
+    let public = p .public-poly-into in
+    filled-within _ _ (x-bound (start (at-fill (at-product p)))) (public .last .1 .1 .1 .1 .0) (public .kept .1 .1 .1 .1 .0)
 
 slice-aggregate-add-scaled : tie.Need-slice-aggregate-add-scaled
 slice-aggregate-add-scaled c =
-    let start = c .before .before .before .before .before .before .before .before .before .before .before .before .before .before .before .before in
-    let public = c .before .before .before .public-poly-into in
-    filled-length _ _ (x-bound start) (public .last .1 .1 .1 .1 .0) (public .kept .1 .1 .1 .1 .0)
+    let p = c .before .before .before in
+    let public = p .public-poly-into in
+    filled-length _ _ (x-bound (start (at-fill (at-product p)))) (public .last .1 .1 .1 .1 .0) (public .kept .1 .1 .1 .1 .0)
 
 add-scaled-requires : tie.Need-add-scaled-requires
 add-scaled-requires c κs =
-    let start = c .before .before .before .before .before .before .before .before .before .before .before .before .before .before .before .before in
-    let call = c .before .before .before .public-poly-into in
-    let product = c .before .before .before .before .before .before .before .multiply-into in
-    let within : start .args .x ≤ length (product .last .1 .1 .1 .0) =
-    omega (arith, start .pre .1 .0 .2, start .pre .1 .1 .2, product .kept .1 .1 .1 .0) in
-    (omega arith, part-order (filled-length _ _ (x-bound start) (call .last .1 .1 .1 .1 .0) (call .kept .1 .1 .1 .1 .0)) within)
+    let p = c .before .before .before in
+    let s = start (at-fill (at-product p)) in
+    let public = p .public-poly-into in
+    let product = at-product p .multiply-into in
+    let within : s .args .x ≤ length (product .last .1 .1 .1 .0) = omega (arith, s .pre .1 .0 .2, s .pre .1 .1 .2, product .kept .1 .1 .1 .0) in
+    (omega arith, part-order (filled-length _ _ (x-bound s) (public .last .1 .1 .1 .1 .0) (public .kept .1 .1 .1 .1 .0)) within)
 
 same-length : tie.Need-same-length
 same-length c = search needs
 
 returns : tie.Need-returns
 returns c q known k eC eX =
-    let start = c .before .before .before .before .before .before .before .before .before .before .before .before .before .before .before .before .before .before .before in
-    let fill = c .before .before .before .before .before .before .before .before .before .before .before .before .before .before .fill-vanishing in
-    let product = c .before .before .before .before .before .before .before .before .before .before .multiply-into in
-    let public = c .before .before .before .before .before .before .public-poly-into in
-    let w : Poly q = map of (start .args .witness .now) in
-    let z : Poly q = map of (start .args .z .now) in
-    let x : ℕ = start .args .x in
-    let vanishing = of-filled {q = q} _ _ (bound start) (fill .last .1 .0) (fill .kept .1 .0) (vanishingPoly x)
-    (fill .ensures q (known .value) ∙ ap (λ (n : ℕ). words (vanishingPoly {q = q} n)) (one-less (start .args .x) (part-length _ _ (bound start)))) in
-    plus-made q (times w (vanishingPoly x)) (publicPoly k (publicPart k z))
+    let p = c .before .before .before .before .before .before in
+    let f = at-fill (at-product p) in
+    let s = start f in
+    let fill = f .fill-vanishing in
+    let product = at-product p .multiply-into in
+    let public = p .public-poly-into in
+    let w : Poly q = map of (s .args .witness .now) in
+    let z : Poly q = map of (s .args .z .now) in
+    let x : ℕ = s .args .x in
+    let G : Poly q = publicPoly k (publicPart k z) in
+    let vanishing =
+    of-filled {q = q} _ _ (bound s) (fill .last .1 .0) (fill .kept .1 .0) (vanishingPoly x)
+    (fill .ensures q (known .value) ∙ ap (λ (n : ℕ). words (vanishingPoly {q = q} n)) (one-less x (part-length _ _ (bound s)))) in
+    plus-made q (times w (vanishingPoly x)) G
     (of-results (times w (vanishingPoly x)) (product .ensures q (known .value) ∙ ap (λ (l : Poly q). words (times w l)) vanishing))
-    (of-filled _ _ (x-bound start) (public .last .1 .1 .1 .1 .0) (public .kept .1 .1 .1 .1 .0) (publicPoly k (publicPart k z)) (public .ensures q known k eC eX))
+    (of-filled _ _ (x-bound s) (public .last .1 .1 .1 .1 .0) (public .kept .1 .1 .1 .1 .0) G (public .ensures q known k eC eX))
     (c .before .before .add-scaled .ensures q (known .value))
     ∙ assignment-made q k z w eX
 

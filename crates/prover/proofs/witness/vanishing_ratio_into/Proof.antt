@@ -17,6 +17,10 @@ bound c = omega (arith, size-bound (c .args .c) (c .pre .1 .0 .0))
 positive : (c : tie.Start) → 0 < c .args .c
 positive c = size-positive (c .args .c) (c .pre .1 .0 .0)
 
+-- the start, from the fill
+abbrev start : tie.After-fill-vanishing → tie.Start
+start c = c .before .before .before
+
 add-n : tie.Need-add-n
 add-n c = search needs
 
@@ -28,41 +32,41 @@ slice-aggregate-fill-vanishing c = part-length _ _ (bound (c .before .before))
 
 fill-vanishing-requires : tie.Need-fill-vanishing-requires
 fill-vanishing-requires c κs =
-    let start = c .before .before in
-    (omega arith, above-one (c .before .before .args .c) (part-length _ _ (bound start)) (positive start))
+    let s = c .before .before in
+    (omega arith, above-one (s .args .c) (part-length _ _ (bound s)) (positive s))
 
 array-share-prefix-vanishing : tie.Need-array-share-prefix-vanishing
 array-share-prefix-vanishing c =
-    let start = c .before .before .before .before in
-    let fill = c .before .fill-vanishing in
-    filled-within _ _ (bound start) (fill .last .1 .0) (fill .kept .1 .0)
+    let f = c .before in
+    filled-within _ _ (bound (start f)) (f .fill-vanishing .last .1 .0) (f .fill-vanishing .kept .1 .0)
 
 slice-aggregate-quotient-into : tie.Need-slice-aggregate-quotient-into
 slice-aggregate-quotient-into c =
-    let start = c .before .before .before .before .before in
-    let fill = c .before .before .fill-vanishing in
-    filled-length _ _ (bound start) (fill .last .1 .0) (fill .kept .1 .0)
+    let f = c .before .before in
+    filled-length _ _ (bound (start f)) (f .fill-vanishing .last .1 .0) (f .fill-vanishing .kept .1 .0)
 
 quotient-into-requires : tie.Need-quotient-into-requires
 quotient-into-requires c κs =
-    let start = c .before .before .before .before .before .before in
-    let call = c .before .before .before .fill-vanishing in
-    let x : ℕ = start .args .x in
-    let length-out : length (start .args .out .now) ≡ start .args .c + 1 - x = omega arith in
-    (omega arith, (size-positive _ (start .pre .1 .0 .1), length-out ∙ ap (λ (n : ℕ). n - x) (filled-length _ _ (bound start) (call .last .1 .0) (call .kept .1 .0))))
+    let f = c .before .before .before in
+    let s = start f in
+    let x : ℕ = s .args .x in
+    let length-out : length (s .args .out .now) ≡ s .args .c + 1 - x = omega arith in
+    let whole = filled-length _ _ (bound s) (f .fill-vanishing .last .1 .0) (f .fill-vanishing .kept .1 .0) in
+    (omega arith, (size-positive _ (s .pre .1 .0 .1), length-out ∙ ap (λ (n : ℕ). n - x) whole))
 
 same-length : tie.Need-same-length
 same-length c = search needs
 
 returns : tie.Need-returns
 returns c q e =
-    let start = c .before .before .before .before .before .before .before .before .before in
-    let call = c .before .before .before .before .before .before .fill-vanishing in
-    let n : ℕ = start .args .c in
+    let f = c .before .before .before .before .before .before in
+    let s = start f in
+    let fill = f .fill-vanishing in
+    let n : ℕ = s .args .c in
     c .before .before .quotient-into .ensures q e
-    ∙ ap (λ (l : Poly q). words (quotient (start .args .x) l))
-    (of-filled _ _ (bound start) (call .last .1 .0) (call .kept .1 .0) (vanishingPoly n)
-    (call .ensures q e ∙ ap (λ (k : ℕ). words (vanishingPoly {q = q} k)) (one-less (start .args .c) (part-length _ _ (bound start)))))
+    ∙ ap (λ (l : Poly q). words (quotient (s .args .x) l))
+    (of-filled _ _ (bound s) (fill .last .1 .0) (fill .kept .1 .0) (vanishingPoly n)
+    (fill .ensures q e ∙ ap (λ (k : ℕ). words (vanishingPoly {q = q} k)) (one-less n (part-length _ _ (bound s)))))
 
 pub vanishing-ratio-into-spec : {M : Type 1} → statement M
 vanishing-ratio-into-spec =
