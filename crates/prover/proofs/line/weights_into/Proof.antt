@@ -1,6 +1,7 @@
 -- `prover::line::weights_into` meets its contract. Assumes nothing.
 use borrow.Author.Needs.{needs}
 use mathlib.Core.Path.{sym, ap, _∙_}
+use mathlib.Core.List.{List}
 use Prim.Native.Nat.{ℕ, _≤_}
 use native.Mathlib.Omega.{arith}
 use lib.ListN.{replicate}
@@ -25,6 +26,16 @@ r-bound c = size-bound (c .args .r) (c .pre .1 .0 .0)
 c-bound : (c : tie.Start) → c .args .c ≤ 1024
 c-bound c = size-bound (c .args .c) (c .pre .1 .0 .1)
 
+-- the start, from the fill with the rows' values; the place of this fill, from that with the sums, and the words that the latter leaves
+abbrev start : tie.After-lagrange-values-into → tie.Start
+start c = c .before .before .before .before .before .before
+
+abbrev at-rows : tie.After-add-weights → tie.After-lagrange-values-into
+at-rows c = c .before .before .before .before
+
+abbrev sums : tie.After-add-weights → List ℕ
+sums c = c .add-weights .last .1 .1 .1 .1 .1 .1 .0
+
 array-borrow-prefix-rows : tie.Need-array-borrow-prefix-rows
 array-borrow-prefix-rows c = r-bound (c .before .before .before .before)
 
@@ -33,79 +44,75 @@ slice-aggregate-lagrange-values-into c = part-length _ _ (r-bound (c .before .be
 
 lagrange-values-into-requires : tie.Need-lagrange-values-into-requires
 lagrange-values-into-requires c κs =
-    let start = c .before .before .before .before .before in
-    (start .pre .0, (start .pre .1 .0 .0, sym (part-length _ _ (r-bound start))))
+    let s = c .before .before .before .before .before in
+    (s .pre .0, (s .pre .1 .0 .0, sym (part-length _ _ (r-bound s))))
 
 array-share-prefix-rows : tie.Need-array-share-prefix-rows
 array-share-prefix-rows c =
-    let start = c .before .before .before .before .before .before .before in
-    let call = c .before .lagrange-values-into in
-    filled-within _ _ (r-bound start) (call .last .1 .1 .1 .0) (call .kept .1 .1 .1 .0)
+    let r = c .before in
+    let values = r .lagrange-values-into in
+    filled-within _ _ (r-bound (start r)) (values .last .1 .1 .1 .0) (values .kept .1 .1 .1 .0)
 
 slice-aggregate-add-weights : tie.Need-slice-aggregate-add-weights
 slice-aggregate-add-weights c =
-    let start = c .before .before .before .before .before .before .before .before in
-    let call = c .before .before .lagrange-values-into in
-    filled-length _ _ (r-bound start) (call .last .1 .1 .1 .0) (call .kept .1 .1 .1 .0)
+    let r = c .before .before in
+    let values = r .lagrange-values-into in
+    filled-length _ _ (r-bound (start r)) (values .last .1 .1 .1 .0) (values .kept .1 .1 .1 .0)
 
 array-borrow-prefix-sums : tie.Need-array-borrow-prefix-sums
-array-borrow-prefix-sums c = c-bound (c .before .before .before .before .before .before .before .before)
+array-borrow-prefix-sums c = c-bound (start (c .before .before))
 
 slice-aggregate-add-weights-2 : tie.Need-slice-aggregate-add-weights-2
-slice-aggregate-add-weights-2 c =
-    let start = c .before .before .before .before .before .before .before .before .before in
-    part-length _ _ (c-bound start)
+slice-aggregate-add-weights-2 c = part-length _ _ (c-bound (start (c .before .before .before)))
 
 add-weights-requires : tie.Need-add-weights-requires
 add-weights-requires c κs =
-    let start = c .before .before .before .before .before .before .before .before .before in
-    let call = c .before .before .before .lagrange-values-into in (
-      omega arith,
-      each-within (filled-length _ _ (r-bound start) (call .last .1 .1 .1 .0) (call .kept .1 .1 .1 .0)) (part-length _ _ (c-bound start)) (start .pre .1 .1 .1),
-    )
+    let r = c .before .before .before in
+    let s = start r in
+    let values = r .lagrange-values-into in
+    let whole = filled-length _ _ (r-bound s) (values .last .1 .1 .1 .0) (values .kept .1 .1 .1 .0) in
+    (omega arith, each-within whole (part-length _ _ (c-bound s)) (s .pre .1 .1 .1))
 
 root-of-requires : tie.Need-root-of-requires
 root-of-requires c κs = search needs
 
 array-share-prefix-sums : tie.Need-array-share-prefix-sums
 array-share-prefix-sums c =
-    let start = c .before .before .before .before .before .before .before .before .before .before .before .before in
-    let call = c .before .before .add-weights in
-    filled-within _ _ (c-bound start) (call .last .1 .1 .1 .1 .1 .1 .0) (call .kept .1 .1 .1 .1 .1 .1 .0)
+    let w = c .before .before in
+    filled-within _ _ (c-bound (start (at-rows w))) (sums w) (w .add-weights .kept .1 .1 .1 .1 .1 .1 .0)
 
 slice-aggregate-interpolate-into : tie.Need-slice-aggregate-interpolate-into
 slice-aggregate-interpolate-into c =
-    let start = c .before .before .before .before .before .before .before .before .before .before .before .before .before in
-    let call = c .before .before .before .add-weights in
-    filled-length _ _ (c-bound start) (call .last .1 .1 .1 .1 .1 .1 .0) (call .kept .1 .1 .1 .1 .1 .1 .0)
+    let w = c .before .before .before in
+    filled-length _ _ (c-bound (start (at-rows w))) (sums w) (w .add-weights .kept .1 .1 .1 .1 .1 .1 .0)
 
 interpolate-into-requires : tie.Need-interpolate-into-requires
 interpolate-into-requires c κs =
-    let start = c .before .before .before .before .before .before .before .before .before .before .before .before .before .before in
-    let call = c .before .before .before .before .add-weights in
-    let size = filled-length _ _ (c-bound start) (call .last .1 .1 .1 .1 .1 .1 .0) (call .kept .1 .1 .1 .1 .1 .1 .0) in
-    (start .pre .0, (start .pre .1 .1 .0 ∙ size, ap isSize (sym size) ∙ start .pre .1 .0 .1))
+    let w = c .before .before .before .before in
+    let s = start (at-rows w) in
+    let size = filled-length _ _ (c-bound s) (sums w) (w .add-weights .kept .1 .1 .1 .1 .1 .1 .0) in
+    (s .pre .0, (s .pre .1 .1 .0 ∙ size, ap isSize (sym size) ∙ s .pre .1 .0 .1))
 
 same-length : tie.Need-same-length
-same-length c = search needs
+same-length c = c .before .before .interpolate-into .kept .1 .1 .1 .0
 
 returns : tie.Need-returns
 returns c q known Q k eR matrices =
-    let start = c .before .before .before .before .before .before .before .before .before .before .before .before .before .before .before .before .before in
-    let a = start .args in
-    let values = c .before .before .before .before .before .before .before .before .before .before .before .lagrange-values-into in
-    let call = c .before .before .before .before .before .before .before .add-weights in
+    let w = c .before .before .before .before .before .before .before in
+    let s = start (at-rows w) in
+    let a = s .args in
+    let values = at-rows w .lagrange-values-into in
+    let kept = w .add-weights .kept .1 .1 .1 .1 .1 .1 .0 in
     let η : Three (Elem q) = mapThree of (three (a .eta)) in
     let α : Elem q = of (a .alpha) in
     c .before .before .interpolate-into .ensures q (known .value)
     (c .before .before .before .before .before .root-of .ensures q known
-    ∙ ap (λ (n : ℕ). root {q = q} n .word) (filled-length _ _ (c-bound start) (call .last .1 .1 .1 .1 .1 .1 .0) (call .kept .1 .1 .1 .1 .1 .1 .0)))
-    ∙ interpolate-part _ _ (c-bound start) (call .last .1 .1 .1 .1 .1 .1 .0) (call .kept .1 .1 .1 .1 .1 .1 .0)
-    (tabulate (a .c) (λ j. weighted η (each (λ M. columnSum k M α j))))
-    (call .ensures q (known .value)
-    ∙ weights-made q k (a .c) eR α η (a .a .now) (a .b .now) (a .m .now) matrices (start .pre .1 .1 .1)
-    (of-filled _ _ (r-bound start) (values .last .1 .1 .1 .0) (values .kept .1 .1 .1 .0) (rowValues (a .r) α) (values .ensures q known Q))
-    (replicate 1024 0) (c-bound start) (replicate-at 0 1024))
+    ∙ ap (λ (n : ℕ). root {q = q} n .word) (filled-length _ _ (c-bound s) (sums w) kept))
+    ∙ interpolate-part _ _ (c-bound s) (sums w) kept (tabulate (a .c) (λ j. weighted η (each (λ M. columnSum k M α j))))
+    (w .add-weights .ensures q (known .value)
+    ∙ weights-made q k (a .c) eR α η (a .a .now) (a .b .now) (a .m .now) matrices (s .pre .1 .1 .1)
+    (of-filled _ _ (r-bound s) (values .last .1 .1 .1 .0) (values .kept .1 .1 .1 .0) (rowValues (a .r) α) (values .ensures q known Q))
+    (replicate 1024 0) (c-bound s) (replicate-at 0 1024))
 
 pub weights-into-spec : {M : Type 1} → statement M
 weights-into-spec =

@@ -26,6 +26,13 @@ padded-length : (c : tie.Start) (e : List ℕ) → length e ≡ length (take (c 
     → length (set (e ++ drop (c .args .c - c .args .x) (c .args .out .now)) (c .args .c - c .args .x) 0) ≡ length (c .args .out .now)
 padded-length c e kept = simp length-set (length-front (c .args .out .now) e (c .args .c - c .args .x) kept)
 
+-- the start, from the fill with the quotient, and the place of this fill, from that with the ratio
+abbrev start : tie.After-private-quotient-into → tie.Start
+start c = c .before .before .before .before
+
+abbrev at-quotient : tie.After-vanishing-ratio-into → tie.After-private-quotient-into
+at-quotient c = c .before .before .before .before
+
 sub-n : tie.Need-sub-n
 sub-n c = search needs
 
@@ -40,8 +47,8 @@ slice-aggregate-private-quotient-into c = part-length _ _ (short (c .before .bef
 
 private-quotient-into-requires : tie.Need-private-quotient-into-requires
 private-quotient-into-requires c κs =
-    let start = c .before .before .before in
-    (start .pre .0, (start .pre .1 .0, (start .pre .1 .1 .0, sym (part-length _ _ (short start)))))
+    let s = c .before .before .before in
+    (s .pre .0, (s .pre .1 .0, (s .pre .1 .1 .0, sym (part-length _ _ (short s)))))
 
 mul-out : tie.Need-mul-out
 mul-out c = search needs
@@ -53,60 +60,61 @@ add-m : tie.Need-add-m
 add-m c = search needs
 
 array-borrow-prefix-ratio : tie.Need-array-borrow-prefix-ratio
-array-borrow-prefix-ratio c = bound (c .before .before .before .before .before .before)
+array-borrow-prefix-ratio c = bound (start (c .before .before))
 
 slice-aggregate-vanishing-ratio-into : tie.Need-slice-aggregate-vanishing-ratio-into
-slice-aggregate-vanishing-ratio-into c = part-length _ _ (bound (c .before .before .before .before .before .before .before))
+slice-aggregate-vanishing-ratio-into c = part-length _ _ (bound (start (c .before .before .before)))
 
 vanishing-ratio-into-requires : tie.Need-vanishing-ratio-into-requires
 vanishing-ratio-into-requires c κs =
-    let start = c .before .before .before .before .before .before .before in
-    (start .pre .0, (start .pre .1 .0, sym (part-length _ _ (bound start))))
+    let s = start (c .before .before .before) in
+    (s .pre .0, (s .pre .1 .0, sym (part-length _ _ (bound s))))
 
 array-share-prefix-ratio : tie.Need-array-share-prefix-ratio
 array-share-prefix-ratio c =
-    let start = c .before .before .before .before .before .before .before .before .before .before in
-    let call = c .before .before .vanishing-ratio-into in
-    filled-within _ _ (bound start) (call .last .1 .1 .1 .0) (call .kept .1 .1 .1 .0)
+    let r = c .before .before in
+    let ratio = r .vanishing-ratio-into in
+    filled-within _ _ (bound (start (at-quotient r))) (ratio .last .1 .1 .1 .0) (ratio .kept .1 .1 .1 .0)
 
 slice-aggregate-add-scaled : tie.Need-slice-aggregate-add-scaled
 slice-aggregate-add-scaled c =
-    let start = c .before .before .before .before .before .before .before .before .before .before .before in
-    let call = c .before .before .before .vanishing-ratio-into in
-    filled-length _ _ (bound start) (call .last .1 .1 .1 .0) (call .kept .1 .1 .1 .0)
+    let r = c .before .before .before in
+    let ratio = r .vanishing-ratio-into in
+    filled-length _ _ (bound (start (at-quotient r))) (ratio .last .1 .1 .1 .0) (ratio .kept .1 .1 .1 .0)
 
 add-scaled-requires : tie.Need-add-scaled-requires
 add-scaled-requires c κs =
-    let start = c .before .before .before .before .before .before .before .before .before .before .before in
-    let first = c .before .before .before .before .before .before .before .private-quotient-into in
-    let ratio = c .before .before .before .vanishing-ratio-into in (
+    let r = c .before .before .before in
+    let s = start (at-quotient r) in
+    let ratio = r .vanishing-ratio-into in
+    let first = at-quotient r .private-quotient-into in (
       omega arith,
-      part-order (filled-length _ _ (bound start) (ratio .last .1 .1 .1 .0) (ratio .kept .1 .1 .1 .0))
-          (omega (arith, padded-length start (first .last .1 .1 .1 .1 .0) (first .kept .1 .1 .1 .1 .0))),
+      part-order (filled-length _ _ (bound s) (ratio .last .1 .1 .1 .0) (ratio .kept .1 .1 .1 .0))
+          (omega (arith, padded-length s (first .last .1 .1 .1 .1 .0) (first .kept .1 .1 .1 .1 .0))),
     )
 
 same-length : tie.Need-same-length
 same-length c =
-    let start = c .before .before .before .before .before .before .before .before .before .before .before .before .before .before in
-    let first = c .before .before .before .before .before .before .before .before .before .before .private-quotient-into in
-    c .before .before .add-scaled .kept .1 .0 ∙ padded-length start (first .last .1 .1 .1 .1 .0) (first .kept .1 .1 .1 .1 .0)
+    let d = at-quotient (c .before .before .before .before .before .before) in
+    let first = d .private-quotient-into in
+    c .before .before .add-scaled .kept .1 .0 ∙ padded-length (start d) (first .last .1 .1 .1 .1 .0) (first .kept .1 .1 .1 .1 .0)
 
 returns : tie.Need-returns
 returns c q known k eC eX =
-    let start = c .before .before .before .before .before .before .before .before .before .before .before .before .before .before in
-    let first = c .before .before .before .before .before .before .before .before .before .before .private-quotient-into in
-    let ratio = c .before .before .before .before .before .before .vanishing-ratio-into in
-    let x : ℕ = start .args .x in
-    let n : ℕ = start .args .c - x in
-    let sizes = start .pre .1 .0 in
-    let part = part-length n (start .args .out .now) (short start) in
+    let r = c .before .before .before .before .before .before in
+    let s = start (at-quotient r) in
+    let a = s .args in
+    let first = at-quotient r .private-quotient-into in
+    let ratio = r .vanishing-ratio-into in
+    let n : ℕ = a .c - a .x in
+    let sizes = s .pre .1 .0 in
+    let part = part-length n (a .out .now) (short s) in
     c .before .before .add-scaled .ensures q (known .value)
-    ∙ witness-made q k (map of (start .args .z .now)) (of (start .args .r)) eC eX
-    (padded n (start .args .out .now) (first .last .1 .1 .1 .1 .0) (start .pre .1 .1 .1) (first .kept .1 .1 .1 .1 .0 ∙ sym part))
+    ∙ witness-made q k (map of (a .z .now)) (of (a .r)) eC eX
+    (padded n (a .out .now) (first .last .1 .1 .1 .1 .0) (s .pre .1 .1 .1) (first .kept .1 .1 .1 .1 .0 ∙ sym part))
     (first .ensures q known k eC eX)
-    (of-filled _ _ (bound start) (ratio .last .1 .1 .1 .0) (ratio .kept .1 .1 .1 .0) (quotient x (vanishingPoly (start .args .c)))
-    (ratio .ensures q (known .value)))
-    (omega (arith, first .kept .1 .1 .1 .1 .0, part, length-vanishingRatio q x (start .args .c) (sizes .1) (sizes .0) (sizes .2)))
+    (of-filled _ _ (bound s) (ratio .last .1 .1 .1 .0) (ratio .kept .1 .1 .1 .0) (quotient (a .x) (vanishingPoly (a .c))) (ratio .ensures q (known .value)))
+    (omega (arith, first .kept .1 .1 .1 .1 .0, part, length-vanishingRatio q (a .x) (a .c) (sizes .1) (sizes .0) (sizes .2)))
 
 pub witness-into-spec : {M : Type 1} → statement M
 witness-into-spec =
