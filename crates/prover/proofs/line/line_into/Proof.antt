@@ -1,5 +1,4 @@
 -- `prover::line::line_into` meets its contract. Assumes nothing.
-use borrow.Author.Needs.{needs}
 use mathlib.Core.Path.{_≡_, refl, sym, ap, _∙_}
 use mathlib.Core.List.{List, map}
 use Prim.Native.Nat.{ℕ, _+_, _≤_, _<_}
@@ -71,7 +70,7 @@ add-scaled-requires c κs =
     (omega arith, omega (arith, product .multiply-into .kept .1 .1 .1 .0, s .pre .1 .1 .0 .1, s .pre .1 .1 .0 .2))
 
 same-length : tie.Need-same-length
-same-length c = search needs
+same-length c = c .before .before .add-scaled .kept .1 .0 ∙ c .before .before .before .before .before .before .multiply-into .kept .1 .1 .1 .0
 
 returns : tie.Need-returns
 returns c q known Q k W eR eC matrices =

@@ -1,5 +1,4 @@
 -- `prover::line::line_quotient_into` meets its contract. Assumes nothing.
-use borrow.Author.Needs.{needs}
 use mathlib.Core.Path.{sym, _∙_}
 use mathlib.Core.List.{map}
 use native.Mathlib.Omega.{arith}
@@ -14,7 +13,7 @@ quotient-into-requires : tie.Need-quotient-into-requires
 quotient-into-requires c κs = (omega arith, (size-positive _ (c .before .before .before .pre .1 .0), omega arith))
 
 same-length : tie.Need-same-length
-same-length c = search needs
+same-length c = c .before .before .quotient-into .kept .1 .1 .1 .0
 
 returns : tie.Need-returns
 unfolding lineQuotient

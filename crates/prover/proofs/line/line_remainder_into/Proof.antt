@@ -1,5 +1,4 @@
 -- `prover::line::line_remainder_into` meets its contract. Assumes nothing.
-use borrow.Author.Needs.{needs}
 use mathlib.Core.Path.{_≡_, refl, sym, ap, _∙_}
 use mathlib.Core.List.{map}
 use Prim.Native.Nat.{ℕ, _+_, _≤_}
@@ -47,7 +46,7 @@ copy-tail-requires c κs =
     sym (filled-length _ _ (bound start) (call .last .1 .1 .0) (call .kept .1 .1 .0)) ∙ size
 
 same-length : tie.Need-same-length
-same-length c = search needs
+same-length c = c .before .before .copy-tail .kept .1 .0
 
 returns : tie.Need-returns
 returns c q e k eC =

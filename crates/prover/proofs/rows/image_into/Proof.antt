@@ -60,7 +60,7 @@ interpolate-into-requires c κs =
     )
 
 same-length : tie.Need-same-length
-same-length c = search needs
+same-length c = c .before .before .interpolate-into .kept .1 .1 .1 .0
 
 returns : tie.Need-returns
 returns c q known k M matrix =

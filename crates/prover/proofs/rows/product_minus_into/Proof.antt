@@ -1,6 +1,6 @@
 -- `prover::rows::product_minus_into` meets its contract. Assumes nothing.
 use borrow.Author.Needs.{needs}
-use mathlib.Core.Path.{refl}
+use mathlib.Core.Path.{refl, _∙_}
 use mathlib.Core.List.{map}
 use Rattle.field.specs.Element.{of}
 use Rattle.field.proofs.Words.{of-results}
@@ -19,7 +19,7 @@ add-scaled-requires : tie.Need-add-scaled-requires
 add-scaled-requires c κs = search needs
 
 same-length : tie.Need-same-length
-same-length c = search needs
+same-length c = c .before .before .add-scaled .kept .1 .0 ∙ c .before .before .before .before .before .before .multiply-into .kept .1 .1 .1 .0
 
 returns : tie.Need-returns
 returns c q e =

@@ -1,5 +1,4 @@
 -- `prover::rows::product_quotient_into` meets its contract. Assumes nothing.
-use borrow.Author.Needs.{needs}
 use mathlib.Core.Path.{_≡_, sym, ap, _∙_}
 use mathlib.Core.List.{map}
 use Prim.Native.Nat.{ℕ, _+_, _-_, _≤_, _<_}
@@ -68,7 +67,7 @@ quotient-into-requires c κs =
     )
 
 same-length : tie.Need-same-length
-same-length c = search needs
+same-length c = c .before .before .quotient-into .kept .1 .1 .1 .0
 
 returns : tie.Need-returns
 returns c q e =

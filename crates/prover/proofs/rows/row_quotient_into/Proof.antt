@@ -1,5 +1,4 @@
 -- `prover::rows::row_quotient_into` meets its contract. Assumes nothing.
-use borrow.Author.Needs.{needs}
 use mathlib.Core.Path.{sym, ap, _∙_}
 use mathlib.Core.List.{List, map}
 use Prim.Native.Nat.{ℕ, _≤_}
@@ -115,7 +114,7 @@ product-quotient-into-requires c κs =
     )
 
 same-length : tie.Need-same-length
-same-length c = search needs
+same-length c = c .before .before .product-quotient-into .kept .1 .1 .1 .1 .1 .0
 
 returns : tie.Need-returns
 returns c q known Q k W eR matrices ẑ values =

@@ -103,7 +103,9 @@ add-scaled-requires c κs =
     (omega arith, part-order (filled-length _ _ (x-bound s) (public .last .1 .1 .1 .1 .0) (public .kept .1 .1 .1 .1 .0)) within)
 
 same-length : tie.Need-same-length
-same-length c = search needs
+same-length c =
+    let product = at-product (c .before .before .before .before .before .before) in
+    c .before .before .add-scaled .kept .1 .0 ∙ product .multiply-into .kept .1 .1 .1 .0
 
 returns : tie.Need-returns
 returns c q known k eC eX =

@@ -127,7 +127,7 @@ quotient-into-requires c κs =
     (omega arith, (size-positive _ (s .pre .1 .0 .1), s .pre .1 .1 .1 ∙ ap (λ (n : ℕ). n - s .args .x) whole))
 
 same-length : tie.Need-same-length
-same-length c = search needs
+same-length c = c .before .before .quotient-into .kept .1 .1 .1 .0
 
 returns : tie.Need-returns
 returns c q known k eC eX =

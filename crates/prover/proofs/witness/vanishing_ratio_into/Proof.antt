@@ -55,7 +55,7 @@ quotient-into-requires c κs =
     (omega arith, (size-positive _ (s .pre .1 .0 .1), length-out ∙ ap (λ (n : ℕ). n - x) whole))
 
 same-length : tie.Need-same-length
-same-length c = search needs
+same-length c = c .before .before .quotient-into .kept .1 .1 .1 .0
 
 returns : tie.Need-returns
 returns c q e =
