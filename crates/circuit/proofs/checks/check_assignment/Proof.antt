@@ -1,8 +1,8 @@
 -- `circuit::checks::check_assignment` meets its contract. Assumes nothing.
-use borrow.Author.Needs.{needs}
 use mathlib.Core.Path.{_≡_, refl, sym, _∙_, subst⁻¹}
 use mathlib.Core.List.{List}
 use Prim.Native.Nat.{ℕ}
+use native.Mathlib.Omega.{arith}
 use lib.ListN.{length, take, replicate}
 use lib.Seq.{length-take-le}
 use Rattle.circuit.specs.Given.{EachWithin}
@@ -14,7 +14,7 @@ abbrev zeros : List ℕ
 zeros = replicate 1024 0
 
 array-borrow-prefix-left : tie.Need-array-borrow-prefix-left
-array-borrow-prefix-left c = search needs
+array-borrow-prefix-left c = omega arith
 
 slice-aggregate-check-sums : tie.Need-slice-aggregate-check-sums
 slice-aggregate-check-sums c =
@@ -22,7 +22,7 @@ slice-aggregate-check-sums c =
     sym (length-take-le (s .args .r) zeros (s .pre .1 .0))
 
 array-borrow-prefix-right : tie.Need-array-borrow-prefix-right
-array-borrow-prefix-right c = search needs
+array-borrow-prefix-right c = omega arith
 
 slice-aggregate-check-sums-2 : tie.Need-slice-aggregate-check-sums-2
 slice-aggregate-check-sums-2 c =
@@ -30,7 +30,7 @@ slice-aggregate-check-sums-2 c =
     sym (length-take-le (s .args .r) zeros (s .pre .1 .0))
 
 array-borrow-prefix-product : tie.Need-array-borrow-prefix-product
-array-borrow-prefix-product c = search needs
+array-borrow-prefix-product c = omega arith
 
 slice-aggregate-check-sums-3 : tie.Need-slice-aggregate-check-sums-3
 slice-aggregate-check-sums-3 c =

@@ -4,6 +4,7 @@ use mathlib.Core.Path.{_≡_, sym, _∙_}
 use mathlib.Core.List.{List, [], _∷_, _++_, map}
 use mathlib.Core.Option.{Option}
 use Prim.Native.Nat.{ℕ, _+_, _/_}
+use native.Mathlib.Omega.{arith}
 use lib.Dec.{ltb}
 use lib.ListN.{length}
 use borrow.Author.Tests.{not-true, not-false}
@@ -41,7 +42,7 @@ check-three-values-requires : tie.Need-check-three-values-requires
 check-three-values-requires c κs = search needs
 
 is-fine-requires : tie.Need-is-fine-requires
-is-fine-requires c κs = search needs
+is-fine-requires c κs = tt
 
 returns : tie.Need-returns
 returns c q e k matrices =
@@ -51,13 +52,13 @@ returns c q e k matrices =
     ∙ in-parts (start v) q k e matrices
 
 add-start : tie.Need-add-start
-add-start c = search needs
+add-start c = omega arith
 
 add-start-2 : tie.Need-add-start-2
-add-start-2 c = search needs
+add-start-2 c = omega arith
 
 check-prover-words-requires : tie.Need-check-prover-words-requires
-check-prover-words-requires c κs = search needs
+check-prover-words-requires c κs = omega arith
 
 returns-2 : tie.Need-returns-2
 returns-2 c q e k matrices =

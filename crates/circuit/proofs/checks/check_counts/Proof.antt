@@ -1,14 +1,14 @@
 -- `circuit::checks::check_counts` meets its contract. Assumes nothing.
-use borrow.Author.Needs.{needs}
+use native.Mathlib.Omega.{arith}
 use Rattle.protocol.specs.Refusals.{listRefusal}
 use Rattle.circuit.proofs.checks.check_counts.Statement.{statement}
 use Rattle.circuit.proofs.checks.check_counts.Tie as tie
 
 slice-aggregate-first-failed : tie.Need-slice-aggregate-first-failed
-slice-aggregate-first-failed c = search needs
+slice-aggregate-first-failed c = omega arith
 
 first-failed-requires : tie.Need-first-failed-requires
-first-failed-requires c κs = search needs
+first-failed-requires c κs = omega arith
 
 returns : tie.Need-returns
 unfolding listRefusal

@@ -1,5 +1,4 @@
 -- `circuit::checks::check_entries` meets its contract: the entries passed fit and rise. Assumes nothing.
-use borrow.Author.Needs.{needs}
 use mathlib.Core.Path.{_≡_, refl, sym, _∙_}
 use mathlib.Core.Bool.{Bool, true}
 use mathlib.Core.List.{List}
@@ -35,7 +34,7 @@ entry-passes-requires : tie.Need-entry-passes-requires Inv-loop μ-loop
 entry-passes-requires c κs = omega (arith, length-entriesOf (c .before .before .before .args .entries .now))
 
 add-t10 : tie.Need-add-t10 Inv-loop μ-loop
-add-t10 c = search needs
+add-t10 c = omega arith
 
 returns : tie.Need-returns Inv-loop μ-loop
 returns c k er ec =
@@ -45,10 +44,10 @@ returns c k er ec =
     (sym (c .before .entry-passes .ensures k er ec) ∙ not-true _ (c .if1 .taken))
 
 add-i : tie.Need-add-i Inv-loop μ-loop
-add-i c = search needs
+add-i c = omega arith
 
 loop-less : tie.Need-loop-less Inv-loop μ-loop
-loop-less c = search needs
+loop-less c = omega arith
 
 loop-again : tie.Need-loop-again Inv-loop μ-loop
 loop-again c =

@@ -1,5 +1,4 @@
 -- `circuit::checks::check_mask` meets its contract. Assumes nothing.
-use borrow.Author.Needs.{needs}
 use mathlib.Core.Path.{sym, ap, _∙_}
 use mathlib.Core.Bool.{Bool}
 use mathlib.Core.List.{[], _∷_, map}
@@ -21,7 +20,7 @@ shared-slice-read-add c =
     omega (arith, size-positive (s .args .c) (s .pre .1 .0))
 
 mul-add : tie.Need-mul-add
-mul-add c = search needs
+mul-add c = omega arith
 
 shared-slice-read-add-2 : tie.Need-shared-slice-read-add-2
 shared-slice-read-add-2 c =
@@ -29,7 +28,7 @@ shared-slice-read-add-2 c =
     omega (arith, size-positive (s .args .c) (s .pre .1 .0))
 
 add-requires : tie.Need-add-requires
-add-requires c κs = search needs
+add-requires c κs = omega arith
 
 returns : tie.Need-returns
 unfolding maskRefusal

@@ -1,5 +1,4 @@
 -- `circuit::checks::check_points` meets its contract: the points passed are outside their domains. Assumes nothing.
-use borrow.Author.Needs.{needs}
 use mathlib.Core.Path.{_≡_, sym, ap, _∙_}
 use mathlib.Core.Bool.{Bool, true, not}
 use mathlib.Core.List.{List, [], _∷_, map}
@@ -60,16 +59,16 @@ loop-holds : tie.Need-loop-holds Inv-loop μ-loop
 loop-holds c = (omega arith, λ q Q e. passed-none 10 0 _)
 
 mul-is-inside : tie.Need-mul-is-inside Inv-loop μ-loop
-mul-is-inside c = search needs
+mul-is-inside c = omega arith
 
 array-read-is-inside : tie.Need-array-read-is-inside Inv-loop μ-loop
-array-read-is-inside c = search needs
+array-read-is-inside c = omega arith
 
 mul-is-inside-2 : tie.Need-mul-is-inside-2 Inv-loop μ-loop
-mul-is-inside-2 c = search needs
+mul-is-inside-2 c = omega arith
 
 shared-slice-read-is-inside : tie.Need-shared-slice-read-is-inside Inv-loop μ-loop
-shared-slice-read-is-inside c = search needs
+shared-slice-read-is-inside c = omega arith
 
 is-inside-requires : tie.Need-is-inside-requires Inv-loop μ-loop
 is-inside-requires c κs =
@@ -87,10 +86,10 @@ returns c q Q e =
     (turn-test t q Q e ∙ ap not (c .if1 .taken))
 
 add-i : tie.Need-add-i Inv-loop μ-loop
-add-i c = search needs
+add-i c = omega arith
 
 loop-less : tie.Need-loop-less Inv-loop μ-loop
-loop-less c = search needs
+loop-less c = omega arith
 
 loop-again : tie.Need-loop-again Inv-loop μ-loop
 loop-again c =

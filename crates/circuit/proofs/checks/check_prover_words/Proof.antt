@@ -1,10 +1,10 @@
 -- `circuit::checks::check_prover_words` meets its contract: each part of the words in order. Assumes nothing.
-use borrow.Author.Needs.{needs}
 use mathlib.Core.Path.{_≡_, sym, _∙_}
 use mathlib.Core.Bool.{Bool}
 use mathlib.Core.List.{List, [], _∷_, _++_, map}
 use mathlib.Core.Option.{Option}
 use Prim.Native.Nat.{ℕ, _+_}
+use native.Mathlib.Omega.{arith}
 use lib.Dec.{ltb}
 use lib.ListN.{length}
 use borrow.Author.Tests.{lt-ltb, le-ltb, not-true, not-false}
@@ -54,10 +54,10 @@ pass-mask c y =
     pass-z (c .before) (passes 6 (place s) (after-mask s) (lt-ltb _ _ (c .if2 .left)) y)
 
 judge-words-requires : tie.Need-judge-words-requires
-judge-words-requires c κs = search needs
+judge-words-requires c κs = omega arith
 
 is-fine-requires : tie.Need-is-fine-requires
-is-fine-requires c κs = search needs
+is-fine-requires c κs = tt
 
 returns : tie.Need-returns
 returns c =
@@ -66,7 +66,7 @@ returns c =
     ∙ in-parts (start j)
 
 add-place : tie.Need-add-place
-add-place c = search needs
+add-place c = omega arith
 
 returns-2 : tie.Need-returns-2
 returns-2 c =
@@ -74,13 +74,13 @@ returns-2 c =
     pass-z (c .before) (fails-first 6 (place s) (after-mask s) (le-ltb _ _ (c .if2 .taken)))
 
 add-judge-words : tie.Need-add-judge-words
-add-judge-words c = search needs
+add-judge-words c = omega arith
 
 judge-words-requires-2 : tie.Need-judge-words-requires-2
-judge-words-requires-2 c κs = search needs
+judge-words-requires-2 c κs = omega arith
 
 is-fine-requires-2 : tie.Need-is-fine-requires-2
-is-fine-requires-2 c κs = search needs
+is-fine-requires-2 c κs = tt
 
 returns-3 : tie.Need-returns-3
 returns-3 c =
@@ -90,13 +90,13 @@ returns-3 c =
     (stops (j .judge-words2 .result) (j .judge-words2 .ensures) (after-m s) (sym (c .before .is-fine2 .ensures) ∙ not-true _ (c .if3 .taken)))
 
 add-judge-words-2 : tie.Need-add-judge-words-2
-add-judge-words-2 c = search needs
+add-judge-words-2 c = omega arith
 
 add-judge-words-3 : tie.Need-add-judge-words-3
-add-judge-words-3 c = search needs
+add-judge-words-3 c = omega arith
 
 judge-words-requires-3 : tie.Need-judge-words-requires-3
-judge-words-requires-3 c κs = search needs
+judge-words-requires-3 c κs = omega arith
 
 returns-4 : tie.Need-returns-4
 returns-4 c =

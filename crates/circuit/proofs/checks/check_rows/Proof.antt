@@ -1,5 +1,4 @@
 -- `circuit::checks::check_rows` meets its contract: the rows passed are satisfied. Assumes nothing.
-use borrow.Author.Needs.{needs}
 use mathlib.Core.Path.{_≡_, sym, _∙_}
 use mathlib.Core.Bool.{Bool, true}
 use mathlib.Core.List.{List}
@@ -30,25 +29,25 @@ loop-holds : tie.Need-loop-holds Inv-loop μ-loop
 loop-holds c = (omega arith, λ q e n s t u ea eb ec. passed-none 9 0 _)
 
 mul-multiply : tie.Need-mul-multiply Inv-loop μ-loop
-mul-multiply c = search needs
+mul-multiply c = omega arith
 
 shared-slice-read-multiply : tie.Need-shared-slice-read-multiply Inv-loop μ-loop
-shared-slice-read-multiply c = search needs
+shared-slice-read-multiply c = omega arith
 
 mul-multiply-2 : tie.Need-mul-multiply-2 Inv-loop μ-loop
-mul-multiply-2 c = search needs
+mul-multiply-2 c = omega arith
 
 shared-slice-read-multiply-2 : tie.Need-shared-slice-read-multiply-2 Inv-loop μ-loop
-shared-slice-read-multiply-2 c = search needs
+shared-slice-read-multiply-2 c = omega arith
 
 multiply-requires : tie.Need-multiply-requires Inv-loop μ-loop
-multiply-requires c κs = search needs
+multiply-requires c κs = omega arith
 
 mul-if1 : tie.Need-mul-if1 Inv-loop μ-loop
-mul-if1 c = search needs
+mul-if1 c = omega arith
 
 shared-slice-read-if1 : tie.Need-shared-slice-read-if1 Inv-loop μ-loop
-shared-slice-read-if1 c = search needs
+shared-slice-read-if1 c = omega arith
 
 returns : tie.Need-returns Inv-loop μ-loop
 returns c q e n s t u ea eb ec =
@@ -60,10 +59,10 @@ returns c q e n s t u ea eb ec =
     (row-test n s t u (a .a .now) (a .b .now) (a .c .now) ea eb ec (l .i) (call .result) (omega arith) (call .ensures q e) ∙ ne-eqb _ _ (c .if1 .taken))
 
 add-i : tie.Need-add-i Inv-loop μ-loop
-add-i c = search needs
+add-i c = omega arith
 
 loop-less : tie.Need-loop-less Inv-loop μ-loop
-loop-less c = search needs
+loop-less c = omega arith
 
 loop-again : tie.Need-loop-again Inv-loop μ-loop
 loop-again c =

@@ -1,25 +1,25 @@
 -- `circuit::checks::check_sizes` meets its contract. Assumes nothing.
-use borrow.Author.Needs.{needs}
 use mathlib.Core.Path.{_∙_}
 use mathlib.Core.List.{[], _∷_}
+use native.Mathlib.Omega.{arith}
 use Rattle.protocol.specs.Refusals.{refuse, sizeTests, sizeRefusal}
 use Rattle.circuit.proofs.checks.check_sizes.Statement.{statement}
 use Rattle.circuit.proofs.checks.check_sizes.Tie as tie
 
 is-size-requires : tie.Need-is-size-requires
-is-size-requires c κs = search needs
+is-size-requires c κs = tt
 
 is-size-requires-2 : tie.Need-is-size-requires-2
-is-size-requires-2 c κs = search needs
+is-size-requires-2 c κs = tt
 
 is-public-size-requires : tie.Need-is-public-size-requires
-is-public-size-requires c κs = search needs
+is-public-size-requires c κs = tt
 
 slice-aggregate-first-failed : tie.Need-slice-aggregate-first-failed
-slice-aggregate-first-failed c = search needs
+slice-aggregate-first-failed c = omega arith
 
 first-failed-requires : tie.Need-first-failed-requires
-first-failed-requires c κs = search needs
+first-failed-requires c κs = omega arith
 
 returns : tie.Need-returns
 unfolding sizeRefusal sizeTests

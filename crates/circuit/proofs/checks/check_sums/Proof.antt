@@ -3,6 +3,7 @@ use borrow.Author.Needs.{needs}
 use mathlib.Core.Path.{sym, ap, _∙_, subst⁻¹}
 use mathlib.Core.List.{List, map}
 use Prim.Native.Nat.{ℕ}
+use native.Mathlib.Omega.{arith}
 use lib.ListN.{length}
 use Rattle.algebra.specs.Counting.{All}
 use Rattle.algebra.specs.Lists.{tabulate}
@@ -44,7 +45,7 @@ row-sums-requires-3 c κs =
     (s .pre .0, subst⁻¹ within (s .pre .1 .0 .1) (s .pre .1 .1 .in-c))
 
 check-rows-requires : tie.Need-check-rows-requires
-check-rows-requires c κs = search needs
+check-rows-requires c κs = omega arith
 
 same-length : tie.Need-same-length
 same-length c = at-a c .row-sums .kept .1 .1 .1 .0

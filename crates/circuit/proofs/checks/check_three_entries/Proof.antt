@@ -1,9 +1,9 @@
 -- `circuit::checks::check_three_entries` meets its contract: A, then B, then C. Assumes nothing.
-use borrow.Author.Needs.{needs}
 use mathlib.Core.Path.{_≡_, refl, sym, _∙_}
 use mathlib.Core.List.{List, [], _∷_}
 use mathlib.Core.Option.{Option}
 use Prim.Native.Nat.{_+_, _/_}
+use native.Mathlib.Omega.{arith}
 use lib.ListN.{length}
 use borrow.Author.Tests.{not-true, not-false}
 use Rattle.protocol.specs.Circuit.{Circuit}
@@ -43,10 +43,10 @@ module _ (k : Circuit) where
       ∙ in-parts (start v) matrices
 
 check-entries-requires : tie.Need-check-entries-requires
-check-entries-requires c κs = search needs
+check-entries-requires c κs = omega arith
 
 is-fine-requires : tie.Need-is-fine-requires
-is-fine-requires c κs = search needs
+is-fine-requires c κs = tt
 
 returns : tie.Need-returns
 returns c k er ec matrices =
@@ -55,10 +55,10 @@ returns c k er ec matrices =
     ∙ in-parts k (start v) matrices
 
 check-entries-requires-2 : tie.Need-check-entries-requires-2
-check-entries-requires-2 c κs = search needs
+check-entries-requires-2 c κs = omega arith
 
 is-fine-requires-2 : tie.Need-is-fine-requires-2
-is-fine-requires-2 c κs = search needs
+is-fine-requires-2 c κs = tt
 
 returns-2 : tie.Need-returns-2
 returns-2 c k er ec matrices =
@@ -68,10 +68,10 @@ returns-2 c k er ec matrices =
     (sym (c .before .is-fine2 .ensures) ∙ not-true _ (c .if2 .taken)))
 
 add-check-entries : tie.Need-add-check-entries
-add-check-entries c = search needs
+add-check-entries c = omega arith
 
 check-entries-requires-3 : tie.Need-check-entries-requires-3
-check-entries-requires-3 c κs = search needs
+check-entries-requires-3 c κs = omega arith
 
 returns-3 : tie.Need-returns-3
 returns-3 c k er ec matrices =

@@ -1,5 +1,4 @@
 -- `circuit::checks::entry_passes` meets its contract. Assumes nothing.
-use borrow.Author.Needs.{needs}
 use mathlib.Core.Path.{_≡_, sym, _∙_}
 use Prim.Native.Nat.{_+_, _*_, _<_}
 use native.Mathlib.Omega.{arith}
@@ -52,7 +51,7 @@ shared-slice-read-entry-fits : tie.Need-shared-slice-read-entry-fits
 shared-slice-read-entry-fits c = omega (arith, words-within (c .before .before .before .before))
 
 entry-fits-requires : tie.Need-entry-fits-requires
-entry-fits-requires c κs = search needs
+entry-fits-requires c κs = tt
 
 returns : tie.Need-returns
 returns c k er ec =
@@ -67,7 +66,7 @@ returns-2 c k er ec =
     sym (entry-first k (s .args .entries .now) (s .args .i) (s .pre) (entry-answer (d .before) k er ec ∙ not-false _ (d .if1 .left)) (c .if2 .taken))
 
 sub-stands-before : tie.Need-sub-stands-before
-sub-stands-before c = search needs
+sub-stands-before c = omega arith
 
 mul-stands-before : tie.Need-mul-stands-before
 mul-stands-before c = omega (arith, words-within (c .before .before .before .before .before .before .before))
@@ -76,7 +75,7 @@ shared-slice-read-stands-before : tie.Need-shared-slice-read-stands-before
 shared-slice-read-stands-before c = omega (arith, words-within (c .before .before .before .before .before .before .before .before))
 
 sub-stands-before-2 : tie.Need-sub-stands-before-2
-sub-stands-before-2 c = search needs
+sub-stands-before-2 c = omega arith
 
 mul-stands-before-2 : tie.Need-mul-stands-before-2
 mul-stands-before-2 c = omega (arith, words-within (c .before .before .before .before .before .before .before .before))
@@ -85,7 +84,7 @@ shared-slice-read-stands-before-2 : tie.Need-shared-slice-read-stands-before-2
 shared-slice-read-stands-before-2 c = omega (arith, words-within (c .before .before .before .before .before .before .before .before .before))
 
 stands-before-requires : tie.Need-stands-before-requires
-stands-before-requires c κs = search needs
+stands-before-requires c κs = tt
 
 returns-3 : tie.Need-returns-3
 returns-3 c k er ec =

@@ -1,26 +1,26 @@
 -- `circuit::judging::index_lengths` meets its contract. Assumes nothing.
+use native.Mathlib.Omega.{arith}
 use Rattle.circuit.specs.Judgement.{indexDue}
-use borrow.Author.Needs.{needs}
 use Rattle.circuit.proofs.judging.index_lengths.Statement.{statement}
 use Rattle.circuit.proofs.judging.index_lengths.Tie as tie
 
 size-of-requires : tie.Need-size-of-requires
-size-of-requires c κs = search needs
+size-of-requires c κs = tt
 
 cast-a : tie.Need-cast-a
-cast-a c = search needs
+cast-a c = omega arith
 
 size-of-requires-2 : tie.Need-size-of-requires-2
-size-of-requires-2 c κs = search needs
+size-of-requires-2 c κs = tt
 
 cast-b : tie.Need-cast-b
-cast-b c = search needs
+cast-b c = omega arith
 
 size-of-requires-3 : tie.Need-size-of-requires-3
-size-of-requires-3 c κs = search needs
+size-of-requires-3 c κs = tt
 
 cast-c : tie.Need-cast-c
-cast-c c = search needs
+cast-c c = omega arith
 
 returns : tie.Need-returns
 unfolding indexDue

@@ -103,7 +103,7 @@ check-call-words-requires c κs =
     (h .circuit .lists, (omega (arith, h .z-length, bound), omega (arith, h .m-length, bound)))
 
 is-fine-requires : tie.Need-is-fine-requires
-is-fine-requires c κs = search needs
+is-fine-requires c κs = tt
 
 returns : tie.Need-returns
 unfolding contentsRefusal
@@ -117,7 +117,7 @@ check-three-entries-requires : tie.Need-check-three-entries-requires
 check-three-entries-requires c κs = search needs
 
 is-fine-requires-2 : tie.Need-is-fine-requires-2
-is-fine-requires-2 c κs = search needs
+is-fine-requires-2 c κs = tt
 
 returns-2 : tie.Need-returns-2
 returns-2 c q Q e k er ec matrices =
@@ -130,7 +130,7 @@ check-mask-requires : tie.Need-check-mask-requires
 check-mask-requires c κs = search needs
 
 is-fine-requires-3 : tie.Need-is-fine-requires-3
-is-fine-requires-3 c κs = search needs
+is-fine-requires-3 c κs = tt
 
 returns-3 : tie.Need-returns-3
 returns-3 c q Q e k er ec matrices =
@@ -166,7 +166,7 @@ check-assignment-requires c κs =
     )
 
 is-fine-requires-4 : tie.Need-is-fine-requires-4
-is-fine-requires-4 c κs = search needs
+is-fine-requires-4 c κs = tt
 
 returns-4 : tie.Need-returns-4
 returns-4 c q Q e k er ec matrices =
@@ -176,7 +176,7 @@ returns-4 c q Q e k er ec matrices =
     (sym (c .before .is-fine4 .ensures) ∙ not-true _ (c .if4 .taken)))
 
 largest-size-requires : tie.Need-largest-size-requires
-largest-size-requires c κs = search needs
+largest-size-requires c κs = tt
 
 check-points-requires : tie.Need-check-points-requires
 unfolding circuitOf

@@ -4,6 +4,7 @@ use mathlib.Core.Bool.{Bool, true}
 use mathlib.Core.List.{List, [], _∷_}
 use mathlib.Core.Option.{Option}
 use Prim.Native.Nat.{ℕ}
+use native.Mathlib.Omega.{arith}
 use lib.Dec.{eqb}
 use borrow.Author.Tests.{not-true, not-false}
 use Rattle.field.specs.Prime.{Prime}
@@ -14,7 +15,6 @@ use Rattle.circuit.specs.Given.{given, isFine}
 use Rattle.circuit.specs.Judgement.{indexDue, indexShapeRefusal, indexRefusal, indexContentsRefusal}
 use Rattle.circuit.proofs.EarlyReturns.{stops, goes-on, fine-none, last-answer}
 use Rattle.circuit.proofs.Parts.{index-in-parts, index-shape-fits}
-use borrow.Author.Needs.{needs}
 use Rattle.circuit.proofs.judging.judge_index.Statement.{statement}
 use Rattle.circuit.proofs.judging.judge_index.Tie as tie
 
@@ -67,10 +67,10 @@ slices c =
     ∙ ap (λ (due : List ℕ). refuse 5 3 (pairs eqb (lengths (from-lent c)) due)) (c .before .before .before .index-lengths .ensures)
 
 judge-index-shape-requires : tie.Need-judge-index-shape-requires
-judge-index-shape-requires c κs = search needs
+judge-index-shape-requires c κs = tt
 
 is-fine-requires : tie.Need-is-fine-requires
-is-fine-requires c κs = search needs
+is-fine-requires c κs = tt
 
 returns : tie.Need-returns
 returns c q e =
@@ -81,19 +81,19 @@ returns c q e =
     ∙ in-parts s q
 
 index-lengths-requires : tie.Need-index-lengths-requires
-index-lengths-requires c κs = search needs
+index-lengths-requires c κs = tt
 
 slice-aggregate-check-lent : tie.Need-slice-aggregate-check-lent
-slice-aggregate-check-lent c = search needs
+slice-aggregate-check-lent c = omega arith
 
 slice-aggregate-check-lent-2 : tie.Need-slice-aggregate-check-lent-2
-slice-aggregate-check-lent-2 c = search needs
+slice-aggregate-check-lent-2 c = omega arith
 
 check-lent-requires : tie.Need-check-lent-requires
-check-lent-requires c κs = search needs
+check-lent-requires c κs = omega arith
 
 is-fine-requires-2 : tie.Need-is-fine-requires-2
-is-fine-requires-2 c κs = search needs
+is-fine-requires-2 c κs = tt
 
 returns-2 : tie.Need-returns-2
 returns-2 c q e =

@@ -14,7 +14,7 @@ check-three-values-requires : tie.Need-check-three-values-requires
 check-three-values-requires c κs = search needs
 
 is-fine-requires : tie.Need-is-fine-requires
-is-fine-requires c κs = search needs
+is-fine-requires c κs = tt
 
 returns : tie.Need-returns
 unfolding indexContentsRefusal

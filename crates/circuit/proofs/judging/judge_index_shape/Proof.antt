@@ -1,5 +1,4 @@
 -- `circuit::judging::judge_index_shape` meets its contract. Assumes nothing.
-use borrow.Author.Needs.{needs}
 use mathlib.Core.Path.{sym, _∙_}
 use mathlib.Core.List.{[], _∷_}
 use borrow.Author.Tests.{not-true, not-false}
@@ -12,10 +11,10 @@ use Rattle.circuit.proofs.judging.judge_index_shape.Statement.{statemen
 use Rattle.circuit.proofs.judging.judge_index_shape.Tie as tie
 
 check-sizes-requires : tie.Need-check-sizes-requires
-check-sizes-requires c κs = search needs
+check-sizes-requires c κs = tt
 
 is-fine-requires : tie.Need-is-fine-requires
-is-fine-requires c κs = search needs
+is-fine-requires c κs = tt
 
 returns : tie.Need-returns
 unfolding indexShapeRefusal
@@ -26,7 +25,7 @@ returns c =
     (sym (c .before .is-fine .ensures) ∙ not-true _ (c .if1 .taken))
 
 check-entry-lists-requires : tie.Need-check-entry-lists-requires
-check-entry-lists-requires c κs = search needs
+check-entry-lists-requires c κs = tt
 
 returns-2 : tie.Need-returns-2
 unfolding indexShapeRefusal listRefusal entryListTests

@@ -3,6 +3,7 @@ use mathlib.Core.Path.{_≡_, refl, sym, _∙_}
 use mathlib.Core.Bool.{true}
 use mathlib.Core.List.{List, [], _∷_}
 use mathlib.Core.Option.{Option}
+use native.Mathlib.Omega.{arith}
 use lib.Dec.{eqb}
 use borrow.Author.Tests.{not-true, not-false}
 use Rattle.field.specs.Prime.{Prime}
@@ -12,7 +13,6 @@ use Rattle.circuit.specs.Given.{given, proverInput, isFine}
 use Rattle.circuit.specs.Judgement.{shapeRefusal, contentsRefusal}
 use Rattle.circuit.proofs.EarlyReturns.{stops, goes-on, fine-none, last-answer}
 use Rattle.circuit.proofs.Parts.{prover-in-parts, shape-fits}
-use borrow.Author.Needs.{needs}
 use Rattle.circuit.proofs.judging.judge_round.Statement.{statement}
 use Rattle.circuit.proofs.judging.judge_round.Tie as tie
 
@@ -62,10 +62,10 @@ pass-shape q c y =
     ∙ in-parts q (from-shape j)
 
 judge-shape-requires : tie.Need-judge-shape-requires
-judge-shape-requires c κs = search needs
+judge-shape-requires c κs = tt
 
 is-fine-requires : tie.Need-is-fine-requires
-is-fine-requires c κs = search needs
+is-fine-requires c κs = tt
 
 returns : tie.Need-returns
 returns c q Q e =
@@ -75,10 +75,10 @@ returns c q Q e =
     ∙ in-parts q (from-shape j)
 
 check-lent-requires : tie.Need-check-lent-requires
-check-lent-requires c κs = search needs
+check-lent-requires c κs = omega arith
 
 is-fine-requires-2 : tie.Need-is-fine-requires-2
-is-fine-requires-2 c κs = search needs
+is-fine-requires-2 c κs = tt
 
 returns-2 : tie.Need-returns-2
 returns-2 c q Q e =

@@ -1,5 +1,4 @@
 -- `circuit::judging::judge_shape` meets its contract. Assumes nothing.
-use borrow.Author.Needs.{needs}
 use mathlib.Core.Path.{sym, _∙_}
 use mathlib.Core.List.{List, [], _∷_}
 use mathlib.Core.Option.{Option}
@@ -25,10 +24,10 @@ abbrev after-circuit : tie.Start → List (Option Refusal)
 after-circuit s = refuse 5 3 (assignmentTests (circuitOf (circuit s)) (s .args .z .now) (s .args .m .now)) ∷ []
 
 judge-index-shape-requires : tie.Need-judge-index-shape-requires
-judge-index-shape-requires c κs = search needs
+judge-index-shape-requires c κs = tt
 
 is-fine-requires : tie.Need-is-fine-requires
-is-fine-requires c κs = search needs
+is-fine-requires c κs = tt
 
 returns : tie.Need-returns
 returns c =
@@ -39,7 +38,7 @@ returns c =
     ∙ sym (shape-in-parts (circuit s) (s .args .z .now) (s .args .m .now))
 
 check-assignment-lists-requires : tie.Need-check-assignment-lists-requires
-check-assignment-lists-requires c κs = search needs
+check-assignment-lists-requires c κs = tt
 
 returns-2 : tie.Need-returns-2
 unfolding assignmentTests circuitOf

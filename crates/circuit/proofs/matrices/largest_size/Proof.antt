@@ -1,5 +1,4 @@
 -- `circuit::matrices::largest_size` meets its contract. Assumes nothing.
-use borrow.Author.Needs.{needs}
 use mathlib.Core.Path.{sym, ap₂, _∙_}
 use Prim.Native.Nat.{max}
 use Rattle.protocol.specs.Circuit.{largest}
@@ -8,16 +7,16 @@ use Rattle.circuit.proofs.matrices.largest_size.Statement.{statement}
 use Rattle.circuit.proofs.matrices.largest_size.Tie as tie
 
 size-of-requires : tie.Need-size-of-requires
-size-of-requires c κs = search needs
+size-of-requires c κs = tt
 
 size-of-requires-2 : tie.Need-size-of-requires-2
-size-of-requires-2 c κs = search needs
+size-of-requires-2 c κs = tt
 
 size-of-requires-3 : tie.Need-size-of-requires-3
-size-of-requires-3 c κs = search needs
+size-of-requires-3 c κs = tt
 
 largest-requires : tie.Need-largest-requires
-largest-requires c κs = search needs
+largest-requires c κs = tt
 
 returns : tie.Need-returns
 unfolding largest

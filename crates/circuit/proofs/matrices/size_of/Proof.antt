@@ -1,6 +1,6 @@
 -- `circuit::matrices::size_of` meets its contract. Assumes nothing.
-use borrow.Author.Needs.{needs}
 use mathlib.Core.Path.{sym, ap, _∙_}
+use native.Mathlib.Omega.{arith}
 use Rattle.domain.specs.Size.{sizeFor}
 use Rattle.domain.proofs.SizeLaws.{sizeFor-past}
 use Rattle.circuit.proofs.Entries.{length-entriesOf}
@@ -8,7 +8,7 @@ use Rattle.circuit.proofs.matrices.size_of.Statement.{statement}
 use Rattle.circuit.proofs.matrices.size_of.Tie as tie
 
 cast-if1 : tie.Need-cast-if1
-cast-if1 c = search needs
+cast-if1 c = omega arith
 
 returns : tie.Need-returns
 returns c =
@@ -16,10 +16,10 @@ returns c =
     sym (ap sizeFor (length-entriesOf l) ∙ sizeFor-past _ (c .if1 .taken))
 
 cast-size-for : tie.Need-cast-size-for
-cast-size-for c = search needs
+cast-size-for c = omega arith
 
 size-for-requires : tie.Need-size-for-requires
-size-for-requires c κs = search needs
+size-for-requires c κs = tt
 
 returns-2 : tie.Need-returns-2
 returns-2 c =
