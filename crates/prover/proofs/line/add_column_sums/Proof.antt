@@ -1,5 +1,4 @@
 -- `prover::line::add_column_sums` meets its contract: the entries from the i-th on are still to be added. Assumes nothing.
-use borrow.Author.Needs.{needs}
 use mathlib.Core.Path.{_≡_, refl, ap, _∙_}
 use mathlib.Core.List.{List, map}
 use Prim.Native.Nat.{_+_, _-_, _*_, _≤_, _<_}
@@ -40,43 +39,43 @@ loop-holds : tie.Need-loop-holds Inv-loop μ-loop
 loop-holds c = (omega arith, refl, λ q e. adding-none q _ _ _ _)
 
 mul-row : tie.Need-mul-row Inv-loop μ-loop
-mul-row c = search needs
+mul-row c = omega arith
 
 mul-row-2 : tie.Need-mul-row-2 Inv-loop μ-loop
-mul-row-2 c = search needs
+mul-row-2 c = omega arith
 
 shared-slice-read-row : tie.Need-shared-slice-read-row Inv-loop μ-loop
-shared-slice-read-row c = search needs
+shared-slice-read-row c = omega arith
 
 cast-row : tie.Need-cast-row Inv-loop μ-loop
 cast-row c = omega (arith, c .shared-slice-known3 .given (3 * c .before .before .loop .i))
 
 mul-column : tie.Need-mul-column Inv-loop μ-loop
-mul-column c = search needs
+mul-column c = omega arith
 
 add-column : tie.Need-add-column Inv-loop μ-loop
-add-column c = search needs
+add-column c = omega arith
 
 mul-column-2 : tie.Need-mul-column-2 Inv-loop μ-loop
-mul-column-2 c = search needs
+mul-column-2 c = omega arith
 
 shared-slice-read-column : tie.Need-shared-slice-read-column Inv-loop μ-loop
-shared-slice-read-column c = search needs
+shared-slice-read-column c = omega arith
 
 cast-column : tie.Need-cast-column Inv-loop μ-loop
 cast-column c = omega (arith, c .shared-slice-known4 .given (3 * c .before .before .before .loop .i + 1))
 
 mul-multiply : tie.Need-mul-multiply Inv-loop μ-loop
-mul-multiply c = search needs
+mul-multiply c = omega arith
 
 add-multiply : tie.Need-add-multiply Inv-loop μ-loop
-add-multiply c = search needs
+add-multiply c = omega arith
 
 mul-multiply-2 : tie.Need-mul-multiply-2 Inv-loop μ-loop
-mul-multiply-2 c = search needs
+mul-multiply-2 c = omega arith
 
 shared-slice-read-multiply : tie.Need-shared-slice-read-multiply Inv-loop μ-loop
-shared-slice-read-multiply c = search needs
+shared-slice-read-multiply c = omega arith
 
 mul-multiply-3 : tie.Need-mul-multiply-3 Inv-loop μ-loop
 mul-multiply-3 c = omega (arith, place (c .before .before .before) .row-below)
@@ -85,7 +84,7 @@ shared-slice-read-multiply-2 : tie.Need-shared-slice-read-multiply-2 Inv-loop μ
 shared-slice-read-multiply-2 c = place (c .before .before .before .before) .row-below
 
 multiply-requires : tie.Need-multiply-requires Inv-loop μ-loop
-multiply-requires c κs = search needs
+multiply-requires c κs = omega arith
 
 mul-add : tie.Need-mul-add Inv-loop μ-loop
 mul-add c = omega (arith, place (c .before .before .before .before .before) .column-below)
@@ -94,10 +93,10 @@ slice-read-add : tie.Need-slice-read-add Inv-loop μ-loop
 slice-read-add c = omega (arith, place (c .before .before .before .before .before .before) .column-below)
 
 multiply-requires-2 : tie.Need-multiply-requires-2 Inv-loop μ-loop
-multiply-requires-2 c κs = search needs
+multiply-requires-2 c κs = omega arith
 
 add-requires : tie.Need-add-requires Inv-loop μ-loop
-add-requires c κs = search needs
+add-requires c κs = omega arith
 
 mul-out : tie.Need-mul-out Inv-loop μ-loop
 mul-out c = omega (arith, place (c .before .before .before .before .before .before .before .before) .column-below)
@@ -106,10 +105,10 @@ slice-write-out : tie.Need-slice-write-out Inv-loop μ-loop
 slice-write-out c = omega (arith, place (c .before .before .before .before .before .before .before .before) .column-below)
 
 add-i : tie.Need-add-i Inv-loop μ-loop
-add-i c = search needs
+add-i c = omega arith
 
 loop-less : tie.Need-loop-less Inv-loop μ-loop
-loop-less c = search needs
+loop-less c = omega arith
 
 loop-again : tie.Need-loop-again Inv-loop μ-loop
 loop-again c =
@@ -133,7 +132,7 @@ loop-again c =
     )
 
 same-length : tie.Need-same-length Inv-loop μ-loop
-same-length c = search needs
+same-length c = omega arith
 
 returns : tie.Need-returns Inv-loop μ-loop
 returns c q e =

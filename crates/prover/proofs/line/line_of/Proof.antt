@@ -2,6 +2,7 @@
 use mathlib.Core.Path.{refl, sym, ap, _∙_}
 use mathlib.Core.List.{List, map}
 use Prim.Native.Nat.{ℕ, _+_, _-_, _≤_}
+use native.Mathlib.Omega.{arith}
 use Rattle.field.specs.Element.{of, words}
 use Rattle.domain.specs.Polynomial.{Poly}
 use Rattle.protocol.specs.Three.{mapThree}
@@ -14,7 +15,6 @@ use Rattle.poly.proofs.LentParts.{part-length, filled-within, filled-length, of
 use Rattle.prover.specs.CallGiven.{zIn, witnessIn, assignmentIn}
 use Rattle.circuit.proofs.Fitting.{R-fits, C-fits, X-fits, X-below}
 use Rattle.prover.proofs.CallLaws.{witness-bound, assignment-bound}
-use borrow.Author.Needs.{needs}
 use Rattle.prover.proofs.line.line_of.Statement.{statement}
 use Rattle.prover.proofs.line.line_of.Tie as tie
 
@@ -41,13 +41,13 @@ sub-n : tie.Need-sub-n
 sub-n c = X-below (c .before .before .before .before .before .before .pre .1 .0)
 
 cast-n : tie.Need-cast-n
-cast-n c = search needs
+cast-n c = omega arith
 
 add-n : tie.Need-add-n
-add-n c = search needs
+add-n c = omega arith
 
 add-l : tie.Need-add-l
-add-l c = search needs
+add-l c = omega arith
 
 array-borrow-prefix-witness : tie.Need-array-borrow-prefix-witness
 array-borrow-prefix-witness c = witness-bound (c .before .before .before .before .before .before .pre .1 .0)

@@ -1,7 +1,7 @@
 -- `prover::rows::product_minus_into` meets its contract. Assumes nothing.
-use borrow.Author.Needs.{needs}
 use mathlib.Core.Path.{refl, _∙_}
 use mathlib.Core.List.{map}
+use native.Mathlib.Omega.{arith}
 use Rattle.field.specs.Element.{of}
 use Rattle.field.proofs.Words.{of-results}
 use Rattle.domain.specs.Polynomial.{Poly, times}
@@ -10,13 +10,13 @@ use Rattle.prover.proofs.rows.product_minus_into.Statement.{statement}
 use Rattle.prover.proofs.rows.product_minus_into.Tie as tie
 
 multiply-into-requires : tie.Need-multiply-into-requires
-multiply-into-requires c κs = search needs
+multiply-into-requires c κs = omega arith
 
 sub-minus-one : tie.Need-sub-minus-one
-sub-minus-one c = search needs
+sub-minus-one c = omega arith
 
 add-scaled-requires : tie.Need-add-scaled-requires
-add-scaled-requires c κs = search needs
+add-scaled-requires c κs = omega arith
 
 same-length : tie.Need-same-length
 same-length c = c .before .before .add-scaled .kept .1 .0 ∙ c .before .before .before .before .before .before .multiply-into .kept .1 .1 .1 .0

@@ -1,8 +1,8 @@
 -- `prover::rows::row_sum_value` meets its contract. Assumes nothing.
-use borrow.Author.Needs.{needs}
 use mathlib.Core.Path.{sym, ap, _∙_}
 use mathlib.Core.List.{List, map}
 use Prim.Native.Nat.{ℕ, _≤_}
+use native.Mathlib.Omega.{arith}
 use Rattle.algebra.specs.Lists.{tabulate}
 use Rattle.field.specs.Element.{Elem, of}
 use Rattle.domain.specs.Polynomial.{interpolate}
@@ -40,7 +40,7 @@ slice-aggregate-evaluate c =
     filled-length _ _ (bound start) (call .last .1 .1 .1 .1 .0) (call .kept .1 .1 .1 .1 .0)
 
 evaluate-requires : tie.Need-evaluate-requires
-evaluate-requires c κs = search needs
+evaluate-requires c κs = omega arith
 
 returns : tie.Need-returns
 returns c q known Q k W eR M matrix ẑ values =

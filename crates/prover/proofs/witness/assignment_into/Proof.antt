@@ -1,5 +1,4 @@
 -- `prover::witness::assignment_into` meets its contract. Assumes nothing.
-use borrow.Author.Needs.{needs}
 use mathlib.Core.Path.{_≡_, sym, ap, _∙_}
 use mathlib.Core.List.{map}
 use Prim.Native.Nat.{ℕ, _+_, _≤_, _<_}
@@ -36,7 +35,7 @@ abbrev at-fill : tie.After-multiply-into → tie.After-fill-vanishing
 at-fill c = c .before .before .before .before
 
 add-n : tie.Need-add-n
-add-n c = search needs
+add-n c = omega arith
 
 array-borrow-prefix-vanishing : tie.Need-array-borrow-prefix-vanishing
 array-borrow-prefix-vanishing c = bound (c .before .before .before)

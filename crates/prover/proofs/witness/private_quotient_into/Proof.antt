@@ -60,7 +60,7 @@ public-poly-into-requires c κs =
     (s .pre .0, (s .pre .1 .0, (s .pre .1 .1 .0, sym (part-length _ _ (x-bound s)))))
 
 sub-minus-one : tie.Need-sub-minus-one
-sub-minus-one c = search needs
+sub-minus-one c = omega arith
 
 array-borrow-prefix-difference-2 : tie.Need-array-borrow-prefix-difference-2
 array-borrow-prefix-difference-2 c =

@@ -1,5 +1,4 @@
 -- `prover::witness::vanishing_coefficient` meets its contract. Assumes nothing.
-use borrow.Author.Needs.{needs}
 use mathlib.Core.Path.{sym, ap, _∙_}
 use Prim.Native.Nat.{ℕ}
 use native.Mathlib.Omega.{arith}
@@ -11,7 +10,7 @@ use Rattle.prover.proofs.witness.vanishing_coefficient.Statement.{state
 use Rattle.prover.proofs.witness.vanishing_coefficient.Tie as tie
 
 sub-result : tie.Need-sub-result
-sub-result c = search needs
+sub-result c = omega arith
 
 returns : tie.Need-returns
 returns c q e =

@@ -1,5 +1,4 @@
 -- `prover::witness::vanishing_ratio_into` meets its contract. Assumes nothing.
-use borrow.Author.Needs.{needs}
 use mathlib.Core.Path.{_≡_, ap, _∙_}
 use Prim.Native.Nat.{ℕ, _+_, _-_, _≤_, _<_}
 use native.Mathlib.Omega.{arith}
@@ -22,7 +21,7 @@ abbrev start : tie.After-fill-vanishing → tie.Start
 start c = c .before .before .before
 
 add-n : tie.Need-add-n
-add-n c = search needs
+add-n c = omega arith
 
 array-borrow-prefix-vanishing : tie.Need-array-borrow-prefix-vanishing
 array-borrow-prefix-vanishing c = bound (c .before)

@@ -1,5 +1,4 @@
 -- `prover::witness::witness_into` meets its contract. Assumes nothing.
-use borrow.Author.Needs.{needs}
 use mathlib.Core.Path.{_≡_, sym, _∙_}
 use mathlib.Core.List.{List, _++_, map}
 use Prim.Native.Nat.{ℕ, _+_, _-_, _≤_}
@@ -34,13 +33,13 @@ abbrev at-quotient : tie.After-vanishing-ratio-into → tie.After-private-quotie
 at-quotient c = c .before .before .before .before
 
 sub-n : tie.Need-sub-n
-sub-n c = search needs
+sub-n c = omega arith
 
 cast-n : tie.Need-cast-n
-cast-n c = search needs
+cast-n c = omega arith
 
 slice-relend-prefix-private-quotient-into : tie.Need-slice-relend-prefix-private-quotient-into
-slice-relend-prefix-private-quotient-into c = search needs
+slice-relend-prefix-private-quotient-into c = omega arith
 
 slice-aggregate-private-quotient-into : tie.Need-slice-aggregate-private-quotient-into
 slice-aggregate-private-quotient-into c = part-length _ _ (short (c .before .before .before))
@@ -51,13 +50,13 @@ private-quotient-into-requires c κs =
     (s .pre .0, (s .pre .1 .0, (s .pre .1 .1 .0, sym (part-length _ _ (short s)))))
 
 mul-out : tie.Need-mul-out
-mul-out c = search needs
+mul-out c = omega arith
 
 slice-write-out : tie.Need-slice-write-out
-slice-write-out c = search needs
+slice-write-out c = omega arith
 
 add-m : tie.Need-add-m
-add-m c = search needs
+add-m c = omega arith
 
 array-borrow-prefix-ratio : tie.Need-array-borrow-prefix-ratio
 array-borrow-prefix-ratio c = bound (start (c .before .before))
