@@ -24,13 +24,14 @@ Inv-loop p entries z out₀ count i₀ out i =
 abbrev μ-loop : tie.MeasureT-loop
 μ-loop p entries z out₀ count i₀ out i = count - i
 
--- the entry that a turn takes is within the matrix
-place :
-    (c : tie.In-loop Inv-loop μ-loop)
-    → let a = c .before .before .before .before .before .before .before .before .before .args in
-    Within (length (a .out .now)) (length (a .z .now)) (entryWords (a .entries .now) (c .before .loop .i))
+-- the start, from a turn; the entry that the turn takes is within the matrix
+abbrev start : tie.In-loop Inv-loop μ-loop → tie.Start Inv-loop μ-loop
+start c = c .before .before .before .before .before .before .before .before .before
+
+place : (c : tie.In-loop Inv-loop μ-loop)
+    → let a = start c .args in Within (length (a .out .now)) (length (a .z .now)) (entryWords (a .entries .now) (c .before .loop .i))
 place c =
-    let s = c .before .before .before .before .before .before .before .before .before in
+    let s = start c in
     entry-within (length (s .args .out .now)) (length (s .args .z .now)) (s .args .entries .now) (s .pre .1) (c .before .loop .i) (omega arith)
 
 clear-requires : tie.Need-clear-requires Inv-loop μ-loop
@@ -120,7 +121,7 @@ loop-less c = omega arith
 loop-again : tie.Need-loop-again Inv-loop μ-loop
 loop-again c =
     let turn = c .before .before .before .before .before .before .before in
-    let a = turn .before .before .before .before .before .before .before .before .before .args in
+    let a = start turn .args in
     let l = turn .before .loop in
     let es : List Entry = entriesOf (a .entries .now) in
     let e : Entry = entryWords (a .entries .now) (l .i) in
