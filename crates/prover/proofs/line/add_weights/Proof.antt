@@ -11,40 +11,51 @@ use Rattle.prover.proofs.LineLaws.{then, gather, columns-within}
 use Rattle.prover.proofs.line.add_weights.Statement.{statement}
 use Rattle.prover.proofs.line.add_weights.Tie as tie
 
+-- the start, from the first sums; the places of the first two sums, from the third
+abbrev start : tie.After-add-column-sums → tie.Start
+start c = c .before .before .before .before .before .before .before
+
+abbrev at-b : tie.After-add-column-sums3 → tie.After-add-column-sums2
+at-b c = c .before .before .before .before
+
+abbrev at-a : tie.After-add-column-sums3 → tie.After-add-column-sums
+at-a c = at-b c .before .before .before .before
+
 add-column-sums-requires : tie.Need-add-column-sums-requires
 add-column-sums-requires c κs =
-    (c .before .before .before .before .before .before .pre .0, c .before .before .before .before .before .before .pre .1 .in-a)
+    let s = c .before .before .before .before .before .before in
+    (s .pre .0, s .pre .1 .in-a)
 
 add-column-sums-requires-2 : tie.Need-add-column-sums-requires-2
 add-column-sums-requires-2 c κs =
-    let start = c .before .before .before .before .before .before .before .before .before .before in
-    let call = c .before .before .before .add-column-sums in
-    (start .pre .0, columns-within (length (start .args .rows .now)) (entriesOf (start .args .b .now)) (call .kept .1 .1 .1 .1 .0) (start .pre .1 .in-b))
+    let d = c .before .before .before in
+    let s = start d in
+    let kept = d .add-column-sums .kept .1 .1 .1 .1 .0 in
+    (s .pre .0, columns-within (length (s .args .rows .now)) (entriesOf (s .args .b .now)) kept (s .pre .1 .in-b))
 
 add-column-sums-requires-3 : tie.Need-add-column-sums-requires-3
 add-column-sums-requires-3 c κs =
-    let start = c .before .before .before .before .before .before .before .before .before .before .before .before .before .before in
-    let first = c .before .before .before .before .before .before .before .add-column-sums in
-    let second = c .before .before .before .add-column-sums2 in (
-      start .pre .0,
-      columns-within (length (start .args .rows .now)) (entriesOf (start .args .m .now)) (second .kept .1 .1 .1 .1 .0 ∙ first .kept .1 .1 .1 .1 .0)
-          (start .pre .1 .in-c),
-    )
+    let e = c .before .before .before in
+    let d = e .before .before .before .before in
+    let s = start d in
+    let kept = e .add-column-sums2 .kept .1 .1 .1 .1 .0 ∙ d .add-column-sums .kept .1 .1 .1 .1 .0 in
+    (s .pre .0, columns-within (length (s .args .rows .now)) (entriesOf (s .args .m .now)) kept (s .pre .1 .in-c))
 
 same-length : tie.Need-same-length
 same-length c =
-    let third = c .before .before .add-column-sums3 in
-    let second = c .before .before .before .before .before .before .add-column-sums2 in
-    let first = c .before .before .before .before .before .before .before .before .before .before .add-column-sums in
-    third .kept .1 .1 .1 .1 .0 ∙ second .kept .1 .1 .1 .1 .0 ∙ first .kept .1 .1 .1 .1 .0
+    let last = c .before .before in
+    last .add-column-sums3 .kept .1 .1 .1 .1 .0
+    ∙ at-b last .add-column-sums2 .kept .1 .1 .1 .1 .0
+    ∙ at-a last .add-column-sums .kept .1 .1 .1 .1 .0
 
 returns : tie.Need-returns
 unfolding weighted
 returns c q e =
-    let a = c .before .before .before .before .before .before .before .before .before .before .before .before .before .before .before .before .before .args in
-    let first = c .before .before .before .before .before .before .before .before .before .before .add-column-sums in
-    let second = c .before .before .before .before .before .before .add-column-sums2 in
-    let third = c .before .before .add-column-sums3 in
+    let last = c .before .before in
+    let a = start (at-a last) .args in
+    let first = at-a last .add-column-sums in
+    let second = at-b last .add-column-sums2 in
+    let third = last .add-column-sums3 in
     let n : ℕ = length (a .out .now) in
     let rows : List (Elem q) = map of (a .rows .now) in
     let old : ℕ → Elem q = λ j. of (getD (a .out .now) j 0) in
