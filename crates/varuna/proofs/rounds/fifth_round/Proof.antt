@@ -14,9 +14,9 @@ use Rattle.protocol.specs.Calls.{ProverInput, circuitOf, entriesOf, roundRefusa
 use Rattle.circuit.specs.Given.{given, proverInput}
 use Rattle.circuit.proofs.Parts.{largest-by-counts}
 use Rattle.varuna.proofs.AnswerLaws.{matched, fill-done}
-use Rattle.circuit.proofs.Fitting.{RoundFits, round-fits, shaped}
+use Rattle.circuit.proofs.Fitting.{shaped}
 use Rattle.matrix_sumcheck.proofs.GivenLaws.{challenged, matrix-given}
-use Rattle.varuna.proofs.CallRounds.{one-below-largest, known-prime}
+use Rattle.varuna.proofs.CallRounds.{InputFits, input-fits, one-below-largest, known-prime}
 use borrow.Author.Needs.{needs}
 use Rattle.varuna.proofs.rounds.fifth_round.Statement.{statement}
 use Rattle.varuna.proofs.rounds.fifth_round.Tie as tie
@@ -62,19 +62,12 @@ judgement c =
     (less .before .largest-size .ensures k refl ∙ largest-by-counts k (s .args .ea .now) (s .args .eb .now) (s .args .ec .now) refl))
 
 -- nothing was refused
-abbrev Fitting : tie.Start → Type 0
-Fitting s =
-    let a = s .args in
-    RoundFits (a .r) (a .c) (a .x) (a .ea .now) (a .eb .now) (a .ec .now) babyBear (a .z .now) (a .m .now) (a .mask)
-    (lent s) (due s) (challenges s) (points s)
-
-fits : (c : tie.After-enum-told) → Fitting (start (c .before .before))
+fits : (c : tie.After-enum-told)
+    → let s = start (c .before .before) in InputFits (input s) (lent s) (due s) (challenges s) (points s)
 fits c =
-    let s = start (c .before .before) in
-    let a = s .args in
-    round-fits (a .r) (a .c) (a .x) (a .ea .now) (a .eb .now) (a .ec .now) babyBear (a .z .now) (a .m .now) (a .mask)
-    (lent s) (due s) (challenges s) (points s)
-    (matched (c .enum-told .given .1) (judgement (c .before .before)))
+    let j = c .before .before in
+    let s = start j in
+    input-fits (input s) (lent s) (due s) (challenges s) (points s) (j .judge-round .result) (judgement j) (c .enum-told .given .1)
 
 largest-size-requires : tie.Need-largest-size-requires
 largest-size-requires c κs = tt

@@ -14,9 +14,9 @@ use Rattle.protocol.specs.Calls.{ProverInput, circuitOf, roundRefusal, firstRou
 use Rattle.circuit.specs.Given.{given, proverInput}
 use Rattle.prover.specs.CallGiven.{assignmentIn}
 use Rattle.varuna.proofs.AnswerLaws.{matched, fill-done}
-use Rattle.circuit.proofs.Fitting.{RoundFits, round-fits, R-fits, C-fits, X-fits, X-below, shares}
+use Rattle.circuit.proofs.Fitting.{R-fits, C-fits, X-fits, X-below, shares}
 use Rattle.prover.proofs.CallLaws.{assignment-on-C}
-use Rattle.varuna.proofs.CallRounds.{known-prime}
+use Rattle.varuna.proofs.CallRounds.{InputFits, input-fits, known-prime}
 use borrow.Author.Needs.{needs}
 use Rattle.varuna.proofs.rounds.first_round.Statement.{statement}
 use Rattle.varuna.proofs.rounds.first_round.Tie as tie
@@ -53,19 +53,12 @@ judgement c =
     (c .before .before .before .before .before .less .ensures) (c .before .before .before .before .less2 .ensures)
 
 -- nothing was refused
-abbrev Fitting : tie.Start → Type 0
-Fitting s =
-    let a = s .args in
-    RoundFits (a .r) (a .c) (a .x) (a .ea .now) (a .eb .now) (a .ec .now) babyBear (a .z .now) (a .m .now) (a .mask)
-    (lent s) (due s) (challenges s) (points s)
-
-fits : (c : tie.After-enum-told) → Fitting (start (c .before .before))
+fits : (c : tie.After-enum-told)
+    → let s = start (c .before .before) in InputFits (input s) (lent s) (due s) (challenges s) (points s)
 fits c =
-    let s = start (c .before .before) in
-    let a = s .args in
-    round-fits (a .r) (a .c) (a .x) (a .ea .now) (a .eb .now) (a .ec .now) babyBear (a .z .now) (a .m .now) (a .mask)
-    (lent s) (due s) (challenges s) (points s)
-    (matched (c .enum-told .given .1) (judgement (c .before .before)))
+    let j = c .before .before in
+    let s = start j in
+    input-fits (input s) (lent s) (due s) (challenges s) (points s) (j .judge-round .result) (judgement j) (c .enum-told .given .1)
 
 less-requires : tie.Need-less-requires
 less-requires c κs = tt

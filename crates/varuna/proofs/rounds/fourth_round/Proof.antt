@@ -16,9 +16,9 @@ use Rattle.protocol.specs.Calls.{ProverInput, circuitOf, entriesOf, roundRefusa
 use Rattle.circuit.specs.Given.{given, proverInput}
 use Rattle.varuna.specs.Inputs.{threeOf}
 use Rattle.varuna.proofs.AnswerLaws.{matched, fill-three-done, three-same}
-use Rattle.circuit.proofs.Fitting.{RoundFits, round-fits, R-fits, C-fits}
+use Rattle.circuit.proofs.Fitting.{R-fits, C-fits}
 use Rattle.matrix_sumcheck.proofs.GivenLaws.{challenged, matrix-given}
-use Rattle.varuna.proofs.CallRounds.{one-below, known-prime}
+use Rattle.varuna.proofs.CallRounds.{InputFits, input-fits, one-below, known-prime}
 use borrow.Author.Needs.{needs}
 use Rattle.varuna.proofs.rounds.fourth_round.Statement.{statement}
 use Rattle.varuna.proofs.rounds.fourth_round.Tie as tie
@@ -67,19 +67,12 @@ judgement c =
     (less3 .less3 .ensures ∙ ap (λ (n : ℕ). n - 1) (less3 .before .size-of3 .ensures)))
 
 -- nothing was refused
-abbrev Fitting : tie.Start → Type 0
-Fitting s =
-    let a = s .args in
-    RoundFits (a .r) (a .c) (a .x) (a .ea .now) (a .eb .now) (a .ec .now) babyBear (a .z .now) (a .m .now) (a .mask)
-    (lent s) (due s) (challenges s) (points s)
-
-fits : (c : tie.After-enum-told) → Fitting (start (c .before .before))
+fits : (c : tie.After-enum-told)
+    → let s = start (c .before .before) in InputFits (input s) (lent s) (due s) (challenges s) (points s)
 fits c =
-    let s = start (c .before .before) in
-    let a = s .args in
-    round-fits (a .r) (a .c) (a .x) (a .ea .now) (a .eb .now) (a .ec .now) babyBear (a .z .now) (a .m .now) (a .mask)
-    (lent s) (due s) (challenges s) (points s)
-    (matched (c .enum-told .given .1) (judgement (c .before .before)))
+    let j = c .before .before in
+    let s = start j in
+    input-fits (input s) (lent s) (due s) (challenges s) (points s) (j .judge-round .result) (judgement j) (c .enum-told .given .1)
 
 -- the places of the three fills, from the last value
 abbrev at-c : tie.After-matrix-value3 → tie.After-matrix-remainder-into3
