@@ -31,7 +31,8 @@ module _ {A : Type 0} (R : CommRing A) where
   mul (a ∷ f) g = add (scale a g) (𝟘 ∷ mul f g)
 
   -- Division by Y^n - 1. With f = low + Y^n · high, where low has n coefficients: the quotient of f is high plus the
-  -- quotient of high, and the remainder of f is low plus the remainder of high. The first argument bounds the turns.
+  -- quotient of high, and the remainder of f is low plus the remainder of high. In closed form coefficient i of the quotient is
+  -- f_{i+n} + f_{i+2n} + f_{i+3n} + .., and of the remainder f_i + f_{i+n} + f_{i+2n} + ... The first argument bounds the turns.
   abbrev pub quotientIn : ℕ → ℕ → List A → List A
   quotientIn zero n f = []
   quotientIn (suc k) n f = add (drop n f) (quotientIn k n (drop n f))

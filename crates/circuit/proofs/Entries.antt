@@ -40,7 +40,7 @@ entry-at (x ∷ (y ∷ (z ∷ l))) (suc i) d h =
     entry-at l i d (omega arith) ∙ words-later x y z l i
 
 -- the test of one entry, by the sizes alone
-pub fits-by : (k : Circuit) (e : Entry) {r c : ℕ} → k .R ≡ r → k .C ≡ c → fits k e ≡ (ltb (e .row) r && ltb (e .column) c && not (eqb (e .value) 0))
+pub fits-by : (k : Circuit) (e : Entry) {r c : ℕ} → k .|R| ≡ r → k .|C| ≡ c → fits k e ≡ (ltb (e .row) r && ltb (e .column) c && not (eqb (e .value) 0))
 unfolding fits
 fits-by k e er ec = ap₂ (λ (r c : ℕ). ltb (e .row) r && ltb (e .column) c && not (eqb (e .value) 0)) er ec
 

@@ -89,7 +89,7 @@ module _ (r c x : ℕ) (ea eb ec : List ℕ) where
 
   -- α, β, γ are outside R, C, K
   abbrev pub pointTests : (q : Prime) → List ℕ → List Bool
-  pointTests q points = pairs (λ n (y : Elem q). not (inside n y)) (r ∷ c ∷ largest (sizesOf (circuitOf words) .K) ∷ []) (map of points)
+  pointTests q points = pairs (λ n (y : Elem q). not (inside n y)) (r ∷ c ∷ largest (sizesOf (circuitOf words) .|K|) ∷ []) (map of points)
 
   module _ (q : Prime) (z m : List ℕ) (mask : ℕ) (lent due challenges points : List ℕ) where
     -- what a round that is let through brings
@@ -109,7 +109,7 @@ module _ (r c x : ℕ) (ea eb ec : List ℕ) where
         let contents =
         first-none
         (wordRefusal q (entryValues k ++ (z ++ (mask ∷ (m ++ challenges)))) ∷ entryRefusal k ∷ maskRefusal {q = q} k (map of m)
-        ∷ assignmentRefusal {q = q} k (map of z) ∷ challengeRefusal {q = q} 0 (k .R ∷ k .C ∷ largest (sizesOf k .K) ∷ []) (map of points) ∷ [])
+        ∷ assignmentRefusal {q = q} k (map of z) ∷ challengeRefusal {q = q} 0 (k .|R| ∷ k .|C| ∷ largest (sizesOf k .|K|) ∷ []) (map of points) ∷ [])
         (parts .1 .1 .0) in
         record {
           fits =

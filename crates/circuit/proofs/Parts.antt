@@ -31,7 +31,7 @@ pub shape-in-parts : (c : CircuitWords) (z m : List ℕ)
     → shapeRefusal c z m ≡ first (indexShapeRefusal c ∷ refuse 5 3 (assignmentTests (circuitOf c) z m) ∷ [])
 unfolding shapeRefusal indexShapeRefusal listRefusal entryListTests
 shape-in-parts c z m =
-    let size : Option Refusal = sizeRefusal (sizeTests (c .R) (c .C) (c .X) []) in
+    let size : Option Refusal = sizeRefusal (sizeTests (c .|R|) (c .|C|) (c .|X|) []) in
     let lists : List Bool = entryListTests c in
     let more : List Bool = assignmentTests (circuitOf c) z m in
     ap (λ (o : Option Refusal). first (size ∷ o ∷ [])) (refuse-append 5 0 lists more)
@@ -91,7 +91,7 @@ module _ (k : Circuit) (ea eb ec : List ℕ) (matrices : k .matrices ≡ entryLi
 
   -- K
   pub largest-by-counts :
-      largest (sizesOf k .K) ≡ max (sizeFor (length (entriesOf ea))) (max (sizeFor (length (entriesOf eb))) (sizeFor (length (entriesOf ec))))
+      largest (sizesOf k .|K|) ≡ max (sizeFor (length (entriesOf ea))) (max (sizeFor (length (entriesOf eb))) (sizeFor (length (entriesOf ec))))
   unfolding largest sizesOf
   largest-by-counts = ap (λ t. max (sizeFor (length (t .a))) (max (sizeFor (length (t .b))) (sizeFor (length (t .c))))) matrices
 
@@ -139,19 +139,19 @@ larger-is-size l m n =
 
 -- entries that pass 7 are within their matrix
 module _ (k : Circuit) where
-  fits-within : (e : Entry) → fits k e ≡ true → Within (k .R) (k .C) e
+  fits-within : (e : Entry) → fits k e ≡ true → Within (k .|R|) (k .|C|) e
   unfolding fits
   fits-within e t =
-      let u = and-true (ltb (e .row) (k .R) && ltb (e .column) (k .C)) (not (eqb (e .value) 0)) t in
-      let v = and-true (ltb (e .row) (k .R)) (ltb (e .column) (k .C)) (u .0) in
-      record { row-below = ltb-true (e .row) (k .R) (v .0); column-below = ltb-true (e .column) (k .C) (v .1) }
+      let u = and-true (ltb (e .row) (k .|R|) && ltb (e .column) (k .|C|)) (not (eqb (e .value) 0)) t in
+      let v = and-true (ltb (e .row) (k .|R|)) (ltb (e .column) (k .|C|)) (u .0) in
+      record { row-below = ltb-true (e .row) (k .|R|) (v .0); column-below = ltb-true (e .column) (k .|C|) (v .1) }
 
-  after-within : (d : Entry) (es : List Entry) → All (λ t. t ≡ true) (entryTestsAfter k d es) → All (Within (k .R) (k .C)) es
+  after-within : (d : Entry) (es : List Entry) → All (λ t. t ≡ true) (entryTestsAfter k d es) → All (Within (k .|R|) (k .|C|)) es
   unfolding entryTestsAfter
   after-within d [] t = tt
   after-within d (e ∷ es) t = (fits-within e (and-true (fits k e) (rises d e) (t .0) .0), after-within e es (t .1))
 
-  tests-within : (es : List Entry) → All (λ t. t ≡ true) (entryTests k es) → All (Within (k .R) (k .C)) es
+  tests-within : (es : List Entry) → All (λ t. t ≡ true) (entryTests k es) → All (Within (k .|R|) (k .|C|)) es
   unfolding entryTests
   tests-within [] t = tt
   tests-within (e ∷ es) t = (fits-within e (t .0), after-within e es (t .1))
@@ -215,7 +215,7 @@ module _ (q : Prime) (c : CircuitWords) (lent : List Bool) where
       ≡ first (indexShapeRefusal c ∷ refuse 5 3 lent ∷ indexContentsRefusal q (circuitOf c) ∷ [])
   unfolding circuitRefusals circuitOf listRefusal entryListTests indexShapeRefusal indexContentsRefusal
   index-in-parts =
-      let size : Option Refusal = sizeRefusal (sizeTests (c .R) (c .C) (c .X) []) in
+      let size : Option Refusal = sizeRefusal (sizeTests (c .|R|) (c .|C|) (c .|X|) []) in
       let rest : List (Option Refusal) = wordRefusal q (entryValues (circuitOf c) ++ []) ∷ entryRefusal (circuitOf c) ∷ [] in
       ap (λ (o : Option Refusal). first (size ∷ o ∷ rest)) (refuse-append 5 0 (entryListTests c) lent)
       ∙ regroup size (refuse 5 0 (entryListTests c)) (refuse 5 3 lent) rest
@@ -226,9 +226,9 @@ module _ (q : Prime) (c : CircuitWords) (lent : List Bool) where
   unfolding proverRefusal circuitRefusals circuitOf listRefusal entryListTests assignmentTests shapeRefusal contentsRefusal
   prover-in-parts z mask m challenges points =
       let k : Circuit = circuitOf c in
-      let size : Option Refusal = sizeRefusal (sizeTests (c .R) (c .C) (c .X) []) in
+      let size : Option Refusal = sizeRefusal (sizeTests (c .|R|) (c .|C|) (c .|X|) []) in
       let lists : List Bool = entryListTests c ++ assignmentTests k z m in
       let rest : List (Option Refusal) =
       wordRefusal q (entryValues k ++ (z ++ (mask ∷ (m ++ challenges)))) ∷ entryRefusal k ∷ maskRefusal {q = q} k (map of m)
-      ∷ assignmentRefusal {q = q} k (map of z) ∷ challengeRefusal {q = q} 0 (k .R ∷ k .C ∷ largest (sizesOf k .K) ∷ []) (map of points) ∷ [] in
+      ∷ assignmentRefusal {q = q} k (map of z) ∷ challengeRefusal {q = q} 0 (k .|R| ∷ k .|C| ∷ largest (sizesOf k .|K|) ∷ []) (map of points) ∷ [] in
       ap (λ (o : Option Refusal). first (size ∷ o ∷ rest)) (refuse-append 5 0 lists lent) ∙ regroup size (refuse 5 0 lists) (refuse 5 5 lent) rest

@@ -16,7 +16,7 @@ use Rattle.protocol.proofs.AdmissionLaws.{WellFormed}
 
 -- the circuit of three sizes and the words of three entry lists
 abbrev pub given : ℕ → ℕ → ℕ → List ℕ → List ℕ → List ℕ → CircuitWords
-given r c x ea eb ec = record { R = r; C = c; X = x; matrices = record { a = ea; b = eb; c = ec } }
+given r c x ea eb ec = record { |R| = r; |C| = c; |X| = x; matrices = record { a = ea; b = eb; c = ec } }
 
 -- row and column are within a matrix of r rows and c columns
 pub record Within (r c : ℕ) (e : Entry) : Type 0 where

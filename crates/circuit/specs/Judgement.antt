@@ -22,12 +22,12 @@ wholeAndFew n = eqb (n % 3) 0 && leb n (3 * maxSize)
 
 -- 4 and 5 of a circuit, and with z and m
 unfoldable pub indexShapeRefusal : CircuitWords → Option Refusal
-indexShapeRefusal c = first (sizeRefusal (sizeTests (c .R) (c .C) (c .X) []) ∷ listRefusal (entryListTests c) ∷ [])
+indexShapeRefusal c = first (sizeRefusal (sizeTests (c .|R|) (c .|C|) (c .|X|) []) ∷ listRefusal (entryListTests c) ∷ [])
 
 unfoldable pub shapeRefusal : CircuitWords → List ℕ → List ℕ → Option Refusal
 shapeRefusal c z m =
     first
-    (sizeRefusal (sizeTests (c .R) (c .C) (c .X) []) ∷ listRefusal (entryListTests c ++ assignmentTests (circuitOf c) z m) ∷ [])
+    (sizeRefusal (sizeTests (c .|R|) (c .|C|) (c .|X|) []) ∷ listRefusal (entryListTests c ++ assignmentTests (circuitOf c) z m) ∷ [])
 
 -- the lengths that the lent slices of the indexer must have: |K_M| four times for each matrix
 unfoldable pub indexDue : Three (List Entry) → List ℕ
@@ -50,5 +50,5 @@ module _ (q : Prime) (c : Circuit) where
       ∷ entryRefusal c
       ∷ maskRefusal {q = q} c (map of m)
       ∷ assignmentRefusal {q = q} c (map of z)
-      ∷ challengeRefusal {q = q} 0 (c .R ∷ c .C ∷ largest (sizesOf c .K) ∷ []) (map of points)
+      ∷ challengeRefusal {q = q} 0 (c .|R| ∷ c .|C| ∷ largest (sizesOf c .|K|) ∷ []) (map of points)
       ∷ [])

@@ -216,7 +216,7 @@ fn stands_before(row: u32, column: u32, row2: u32, column2: u32) -> bool
 // Entry i fits, and stands after the one before it.
 fn entry_passes(r: u32, c: u32, entries: &[u32], i: usize) -> bool
     requires { ⌜ i < length (entriesOf (now entries)) ⌝ }
-    ensures { λ f. ⌜ ((k : Circuit) → k .R ≡ r → k .C ≡ c → f ≡ getD (entryTests k (entriesOf (now (entries .entry)))) i true) ⌝ }
+    ensures { λ f. ⌜ ((k : Circuit) → k .|R| ≡ r → k .|C| ≡ c → f ≡ getD (entryTests k (entriesOf (now (entries .entry)))) i true) ⌝ }
 {
     let at = 3 * i;
     let row = entries[at];
@@ -233,7 +233,7 @@ fn entry_passes(r: u32, c: u32, entries: &[u32], i: usize) -> bool
 // 7: each entry fits, and they rise by row and then column; the first of them is entry `start` of the call.
 pub fn check_entries(r: u32, c: u32, start: usize, entries: &[u32]) -> Fault
     requires { ⌜ start < 4294967296 ⌝ }
-    ensures { λ f. ⌜ ((k : Circuit) → k .R ≡ r → k .C ≡ c
+    ensures { λ f. ⌜ ((k : Circuit) → k .|R| ≡ r → k .|C| ≡ c
         → faultRefusal f ≡ refuse 7 start (entryTests k (entriesOf (now (entries .entry))))) ⌝ }
 {
     let count = entries.len() / 3;
@@ -250,7 +250,7 @@ pub fn check_entries(r: u32, c: u32, start: usize, entries: &[u32]) -> Fault
 // 7: the entries of A, then B, then C.
 pub fn check_three_entries(r: u32, c: u32, ea: &[u32], eb: &[u32], ec: &[u32]) -> Fault
     requires { ⌜ ThreeLists (now ea) (now eb) (now ec) ⌝ }
-    ensures { λ f. ⌜ ((k : Circuit) → k .R ≡ r → k .C ≡ c → k .matrices ≡ entryLists (now (ea .entry)) (now (eb .entry)) (now (ec .entry))
+    ensures { λ f. ⌜ ((k : Circuit) → k .|R| ≡ r → k .|C| ≡ c → k .matrices ≡ entryLists (now (ea .entry)) (now (eb .entry)) (now (ec .entry))
         → faultRefusal f ≡ entryRefusal k) ⌝ }
 {
     let fault = check_entries(r, c, 0, ea);
@@ -269,7 +269,7 @@ pub fn check_three_entries(r: u32, c: u32, ea: &[u32], eb: &[u32], ec: &[u32]) -
 pub fn check_mask(p: u32, c: u32, m: &[u32]) -> Fault
     requires { ⌜ 0 < p ⌝ }
     requires { ⌜ (isSize c ≡ true) × (length (now m) ≡ 2 * c) ⌝ }
-    ensures { λ f. ⌜ ((q : Prime) → Qualifies q → q .p ≡ p → (k : Circuit) → k .C ≡ c
+    ensures { λ f. ⌜ ((q : Prime) → Qualifies q → q .p ≡ p → (k : Circuit) → k .|C| ≡ c
         → faultRefusal f ≡ maskRefusal {q = q} k (map of (now (m .entry)))) ⌝ }
 {
     let half = c as usize;
@@ -312,7 +312,7 @@ fn check_sums(
     requires { ⌜ 0 < p ⌝ }
     requires { ⌜ (length (now right) ≡ length (now left)) × (length (now product) ≡ length (now left)) ⌝ }
     requires { ⌜ EachWithin (length (now left)) (length (now z)) (now ea) (now eb) (now ec) ⌝ }
-    ensures { λ f. ⌜ ((q : Prime) → q .p ≡ p → (k : Circuit) → k .R ≡ length (now (left .entry))
+    ensures { λ f. ⌜ ((q : Prime) → q .p ≡ p → (k : Circuit) → k .|R| ≡ length (now (left .entry))
         → k .matrices ≡ entryLists (now (ea .entry)) (now (eb .entry)) (now (ec .entry))
         → faultRefusal f ≡ assignmentRefusal {q = q} k (map of (now (z .entry)))) ⌝ }
 {
@@ -327,7 +327,7 @@ pub fn check_assignment(p: u32, r: u32, ea: &[u32], eb: &[u32], ec: &[u32], z: &
     requires { ⌜ 0 < p ⌝ }
     requires { ⌜ r ≤ maxSize ⌝ }
     requires { ⌜ EachWithin r (length (now z)) (now ea) (now eb) (now ec) ⌝ }
-    ensures { λ f. ⌜ ((q : Prime) → q .p ≡ p → (k : Circuit) → k .R ≡ r
+    ensures { λ f. ⌜ ((q : Prime) → q .p ≡ p → (k : Circuit) → k .|R| ≡ r
         → k .matrices ≡ entryLists (now (ea .entry)) (now (eb .entry)) (now (ec .entry))
         → faultRefusal f ≡ assignmentRefusal {q = q} k (map of (now (z .entry)))) ⌝ }
 {

@@ -51,7 +51,7 @@ pub fn judge_shape(
 // 6 and 7 of a circuit whose shape is fine.
 pub fn judge_index_contents(p: u32, r: u32, c: u32, ea: &[u32], eb: &[u32], ec: &[u32]) -> Fault
     requires { ⌜ ThreeLists (now ea) (now eb) (now ec) ⌝ }
-    ensures { λ f. ⌜ ((q : Prime) → q .p ≡ p → (k : Circuit) → k .R ≡ r → k .C ≡ c
+    ensures { λ f. ⌜ ((q : Prime) → q .p ≡ p → (k : Circuit) → k .|R| ≡ r → k .|C| ≡ c
         → k .matrices ≡ entryLists (now (ea .entry)) (now (eb .entry)) (now (ec .entry)) → faultRefusal f ≡ indexContentsRefusal q k) ⌝ }
 {
     let fault = checks::check_three_values(p, ea, eb, ec);
@@ -78,7 +78,7 @@ pub fn judge_contents(
     requires { ⌜ 1 < p ⌝ }
     requires { ⌜ Shaped r c (now ea) (now eb) (now ec) (now z) (now m) ⌝ }
     requires { ⌜ length (now points) ≤ 3 ⌝ }
-    ensures { λ f. ⌜ ((q : Prime) → Qualifies q → q .p ≡ p → (k : Circuit) → k .R ≡ r → k .C ≡ c
+    ensures { λ f. ⌜ ((q : Prime) → Qualifies q → q .p ≡ p → (k : Circuit) → k .|R| ≡ r → k .|C| ≡ c
         → k .matrices ≡ entryLists (now (ea .entry)) (now (eb .entry)) (now (ec .entry))
         → faultRefusal f ≡ contentsRefusal q k (now (z .entry)) mask (now (m .entry)) (now (challenges .entry)) (now (points .entry))) ⌝ }
 {

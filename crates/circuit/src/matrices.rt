@@ -31,7 +31,7 @@ pub fn size_of(entries: &[u32]) -> u32
 // K: the largest |K_M|.
 pub fn largest_size(ea: &[u32], eb: &[u32], ec: &[u32]) -> u32
     ensures { λ n. ⌜ ((k : Circuit) → k .matrices ≡ entryLists (now (ea .entry)) (now (eb .entry)) (now (ec .entry))
-        → n ≡ largest (sizesOf k .K)) ⌝ }
+        → n ≡ largest (sizesOf k .|K|)) ⌝ }
 {
     largest(Triple {
         a: size_of(ea),

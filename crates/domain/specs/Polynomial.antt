@@ -16,22 +16,34 @@ abbrev pub Poly : Prime → Type 0
 Poly q = List (Elem q)
 
 module _ {q : Prime} where
+  infixl 75 _⊞_
+  infixl 75 _⊟_
+  infixr 78 _·_
+  infixl 80 _⊠_
+  -- f(y)
   abbrev pub eval : Poly q → Elem q → Elem q
   eval = Coefficients.eval (primeRing q)
 
-  abbrev pub plus : Poly q → Poly q → Poly q
-  plus = Coefficients.add (primeRing q)
+  abbrev pub constant : Elem q → Poly q
+  constant a = a ∷ []
 
-  abbrev pub scale : Elem q → Poly q → Poly q
-  scale = Coefficients.scale (primeRing q)
+  -- f + g, as long as the longer of the two
+  abbrev pub _⊞_ : Poly q → Poly q → Poly q
+  _⊞_ = Coefficients.add (primeRing q)
 
-  abbrev pub minus : Poly q → Poly q → Poly q
-  minus f g = plus f (scale (neg 𝟙) g)
+  -- k · f, for an element k
+  abbrev pub _·_ : Elem q → Poly q → Poly q
+  _·_ = Coefficients.scale (primeRing q)
 
-  abbrev pub times : Poly q → Poly q → Poly q
-  times = Coefficients.mul (primeRing q)
+  -- f - g
+  abbrev pub _⊟_ : Poly q → Poly q → Poly q
+  f ⊟ g = f ⊞ neg 𝟙 · g
 
-  -- the quotient and the remainder by v_D, |D| = n
+  -- f × g
+  abbrev pub _⊠_ : Poly q → Poly q → Poly q
+  _⊠_ = Coefficients.mul (primeRing q)
+
+  -- the quotient and the remainder by v_D, |D| = n: coefficient i is f_{i+n} + f_{i+2n} + .. and f_i + f_{i+n} + f_{i+2n} + ..
   abbrev pub quotient : ℕ → Poly q → Poly q
   quotient = Coefficients.quotient (primeRing q)
 

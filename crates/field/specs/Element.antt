@@ -46,6 +46,9 @@ module _ {q : Prime} where
   abbrev pub equal : Elem q → Elem q → Bool
   equal a b = eqb (a .word) (b .word)
 
+  abbrev pub wordOf : Elem q → ℕ
+  wordOf a = a .word
+
   -- lists of elements as lists of words
   abbrev pub words : List (Elem q) → List ℕ
   words l = map (λ (a : Elem q). a .word) l

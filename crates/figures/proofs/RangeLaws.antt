@@ -7,7 +7,7 @@ use Rattle.protocol.specs.Messages.{lengths}
 use Rattle.protocol.specs.Record.{sectionLengths, sectionBytes}
 use Rattle.figures.specs.Range.{SizeRange, InRange}
 
-pub largest-range : (s : Sizes) → InRange s → SizeRange (largest (s .K))
+pub largest-range : (s : Sizes) → InRange s → SizeRange (largest (s .|K|))
 unfolding largest
 largest-range s range = record { least = omega arith; most = omega arith }
 
@@ -20,9 +20,9 @@ words-add-up :
 words-add-up R C X a b c k w h g ga gb gc h2 within ew eh eg ea eb ec e2 = omega arith
 
 pub record-words : (s : Sizes) → InRange s
-    → 4 * (5 * s .C - s .X + s .R + s .K .a + s .K .b + s .K .c + largest (s .K) + 1) ≡ sectionBytes s
+    → 4 * (5 * s .|C| - s .|X| + s .|R| + s .|K| .a + s .|K| .b + s .|K| .c + largest (s .|K|) + 1) ≡ sectionBytes s
 unfolding lengths sectionLengths sectionBytes
 record-words s range =
-    let K : SizeRange (largest (s .K)) = largest-range s range in
-    words-add-up (s .R) (s .C) (s .X) (s .K .a) (s .K .b) (s .K .c) (largest (s .K)) _ _ _ _ _ _ _ (range .X)
+    let K : SizeRange (largest (s .|K|)) = largest-range s range in
+    words-add-up (s .|R|) (s .|C|) (s .|X|) (s .|K| .a) (s .|K| .b) (s .|K| .c) (largest (s .|K|)) _ _ _ _ _ _ _ (range .|X|)
     (omega arith) (omega arith) (omega arith) (omega arith) (omega arith) (omega arith) (omega arith)

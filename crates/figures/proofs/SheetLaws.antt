@@ -50,9 +50,9 @@ module _ (r c x a b d : ℕ) where
       let fine : All (λ t. t ≡ true) (sizeTests r c x []) =
       refuse-none 4 0 (sizeTests r c x []) (first-none (sizeRefusal (sizeTests r c x []) ∷ counts ∷ []) e .0) in
       record {
-        R = size-range r (fine .0);
-        C = size-range c (fine .1 .0);
-        X = leb-true x c (and-true (isSize x) (leb x c) (fine .1 .1 .0) .1);
+        |R| = size-range r (fine .0);
+        |C| = size-range c (fine .1 .0);
+        |X| = leb-true x c (and-true (isSize x) (leb x c) (fine .1 .1 .0) .1);
         Ka = size-range (sizeFor a) (sizeFor-is-size a);
         Kb = size-range (sizeFor b) (sizeFor-is-size b);
         Kc = size-range (sizeFor d) (sizeFor-is-size d);

@@ -9,9 +9,9 @@ pub record SizeRange (n : ℕ) : Type 0 where
   pub most : n ≤ maxSize
 
 pub record InRange (s : Sizes) : Type 0 where
-  pub R : SizeRange (s .R)
-  pub C : SizeRange (s .C)
-  pub X : s .X ≤ s .C
-  pub Ka : SizeRange (s .K .a)
-  pub Kb : SizeRange (s .K .b)
-  pub Kc : SizeRange (s .K .c)
+  pub |R| : SizeRange (s .|R|)
+  pub |C| : SizeRange (s .|C|)
+  pub |X| : s .|X| ≤ s .|C|
+  pub Ka : SizeRange (s .|K| .a)
+  pub Kb : SizeRange (s .|K| .b)
+  pub Kc : SizeRange (s .|K| .c)

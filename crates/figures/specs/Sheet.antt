@@ -40,10 +40,10 @@ module _ (s : Sizes) where
   -- |K_M| for the entry counts, and the largest
   abbrev pub sizeFigures : List Figure
   sizeFigures =
-      figure "size of K_A" (s .K .a) "sizeFor"
-      ∷ figure "size of K_B" (s .K .b) "sizeFor"
-      ∷ figure "size of K_C" (s .K .c) "sizeFor"
-      ∷ figure "size of K" (largest (s .K)) "largest"
+      figure "size of K_A" (s .|K| .a) "sizeFor"
+      ∷ figure "size of K_B" (s .|K| .b) "sizeFor"
+      ∷ figure "size of K_C" (s .|K| .c) "sizeFor"
+      ∷ figure "size of K" (largest (s .|K|)) "largest"
       ∷ []
 
   -- the table of messages
@@ -67,15 +67,15 @@ module _ (s : Sizes) where
   module _ (q : Prime) where
     abbrev pub checkFigures : List Figure
     checkFigures =
-        figure "degree of Row" (2 * s .R - 2) "row-means"
-        ∷ figure "allowed points of Row" (q .p - s .R) "allowed-points"
-        ∷ figure "degree of Line" (2 * s .C - 1) "line-means"
-        ∷ figure "allowed points of Line" (q .p - s .C) "allowed-points"
-        ∷ figure "degree of Matrix for A" (2 * s .K .a - 2) "matrix-means"
-        ∷ figure "degree of Matrix for B" (2 * s .K .b - 2) "matrix-means"
-        ∷ figure "degree of Matrix for C" (2 * s .K .c - 2) "matrix-means"
-        ∷ figure "degree of Matrix joined" (2 * largest (s .K) - 2) "values-caught"
-        ∷ figure "allowed points of Matrix" (q .p - largest (s .K)) "allowed-points"
+        figure "degree of Row" (2 * s .|R| - 2) "row-means"
+        ∷ figure "allowed points of Row" (q .p - s .|R|) "allowed-points"
+        ∷ figure "degree of Line" (2 * s .|C| - 1) "line-means"
+        ∷ figure "allowed points of Line" (q .p - s .|C|) "allowed-points"
+        ∷ figure "degree of Matrix for A" (2 * s .|K| .a - 2) "matrix-means"
+        ∷ figure "degree of Matrix for B" (2 * s .|K| .b - 2) "matrix-means"
+        ∷ figure "degree of Matrix for C" (2 * s .|K| .c - 2) "matrix-means"
+        ∷ figure "degree of Matrix joined" (2 * largest (s .|K|) - 2) "values-caught"
+        ∷ figure "allowed points of Matrix" (q .p - largest (s .|K|)) "allowed-points"
         ∷ []
 
 -- how many triples of challenges save a false claim, of how many
@@ -91,10 +91,10 @@ tripleFigures q =
 abbrev pub sizesFor : List ℕ → Sizes
 sizesFor ns =
     record {
-      R = getD ns 0 0;
-      C = getD ns 1 0;
-      X = getD ns 2 0;
-      K = record { a = sizeFor (getD ns 3 0); b = sizeFor (getD ns 4 0); c = sizeFor (getD ns 5 0) };
+      |R| = getD ns 0 0;
+      |C| = getD ns 1 0;
+      |X| = getD ns 2 0;
+      |K| = record { a = sizeFor (getD ns 3 0); b = sizeFor (getD ns 4 0); c = sizeFor (getD ns 5 0) };
     }
 
 -- 4 for the sizes, then 5 for the counts

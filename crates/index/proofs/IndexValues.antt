@@ -47,7 +47,7 @@ padded f d (x ∷ l) (suc n) h =
     let e : suc n - suc (length l) ≡ n - length l = omega arith in
     ap (λ k. f x ∷ (map f l ++ replicate k (f d))) e ∙ ap (λ m. f x ∷ m) (padded f d l n (omega arith))
 
-K-by-count : (k : Circuit) (M : MatrixName) → at (sizesOf k .K) M ≡ sizeFor (length (at (k .matrices) M))
+K-by-count : (k : Circuit) (M : MatrixName) → at (sizesOf k .|K|) M ≡ sizeFor (length (at (k .matrices) M))
 unfolding sizesOf
 K-by-count k A = refl
 K-by-count k B = refl
@@ -73,7 +73,7 @@ module _ {q : Prime} (k : Circuit) (M : MatrixName) (l : List ℕ) (n : ℕ) (h 
   unfolding placed
   placed-by-words f a e =
       let few : length (entriesOf l) ≤ n = omega (arith, sizeFor-holds (length (entriesOf l)) (omega (arith, length-entriesOf l, h .few))) in
-      let K : at (sizesOf k .K) M ≡ n = K-by-count k M ∙ ap (λ es. sizeFor (length es)) entries ∙ sym size in
+      let K : at (sizesOf k .|K|) M ≡ n = K-by-count k M ∙ ap (λ es. sizeFor (length es)) entries ∙ sym size in
       ap₂ (λ (m : ℕ) (es : List Entry). interpolate m (map f es ++ replicate (m - length es) a)) K entries
       ∙ ap (λ a. interpolate n (map f (entriesOf l) ++ replicate (n - length (entriesOf l)) a)) e
       ∙ ap (interpolate n) (padded f noEntry (entriesOf l) n few ∙ ap (tabulate n) (fun-ext (λ i. ap f (entry-or-zeros l i (h .whole)))))

@@ -32,7 +32,7 @@ const ROWCOLVAL: u32 = 3;
 fn index_value(p: u32, gr: u32, gc: u32, which: u32, entries: &[u32], i: usize) -> u32
     requires { ⌜ 1 < p ⌝ }
     requires { ⌜ (which < 4) × (i < maxSize) ⌝ }
-    ensures { λ v. ⌜ ((q : Prime) → q .p ≡ p → (k : Circuit) → gr ≡ (root {q = q} (k .R)) .word → gc ≡ (root {q = q} (k .C)) .word
+    ensures { λ v. ⌜ ((q : Prime) → q .p ≡ p → (k : Circuit) → gr ≡ (root {q = q} (k .|R|)) .word → gc ≡ (root {q = q} (k .|C|)) .word
         → v ≡ (indexPart (entryIndex {q = q} k (entryWords (now (entries .entry)) i)) which) .word) ⌝ }
 {
     let place = 3 * i;
@@ -55,7 +55,7 @@ fn index_value(p: u32, gr: u32, gc: u32, which: u32, entries: &[u32], i: usize) 
 fn fill_index_values(p: u32, gr: u32, gc: u32, which: u32, entries: &[u32], out: &mut [u32])
     requires { ⌜ 1 < p ⌝ }
     requires { ⌜ (which < 4) × (length (now out) ≤ maxSize) ⌝ }
-    ensures { λ _. ⌜ ((q : Prime) → q .p ≡ p → (k : Circuit) → gr ≡ (root {q = q} (k .R)) .word → gc ≡ (root {q = q} (k .C)) .word
+    ensures { λ _. ⌜ ((q : Prime) → q .p ≡ p → (k : Circuit) → gr ≡ (root {q = q} (k .|R|)) .word → gc ≡ (root {q = q} (k .|C|)) .word
         → now (out .exit)
         ≡ words (tabulate (length (now (out .entry)))
         (λ i. indexPart (entryIndex {q = q} k (entryWords (now (entries .entry)) i)) which))) ⌝ }
@@ -82,7 +82,7 @@ fn index_polynomial(
     requires { ⌜ (which < 4) × EntryWords (now entries) ⌝ }
     requires { ⌜ (length (now values) ≡ sizeFor (length (entriesOf (now entries))))
         × (length (now out) ≡ sizeFor (length (entriesOf (now entries)))) ⌝ }
-    ensures { λ _. ⌜ ((q : Prime) → Known q p → (k : Circuit) (M : MatrixName) → k .R ≡ r → k .C ≡ c
+    ensures { λ _. ⌜ ((q : Prime) → Known q p → (k : Circuit) (M : MatrixName) → k .|R| ≡ r → k .|C| ≡ c
         → at (k .matrices) M ≡ entriesOf (now (entries .entry))
         → now (out .exit) ≡ words (indexPart (index {q = q} k M) which)) ⌝ }
 {
@@ -113,7 +113,7 @@ fn index_with(
     requires { ⌜ (isSize r ≡ true) × ((isSize c ≡ true) × EntryWords (now entries)) ⌝ }
     requires { ⌜ length (now values) ≡ sizeFor (length (entriesOf (now entries))) ⌝ }
     requires { ⌜ IndexLengths (sizeFor (length (entriesOf (now entries)))) (now row) (now col) (now rowcol) (now rowcolval) ⌝ }
-    ensures { λ _. ⌜ ((q : Prime) → Known q p → (k : Circuit) (M : MatrixName) → k .R ≡ r → k .C ≡ c
+    ensures { λ _. ⌜ ((q : Prime) → Known q p → (k : Circuit) (M : MatrixName) → k .|R| ≡ r → k .|C| ≡ c
         → at (k .matrices) M ≡ entriesOf (now (entries .entry))
         → indexLists (now (row .exit)) (now (col .exit)) (now (rowcol .exit)) (now (rowcolval .exit))
         ≡ mapIndex words (index {q = q} k M)) ⌝ }
@@ -138,7 +138,7 @@ pub fn index_matrix_into(
     requires { ⌜ 1 < p ⌝ }
     requires { ⌜ (isSize r ≡ true) × ((isSize c ≡ true) × EntryWords (now entries)) ⌝ }
     requires { ⌜ IndexLengths (sizeFor (length (entriesOf (now entries)))) (now row) (now col) (now rowcol) (now rowcolval) ⌝ }
-    ensures { λ _. ⌜ ((q : Prime) → Known q p → (k : Circuit) (M : MatrixName) → k .R ≡ r → k .C ≡ c
+    ensures { λ _. ⌜ ((q : Prime) → Known q p → (k : Circuit) (M : MatrixName) → k .|R| ≡ r → k .|C| ≡ c
         → at (k .matrices) M ≡ entriesOf (now (entries .entry))
         → indexLists (now (row .exit)) (now (col .exit)) (now (rowcol .exit)) (now (rowcolval .exit))
         ≡ mapIndex words (index {q = q} k M)) ⌝ }

@@ -65,9 +65,9 @@ module _ (ws : List ℕ) where
       record {
         circuit =
             record {
-              R = word 0;
-              C = word 1;
-              X = word 2;
+              |R| = word 0;
+              |C| = word 1;
+              |X| = word 2;
               matrices =
                   record { a = entriesOf (part 6 (3 * word 3)); b = entriesOf (part placeB (3 * word 4)); c = entriesOf (part placeC (3 * word 5)) };
             };

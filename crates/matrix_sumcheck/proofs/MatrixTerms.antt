@@ -63,11 +63,11 @@ sumList-map f (x ∷ l) = ap (λ s. f x ⊕ s) (sumList-map f l)
 
 module _ {q : Prime} {p r c : ℕ} {l : List ℕ} {k : Circuit} {M : MatrixName} (G : Given q p r c l k M) where
   -- |K_M|
-  pub given-size : at (sizesOf k .K) M ≡ sizeFor (length (entriesOf l))
+  pub given-size : at (sizesOf k .|K|) M ≡ sizeFor (length (entriesOf l))
   unfolding sizesOf
   given-size = by-name M (G .matrix)
     where
-      by-name : (M : MatrixName) → at (k .matrices) M ≡ entriesOf l → at (sizesOf k .K) M ≡ sizeFor (length (entriesOf l))
+      by-name : (M : MatrixName) → at (k .matrices) M ≡ entriesOf l → at (sizesOf k .|K|) M ≡ sizeFor (length (entriesOf l))
       by-name A e = ap (λ es. sizeFor (length es)) e
       by-name B e = ap (λ es. sizeFor (length es)) e
       by-name C e = ap (λ es. sizeFor (length es)) e
@@ -87,11 +87,11 @@ module _ {q : Prime} {p r c : ℕ} {l : List ℕ} {k : Circuit} {M : MatrixName}
   ratio-by-terms {alpha} {beta} H n e =
       let α : Elem q = of alpha in
       let β : Elem q = of beta in
-      let size : n ≡ at (sizesOf k .K) M = e ∙ sym given-size in
+      let size : n ≡ at (sizesOf k .|K|) M = e ∙ sym given-size in
       sym
       (ratio-by-entries (G .qualifies) k (well-formed-at (H .well-formed)) α β (H .α-outside) (H .β-outside) M
-      ∙ ap₂ (λ m n. interpolate (at (sizesOf k .K) M) (map (termOf m n α β) (at (k .matrices) M)
-      ++ replicate (at (sizesOf k .K) M - length (at (k .matrices) M)) 𝟘)) (G .rows) (G .columns)
-      ∙ ap (λ es. interpolate (at (sizesOf k .K) M) (map (termOf r c α β) es ++ replicate (at (sizesOf k .K) M - length es) 𝟘)) (G .matrix)
+      ∙ ap₂ (λ m n. interpolate (at (sizesOf k .|K|) M) (map (termOf m n α β) (at (k .matrices) M)
+      ++ replicate (at (sizesOf k .|K|) M - length (at (k .matrices) M)) 𝟘)) (G .rows) (G .columns)
+      ∙ ap (λ es. interpolate (at (sizesOf k .|K|) M) (map (termOf r c α β) es ++ replicate (at (sizesOf k .|K|) M - length es) 𝟘)) (G .matrix)
       ∙ ap (λ m. interpolate m (map (termOf r c α β) (entriesOf l) ++ replicate (m - length (entriesOf l)) 𝟘)) (sym size)
       ∙ ap (λ m. interpolate n (terms r c α β l ++ replicate (n - m) 𝟘)) (sym (length-map (entriesOf l) (termOf r c α β))))

@@ -18,15 +18,15 @@ use Rattle.protocol.proofs.AdmissionLaws.{WellFormed}
 pub record Given (q : Prime) (p r c : ℕ) (entries : List ℕ) (k : Circuit) (M : MatrixName) : Type 0 where
   pub known : Known q p
   pub qualifies : Qualifies q
-  pub rows : k .R ≡ r
-  pub columns : k .C ≡ c
+  pub rows : k .|R| ≡ r
+  pub columns : k .|C| ≡ c
   pub matrix : at (k .matrices) M ≡ entriesOf entries
 
 -- the circuit is well-formed, and the challenges lie outside R and C
 pub record Challenged (q : Prime) (p : ℕ) (k : Circuit) (alpha beta : ℕ) : Type 0 where
   pub well-formed : WellFormed p k
-  pub α-outside : Outside {q = q} (k .R) (of alpha)
-  pub β-outside : Outside {q = q} (k .C) (of beta)
+  pub α-outside : Outside {q = q} (k .|R|) (of alpha)
+  pub β-outside : Outside {q = q} (k .|C|) (of beta)
 
 -- three entry lists
 abbrev pub lists : List ℕ → List ℕ → List ℕ → Three (List ℕ)

@@ -8,7 +8,7 @@ ghost use Rattle.field.specs.Prime.{Prime};
 ghost use Rattle.field.specs.Element.{of, words, _⊗_};
 ghost use Rattle.field.specs.Power.{_⊘_};
 ghost use Rattle.domain.specs.Size.{isSize, sizeFor, maxSize};
-ghost use Rattle.domain.specs.Polynomial.{plus, scale};
+ghost use Rattle.domain.specs.Polynomial.{_⊞_, _·_};
 ghost use Rattle.protocol.specs.Three.{MatrixName, mapThree, at};
 ghost use Rattle.protocol.specs.Circuit.{Circuit, largest};
 ghost use Rattle.protocol.specs.Messages.{matrixQuotient, joinedQuotient};
@@ -35,8 +35,8 @@ fn add_matrix(
     requires { ⌜ (sizeFor (length (entriesOf (now entries))) ≤ length (now out) + 1) × (length (now out) < maxSize) ⌝ }
     ensures { λ _. ⌜ ((q : Prime) (k : Circuit) (M : MatrixName) → Given q p r c (now (entries .entry)) k M → Challenged q p k alpha beta
         → now (out .exit)
-        ≡ words (plus (map of (now (out .entry)))
-        (scale (of {q = q} delta ⊗ (of (sizeFor (length (entriesOf (now (entries .entry))))) ⊘ of (length (now (out .entry)) + 1)))
+        ≡ words (_⊞_ (map of (now (out .entry)))
+        (_·_ (of {q = q} delta ⊗ (of (sizeFor (length (entriesOf (now (entries .entry))))) ⊘ of (length (now (out .entry)) + 1)))
         (matrixQuotient k (of alpha) (of beta) M)))) ⌝ }
 {
     let size = circuit::matrices::size_of(entries);

@@ -9,7 +9,7 @@ ghost use Rattle.field.specs.Prime.{Prime};
 ghost use Rattle.field.specs.Element.{of, 𝟘, words};
 ghost use Rattle.domain.specs.Size.{isSize, sizeFor};
 ghost use Rattle.domain.specs.Domain.{element};
-ghost use Rattle.domain.specs.Polynomial.{scale, minus, times};
+ghost use Rattle.domain.specs.Polynomial.{_·_, _⊟_, _⊠_};
 ghost use Rattle.domain.specs.Qualifies.{Qualifies};
 ghost use Rattle.domain.specs.Known.{Known};
 ghost use Rattle.protocol.specs.Three.{MatrixName};
@@ -137,7 +137,7 @@ pub fn matrix_remainder_into(
 // k·f into f.
 fn scale_in_place(p: u32, k: u32, f: &mut [u32])
     requires { ⌜ 0 < p ⌝ }
-    ensures { λ _. ⌜ ((q : Prime) → q .p ≡ p → now (f .exit) ≡ words (scale (of {q = q} k) (map of (now (f .entry))))) ⌝ }
+    ensures { λ _. ⌜ ((q : Prime) → q .p ≡ p → now (f .exit) ≡ words (_·_ (of {q = q} k) (map of (now (f .entry))))) ⌝ }
 {
     let mut i = 0;
     while i < f.len() {
@@ -158,7 +158,7 @@ pub fn numerator_into(
 )
     requires { ⌜ 1 < p ⌝ }
     requires { ⌜ length (now rowcolval) ≡ length (now out) ⌝ }
-    ensures { λ _. ⌜ ((q : Prime) (k : Circuit) (M : MatrixName) → q .p ≡ p → k .R ≡ r → k .C ≡ c
+    ensures { λ _. ⌜ ((q : Prime) (k : Circuit) (M : MatrixName) → q .p ≡ p → k .|R| ≡ r → k .|C| ≡ c
         → now (rowcolval .entry) ≡ words (index {q = q} k M .rowcolval)
         → now (out .exit) ≡ words (numerator {q = q} k (of alpha) (of beta) M)) ⌝ }
 {
@@ -190,7 +190,7 @@ pub fn denominator_into(
     requires { ⌜ length (now row) ≡ length (now out) ⌝ }
     requires { ⌜ length (now col) ≡ length (now out) ⌝ }
     requires { ⌜ length (now rowcol) ≡ length (now out) ⌝ }
-    ensures { λ _. ⌜ ((q : Prime) (k : Circuit) (M : MatrixName) → q .p ≡ p → k .R ≡ r → k .C ≡ c
+    ensures { λ _. ⌜ ((q : Prime) (k : Circuit) (M : MatrixName) → q .p ≡ p → k .|R| ≡ r → k .|C| ≡ c
         → now (row .entry) ≡ words (index {q = q} k M .row) → now (col .entry) ≡ words (index {q = q} k M .col)
         → now (rowcol .entry) ≡ words (index {q = q} k M .rowcol)
         → now (out .exit) ≡ words (denominator {q = q} k (of alpha) (of beta) M)) ⌝ }
@@ -260,7 +260,7 @@ fn difference_into(p: u32, f: &[u32], g: &[u32], h: &[u32], out: &mut [u32])
     requires { ⌜ (length (now f) ≤ length (now out)) × (length (now out) < 2048) ⌝ }
     ensures { λ _. ⌜ ((q : Prime) → q .p ≡ p
         → now (out .exit)
-        ≡ words (minus (map (of {q = q}) (now (f .entry))) (times (map of (now (g .entry))) (map of (now (h .entry)))))) ⌝ }
+        ≡ words (_⊟_ (map (of {q = q}) (now (f .entry))) (_⊠_ (map of (now (g .entry))) (map of (now (h .entry)))))) ⌝ }
 {
     let n = out.len();
     let mut product = [0u32; 2047];

@@ -50,7 +50,7 @@ fn witness_at(p: u32, c: u32, x: u32, z: &[u32], mask: u32, beta: u32) -> u32
     requires { ⌜ 1 < p ⌝ }
     requires { ⌜ (isSize c ≡ true) × (isSize x ≡ true) × (x ≤ c) ⌝ }
     requires { ⌜ length (now z) ≡ c ⌝ }
-    ensures { λ v. ⌜ ((q : Prime) → Known q p → (k : Circuit) → k .C ≡ c → k .X ≡ x
+    ensures { λ v. ⌜ ((q : Prime) → Known q p → (k : Circuit) → k .|C| ≡ c → k .|X| ≡ x
         → v ≡ (eval (witnessPoly {q = q} k (map of (now (z .entry))) (of mask)) (of beta)) .word) ⌝ }
 {
     let n = (c - x) as usize + 1;
@@ -189,7 +189,7 @@ pub fn index_at(p: u32, r: u32, c: u32, entries: &[u32], gamma: u32) -> IndexOpe
     requires { ⌜ 1 < p ⌝ }
     requires { ⌜ (isSize r ≡ true) × (isSize c ≡ true) ⌝ }
     requires { ⌜ EntryWords (now entries) ⌝ }
-    ensures { λ v. ⌜ ((q : Prime) → Known q p → (k : Circuit) (M : MatrixName) → k .R ≡ r → k .C ≡ c
+    ensures { λ v. ⌜ ((q : Prime) → Known q p → (k : Circuit) (M : MatrixName) → k .|R| ≡ r → k .|C| ≡ c
         → at (k .matrices) M ≡ entriesOf (now (entries .entry))
         → indexList v ≡ words (listIndex (indexAt (indexOf {q = q} k M) (of gamma)))) ⌝ }
 {

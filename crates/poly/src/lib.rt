@@ -9,7 +9,7 @@ ghost use Rattle.field.specs.Prime.{Prime};
 ghost use Rattle.field.specs.Element.{of, 𝟘, words};
 ghost use Rattle.domain.specs.Size.{isSize};
 ghost use Rattle.domain.specs.Domain.{root};
-ghost use Rattle.domain.specs.Polynomial.{eval, plus, scale, times, quotient, remainder, interpolate as interpolation};
+ghost use Rattle.domain.specs.Polynomial.{eval, _⊞_, _·_, _⊠_, quotient, remainder, interpolate as interpolation};
 
 // f(x)
 pub fn evaluate(p: u32, f: &[u32], x: u32) -> u32
@@ -48,7 +48,7 @@ pub fn add_scaled(p: u32, f: &mut [u32], k: u32, g: &[u32])
     requires { ⌜ 0 < p ⌝ }
     requires { ⌜ length (now g) ≤ length (now f) ⌝ }
     ensures { λ _. ⌜ ((q : Prime) → q .p ≡ p
-        → now (f .exit) ≡ words (plus (map of (now (f .entry))) (scale (of {q = q} k) (map of (now (g .entry)))))) ⌝ }
+        → now (f .exit) ≡ words (_⊞_ (map of (now (f .entry))) (_·_ (of {q = q} k) (map of (now (g .entry)))))) ⌝ }
 {
     let mut i = 0;
     while i < f.len() {
@@ -63,7 +63,7 @@ pub fn multiply_into(p: u32, f: &[u32], g: &[u32], out: &mut [u32])
     requires { ⌜ (0 < length (now f)) × (0 < length (now g)) ⌝ }
     requires { ⌜ length (now out) + 1 ≡ length (now f) + length (now g) ⌝ }
     ensures { λ _. ⌜ ((q : Prime) → q .p ≡ p
-        → now (out .exit) ≡ words (times (map (of {q = q}) (now (f .entry))) (map of (now (g .entry))))) ⌝ }
+        → now (out .exit) ≡ words (_⊠_ (map (of {q = q}) (now (f .entry))) (map of (now (g .entry))))) ⌝ }
 {
     clear(out);
     let mut i = f.len();

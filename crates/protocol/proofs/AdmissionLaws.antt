@@ -27,8 +27,8 @@ use Rattle.protocol.proofs.RefusalLaws.{first-none, refuse-none, and-tr
 
 -- an entry stands within its matrix, and its value is a field word other than 0
 pub record EntryFits (p : ℕ) (c : Circuit) (e : Entry) : Type 0 where
-  pub row-below : e .row < c .R
-  pub column-below : e .column < c .C
+  pub row-below : e .row < c .|R|
+  pub column-below : e .column < c .|C|
   pub value-positive : 0 < e .value
   pub value-below : e .value < p
 
@@ -43,10 +43,10 @@ Rising (d ∷ []) = Unit {0}
 Rising (d ∷ (e ∷ l)) = Before d e × Rising (e ∷ l)
 
 pub record WellFormed (p : ℕ) (c : Circuit) : Type 0 where
-  pub R-size : isSize (c .R) ≡ true
-  pub C-size : isSize (c .C) ≡ true
-  pub X-size : isSize (c .X) ≡ true
-  pub X-within : c .X ≤ c .C
+  pub R-size : isSize (c .|R|) ≡ true
+  pub C-size : isSize (c .|C|) ≡ true
+  pub X-size : isSize (c .|X|) ≡ true
+  pub X-within : c .|X| ≤ c .|C|
   pub few : (M : MatrixName) → length (at (c .matrices) M) ≤ maxSize
   pub fit : (M : MatrixName) → All (EntryFits p c) (at (c .matrices) M)
   pub rising : (M : MatrixName) → Rising (at (c .matrices) M)
@@ -70,11 +70,11 @@ module _ (q : Prime) (c : Circuit) where
   fits-true : (e : Entry) → fits c e ≡ true → e .value < q .p → EntryFits (q .p) c e
   unfolding fits
   fits-true e t below =
-      let u = and-true (ltb (e .row) (c .R) && ltb (e .column) (c .C)) (not (eqb (e .value) 0)) t in
-      let v = and-true (ltb (e .row) (c .R)) (ltb (e .column) (c .C)) (u .0) in
+      let u = and-true (ltb (e .row) (c .|R|) && ltb (e .column) (c .|C|)) (not (eqb (e .value) 0)) t in
+      let v = and-true (ltb (e .row) (c .|R|)) (ltb (e .column) (c .|C|)) (u .0) in
       record {
-        row-below = ltb-true (e .row) (c .R) (v .0);
-        column-below = ltb-true (e .column) (c .C) (v .1);
+        row-below = ltb-true (e .row) (c .|R|) (v .0);
+        column-below = ltb-true (e .column) (c .|C|) (v .1);
         value-positive = omega (arith, eqb-false (e .value) 0 (not-true (eqb (e .value) 0) (u .1)));
         value-below = below;
       }
@@ -104,7 +104,7 @@ values-below q (e ∷ es) h = (h .0, values-below q es (h .1))
 module _ (q : Prime) (c : Circuit) where
   -- from the rows 4, 5, 6 and 7 of the circuit alone
   well-formed :
-      sizeRefusal (sizeTests (c .R) (c .C) (c .X) []) ≡ none → All (λ t. t ≡ true) (countTests c)
+      sizeRefusal (sizeTests (c .|R|) (c .|C|) (c .|X|) []) ≡ none → All (λ t. t ≡ true) (countTests c)
       → All (λ w. w < q .p) (entryValues c) → entryRefusal c ≡ none → WellFormed (q .p) c
   unfolding sizeRefusal sizeTests countTests entryRefusal entryValues
   well-formed size count below entry =
@@ -112,8 +112,8 @@ module _ (q : Prime) (c : Circuit) where
       let entries : MatrixName → List Entry = at (c .matrices) in
       let value : Entry → ℕ = λ e. e .value in
       let Low : Entry → Type 0 = λ e. e .value < q .p in
-      let s = refuse-none 4 0 (isSize (c .R) ∷ isSize (c .C) ∷ (isSize (c .X) && leb (c .X) (c .C)) ∷ []) size in
-      let x = and-true (isSize (c .X)) (leb (c .X) (c .C)) (s .1 .1 .0) in
+      let s = refuse-none 4 0 (isSize (c .|R|) ∷ isSize (c .|C|) ∷ (isSize (c .|X|) && leb (c .|X|) (c .|C|)) ∷ []) size in
+      let x = and-true (isSize (c .|X|)) (leb (c .|X|) (c .|C|)) (s .1 .1 .0) in
       let t = append-all (λ t. t ≡ true) (tests A) (tests B ++ tests C) (refuse-none 7 0 (tests A ++ (tests B ++ tests C)) entry) in
       let u = append-all (λ t. t ≡ true) (tests B) (tests C) (t .1) in
       let v = append-all Low (entries A) (entries B ++ entries C) (values-below q (entries A ++ (entries B ++ entries C)) below) in
@@ -127,7 +127,7 @@ module _ (q : Prime) (c : Circuit) where
         R-size = s .0;
         C-size = s .1 .0;
         X-size = x .0;
-        X-within = leb-true (c .X) (c .C) (x .1);
+        X-within = leb-true (c .|X|) (c .|C|) (x .1);
         few = elim [
           | A ↦ leb-true (length (entries A)) maxSize (count .0)
           | B ↦ leb-true (length (entries B)) maxSize (count .1 .0)
@@ -147,14 +147,14 @@ module _ (q : Prime) (c : Circuit) where
 -- a job that is let through: its circuit, the lengths of its lists, its words, its mask, its rows and its challenges
 pub record JobFits (q : Prime) (j : Job) : Type 0 where
   pub circuit-fits : WellFormed (q .p) (j .circuit)
-  pub z-length : length (j .z) ≡ j .circuit .C
-  pub m-length : length (j .m) ≡ 2 * j .circuit .C
+  pub z-length : length (j .z) ≡ j .circuit .|C|
+  pub m-length : length (j .m) ≡ 2 * j .circuit .|C|
   pub words-fit : All (λ w. w < q .p) (jobWords q j)
-  pub mask-sum : sumOver (j .circuit .C) (eval {q = q} (map of (j .m))) ≡ 𝟘
+  pub mask-sum : sumOver (j .circuit .|C|) (eval {q = q} (map of (j .m))) ≡ 𝟘
   pub satisfied : Satisfied {q = q} (j .circuit) (map of (j .z))
-  pub α-outside : Outside {q = q} (j .circuit .R) (of (j .α))
-  pub β-outside : Outside {q = q} (j .circuit .C) (of (j .β))
-  pub γ-outside : Outside {q = q} (largest (sizesOf (j .circuit) .K)) (of (j .γ))
+  pub α-outside : Outside {q = q} (j .circuit .|R|) (of (j .α))
+  pub β-outside : Outside {q = q} (j .circuit .|C|) (of (j .β))
+  pub γ-outside : Outside {q = q} (largest (sizesOf (j .circuit) .|K|)) (of (j .γ))
 
 -- a test that holds below n, at one number
 tabulate-true : (n : ℕ) (test : ℕ → Bool) → All (λ t. t ≡ true) (tabulate n test) → (i : ℕ) → i < n → test i ≡ true
@@ -168,7 +168,7 @@ job-fits q j free =
     let c : Circuit = j .circuit in
     let z : List (Elem q) = map of (j .z) in
     let lists : List Bool = countTests c ++ assignmentTests c (j .z) (j .m) in
-    let domains : List ℕ = c .R ∷ c .C ∷ largest (sizesOf c .K) ∷ [] in
+    let domains : List ℕ = c .|R| ∷ c .|C| ∷ largest (sizesOf c .|K|) ∷ [] in
     let challenges : List (Elem q) = of (j .α) ∷ of (j .β) ∷ of (j .γ) ∷ [] in
     let rows =
     first-none
@@ -177,18 +177,18 @@ job-fits q j free =
     free in
     let listed = append-all (λ t. t ≡ true) (countTests c) (assignmentTests c (j .z) (j .m)) (refuse-none 5 0 lists (rows .1 .0)) in
     let below = append-all (λ w. w < q .p) (entryValues c) (jobWords q j) (wordRefusal-none q (entryValues c ++ jobWords q j) (rows .1 .1 .0)) in
-    let mask = refuse-none 8 0 (equal {q = q} (sumOver (c .C) (eval (map of (j .m)))) 𝟘 ∷ []) (rows .1 .1 .1 .1 .0) in
+    let mask = refuse-none 8 0 (equal {q = q} (sumOver (c .|C|) (eval (map of (j .m)))) 𝟘 ∷ []) (rows .1 .1 .1 .1 .0) in
     let test : ℕ → Bool = λ i. equal (rowSum c A z i ⊗ rowSum c B z i) (rowSum c C z i) in
-    let holds = refuse-none 9 0 (tabulate (c .R) test) (rows .1 .1 .1 .1 .1 .0) in
+    let holds = refuse-none 9 0 (tabulate (c .|R|) test) (rows .1 .1 .1 .1 .1 .0) in
     let outside = refuse-none 10 0 (pairs (λ n y. not (inside n y)) domains challenges) (rows .1 .1 .1 .1 .1 .1 .0) in
     record {
       circuit-fits = well-formed q c (rows .0) (listed .0) (below .0) (rows .1 .1 .1 .0);
-      z-length = eqb-true (length (j .z)) (c .C) (listed .1 .0);
-      m-length = eqb-true (length (j .m)) (2 * c .C) (listed .1 .1 .0);
+      z-length = eqb-true (length (j .z)) (c .|C|) (listed .1 .0);
+      m-length = eqb-true (length (j .m)) (2 * c .|C|) (listed .1 .1 .0);
       words-fit = below .1;
-      mask-sum = equal-true (sumOver (c .C) (eval (map of (j .m)))) 𝟘 (mask .0);
-      satisfied = λ i l. equal-true (rowSum c A z i ⊗ rowSum c B z i) (rowSum c C z i) (tabulate-true (c .R) test holds i l);
-      α-outside = not-true (inside {q = q} (c .R) (of (j .α))) (outside .0);
-      β-outside = not-true (inside {q = q} (c .C) (of (j .β))) (outside .1 .0);
-      γ-outside = not-true (inside {q = q} (largest (sizesOf c .K)) (of (j .γ))) (outside .1 .1 .0);
+      mask-sum = equal-true (sumOver (c .|C|) (eval (map of (j .m)))) 𝟘 (mask .0);
+      satisfied = λ i l. equal-true (rowSum c A z i ⊗ rowSum c B z i) (rowSum c C z i) (tabulate-true (c .|R|) test holds i l);
+      α-outside = not-true (inside {q = q} (c .|R|) (of (j .α))) (outside .0);
+      β-outside = not-true (inside {q = q} (c .|C|) (of (j .β))) (outside .1 .0);
+      γ-outside = not-true (inside {q = q} (largest (sizesOf c .|K|)) (of (j .γ))) (outside .1 .1 .0);
     }

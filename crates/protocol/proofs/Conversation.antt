@@ -22,10 +22,10 @@ use Rattle.domain.specs.Polynomial.{Poly}
 use Rattle.protocol.specs.Three.{MatrixName, A, B, C, Three, at, listed, mapThree}
 use Rattle.protocol.specs.Circuit.{Circuit, Sizes, sizesOf, largest, publicPart}
 use Rattle.protocol.specs.Index.{Index, mapIndex}
-use Rattle.protocol.specs.Checks.{Heard, Openings, mapHeard, mapOpenings, listOpenings, verdict}
+use Rattle.protocol.specs.Checks.{Transcript, Openings, mapTranscript, mapOpenings, listOpenings, verdict}
 use Rattle.protocol.specs.Messages.{Messages, lengths}
 use Rattle.protocol.specs.Refusals.{Refusal, sizeTests, sixSizeTests, turnRefusal, sizeRefusal, listRefusal, wordRefusal, challengeRefusal, lengthRefusal}
-use Rattle.protocol.specs.Session.{Session, Stepped, Taken, Judged, unopened, silence, unless, onward, all, inTurn, openStep, verdictOf, alphaStep, etaStep, betaStep, deltaStep, gammaStep, openingsStep, openRefusal, alphaRefusal, etaRefusal, betaRefusal, deltaRefusal, gammaRefusal, openingsRefusal}
+use Rattle.protocol.specs.Session.{Session, Stepped, Taken, Judged, unopened, blank, unless, onward, all, inTurn, openStep, verdictOf, alphaStep, etaStep, betaStep, deltaStep, gammaStep, openingsStep, openRefusal, alphaRefusal, etaRefusal, betaRefusal, deltaRefusal, gammaRefusal, openingsRefusal}
 use Rattle.protocol.specs.Job.{Job, jobWords, publicWords, conversation}
 use Rattle.protocol.proofs.AdmissionLaws.{WellFormed, JobFits}
 use Rattle.protocol.proofs.IndexPolynomials.{K-size}
@@ -69,7 +69,7 @@ module _ {q : Prime} where
 -- the sizes of a circuit that is let through
 six-sizes : (q : Prime) (c : Circuit) → WellFormed (q .p) c → All (λ t. t ≡ true) (sixSizeTests (sizesOf c))
 unfolding sixSizeTests sizeTests sizesOf
-six-sizes q c W = (W .R-size, (W .C-size, (ap₂ _&&_ (W .X-size) (le-leb (c .X) (c .C) (W .X-within)), (K-size c A, (K-size c B, (K-size c C, tt))))))
+six-sizes q c W = (W .R-size, (W .C-size, (ap₂ _&&_ (W .X-size) (le-leb (c .|X|) (c .|C|) (W .X-within)), (K-size c A, (K-size c B, (K-size c C, tt))))))
 
 -- the challenge words of a job
 pub record ChallengeWords (q : Prime) (j : Job) : Type 0 where
@@ -109,19 +109,19 @@ module _ (q : Prime) (j : Job) (F : JobFits q j) (p : Messages (Poly q) (Elem q)
   abbrev x : List (Elem q)
   x = publicPart c (map of (j .z))
 
-  -- the session after n steps, having heard h
-  abbrev state : ℕ → Heard ℕ → Session
-  state n h = record { stage = n; sizes = s; x = words x ++ replicate (maxSize - length (words x)) 0; heard = h }
+  -- the session after n steps, with the transcript t
+  abbrev state : ℕ → Transcript ℕ → Session
+  state n h = record { stage = n; sizes = s; x = words x ++ replicate (maxSize - length (words x)) 0; transcript = h }
 
-  abbrev taken : ℕ → Heard ℕ → Stepped
+  abbrev taken : ℕ → Transcript ℕ → Stepped
   taken n h = record { session = state n h; answer = Taken }
 
   below : ChallengeWords q j
   below = challenge-words q j (F .words-fit)
 
-  length-x : length (words x) ≡ s .X
+  length-x : length (words x) ≡ s .|X|
   unfolding publicPart sizesOf
-  length-x = length-map x _ ∙ length-tabulate (c .X) _
+  length-x = length-map x _ ∙ length-tabulate (c .|X|) _
 
   in-turn : (n : ℕ) → turnRefusal (inTurn n n s) ≡ none
   unfolding turnRefusal inTurn
@@ -131,53 +131,53 @@ module _ (q : Prime) (j : Job) (F : JobFits q j) (p : Messages (Poly q) (Elem q)
   unfolding challengeRefusal
   allowed position n y outside = none-refuse 10 position (not (inside n y) ∷ []) (ap not outside, tt)
 
-  open-taken : openStep q unopened s (publicWords q j) ≡ taken 1 silence
+  open-taken : openStep q unopened s (publicWords q j) ≡ taken 1 blank
   unfolding openStep openRefusal publicWords sizeRefusal listRefusal
   open-taken =
-      unless-none _ unopened (taken 1 silence)
-      (none-first (sizeRefusal (sixSizeTests s) ∷ listRefusal (eqb (length (words x)) (s .X) ∷ []) ∷ wordRefusal q (words x) ∷ []) (
+      unless-none _ unopened (taken 1 blank)
+      (none-first (sizeRefusal (sixSizeTests s) ∷ listRefusal (eqb (length (words x)) (s .|X|) ∷ []) ∷ wordRefusal q (words x) ∷ []) (
         none-refuse 4 0 (sixSizeTests s) (six-sizes q c (F .circuit-fits)),
-        (none-refuse 5 0 (eqb (length (words x)) (s .X) ∷ []) (eq-eqb _ _ length-x, tt), (none-wordRefusal q (words x) (words-below x), tt)),
+        (none-refuse 5 0 (eqb (length (words x)) (s .|X|) ∷ []) (eq-eqb _ _ length-x, tt), (none-wordRefusal q (words x) (words-below x), tt)),
       ))
 
-  -- what is heard, step by step
-  abbrev afterAlpha : Heard ℕ
-  afterAlpha = record { α = j .α; sums = silence .sums; η = silence .η; β = 0; values = silence .values; δ = silence .δ; γ = 0 }
+  -- the transcript, step by step
+  abbrev afterAlpha : Transcript ℕ
+  afterAlpha = record { α = j .α; sums = blank .sums; η = blank .η; β = 0; values = blank .values; δ = blank .δ; γ = 0 }
 
-  abbrev afterEta : Heard ℕ
-  afterEta = record { α = j .α; sums = mapThree word (p .sums); η = j .η; β = 0; values = silence .values; δ = silence .δ; γ = 0 }
+  abbrev afterEta : Transcript ℕ
+  afterEta = record { α = j .α; sums = mapThree word (p .sums); η = j .η; β = 0; values = blank .values; δ = blank .δ; γ = 0 }
 
-  abbrev afterBeta : Heard ℕ
-  afterBeta = record { α = j .α; sums = mapThree word (p .sums); η = j .η; β = j .β; values = silence .values; δ = silence .δ; γ = 0 }
+  abbrev afterBeta : Transcript ℕ
+  afterBeta = record { α = j .α; sums = mapThree word (p .sums); η = j .η; β = j .β; values = blank .values; δ = blank .δ; γ = 0 }
 
-  abbrev afterDelta : Heard ℕ
+  abbrev afterDelta : Transcript ℕ
   afterDelta = record { α = j .α; sums = mapThree word (p .sums); η = j .η; β = j .β; values = mapThree word (p .values); δ = j .δ; γ = 0 }
 
-  abbrev afterGamma : Heard ℕ
+  abbrev afterGamma : Transcript ℕ
   afterGamma = record { α = j .α; sums = mapThree word (p .sums); η = j .η; β = j .β; values = mapThree word (p .values); δ = j .δ; γ = j .γ }
 
   abbrev table : Messages ℕ ℕ
   table = lengths s
 
-  alpha-taken : alphaStep q (state 1 silence) (length (p .witness)) (length (p .mask)) (length (p .rowQuotient)) (j .α) ≡ taken 2 afterAlpha
+  alpha-taken : alphaStep q (state 1 blank) (length (p .witness)) (length (p .mask)) (length (p .rowQuotient)) (j .α) ≡ taken 2 afterAlpha
   unfolding alphaStep alphaRefusal
   alpha-taken =
       let declared : List ℕ = length (p .witness) ∷ length (p .mask) ∷ length (p .rowQuotient) ∷ [] in
       let most : List ℕ = table .witness ∷ table .mask ∷ table .rowQuotient ∷ [] in
-      unless-none _ (state 1 silence) (taken 2 afterAlpha)
+      unless-none _ (state 1 blank) (taken 2 afterAlpha)
       (none-first
-      (turnRefusal (inTurn 1 1 s) ∷ wordRefusal q (j .α ∷ []) ∷ challengeRefusal 0 (s .R ∷ []) (of (j .α) ∷ []) ∷ lengthRefusal declared most ∷ []) (
+      (turnRefusal (inTurn 1 1 s) ∷ wordRefusal q (j .α ∷ []) ∷ challengeRefusal 0 (s .|R| ∷ []) (of (j .α) ∷ []) ∷ lengthRefusal declared most ∷ []) (
         in-turn 1,
         (
           none-wordRefusal q (j .α ∷ []) (below .α-below, tt),
           (
-            allowed 0 (s .R) (of (j .α)) α-outside,
+            allowed 0 (s .|R|) (of (j .α)) α-outside,
             (none-lengthRefusal declared most (short .witness-short, (short .mask-short, (short .rowQuotient-short, tt))), tt),
           ),
         ),
       ))
     where
-      α-outside : Outside {q = q} (s .R) (of (j .α))
+      α-outside : Outside {q = q} (s .|R|) (of (j .α))
       α-outside = unfold sizesOf in F .α-outside
 
   eta-taken : etaStep q (state 2 afterAlpha) (mapThree word (p .sums)) (j .η) ≡ taken 3 afterEta
@@ -197,18 +197,18 @@ module _ (q : Prime) (j : Job) (F : JobFits q j) (p : Messages (Poly q) (Elem q)
       let most : List ℕ = table .lineRemainder ∷ table .lineQuotient ∷ [] in
       unless-none _ (state 3 afterEta) (taken 4 afterBeta)
       (none-first
-      (turnRefusal (inTurn 3 3 s) ∷ wordRefusal q (j .β ∷ []) ∷ challengeRefusal 1 (s .C ∷ []) (of (j .β) ∷ []) ∷ lengthRefusal declared most ∷ []) (
+      (turnRefusal (inTurn 3 3 s) ∷ wordRefusal q (j .β ∷ []) ∷ challengeRefusal 1 (s .|C| ∷ []) (of (j .β) ∷ []) ∷ lengthRefusal declared most ∷ []) (
         in-turn 3,
         (
           none-wordRefusal q (j .β ∷ []) (below .β-below, tt),
           (
-            allowed 1 (s .C) (of (j .β)) β-outside,
+            allowed 1 (s .|C|) (of (j .β)) β-outside,
             (none-lengthRefusal declared most (short .lineRemainder-short, (short .lineQuotient-short, tt)), tt),
           ),
         ),
       ))
     where
-      β-outside : Outside {q = q} (s .C) (of (j .β))
+      β-outside : Outside {q = q} (s .|C|) (of (j .β))
       β-outside = unfold sizesOf in F .β-outside
 
   delta-taken : deltaStep q (state 4 afterBeta) (mapThree word (p .values)) (mapThree length (p .matrixRemainders)) (j .δ) ≡ taken 5 afterDelta
@@ -233,24 +233,24 @@ module _ (q : Prime) (j : Job) (F : JobFits q j) (p : Messages (Poly q) (Elem q)
       let most : List ℕ = table .joinedQuotient ∷ [] in
       unless-none _ (state 5 afterDelta) (taken 6 afterGamma)
       (none-first
-      (turnRefusal (inTurn 5 5 s) ∷ wordRefusal q (j .γ ∷ []) ∷ challengeRefusal 2 (largest (s .K) ∷ []) (of (j .γ) ∷ []) ∷ lengthRefusal declared most ∷ []) (
+      (turnRefusal (inTurn 5 5 s) ∷ wordRefusal q (j .γ ∷ []) ∷ challengeRefusal 2 (largest (s .|K|) ∷ []) (of (j .γ) ∷ []) ∷ lengthRefusal declared most ∷ []) (
         in-turn 5,
         (
           none-wordRefusal q (j .γ ∷ []) (below .γ-below, tt),
-          (allowed 2 (largest (s .K)) (of (j .γ)) (F .γ-outside), (none-lengthRefusal declared most (short .joinedQuotient-short, tt), tt)),
+          (allowed 2 (largest (s .|K|)) (of (j .γ)) (F .γ-outside), (none-lengthRefusal declared most (short .joinedQuotient-short, tt), tt)),
         ),
       ))
 
-  -- what the verifier has heard, as elements
-  abbrev pub heard : Heard (Elem q)
-  heard =
+  -- the transcript, as elements
+  abbrev pub transcript : Transcript (Elem q)
+  transcript =
       record { α = of (j .α); sums = p .sums; η = mapThree of (j .η); β = of (j .β); values = p .values; δ = mapThree of (j .δ); γ = of (j .γ) }
 
-  public-back : map (of {q = q}) (take (s .X) (words x ++ replicate (maxSize - length (words x)) 0)) ≡ x
-  public-back = ap (map of) (take-at (words x) (replicate (maxSize - length (words x)) 0) (s .X) length-x) ∙ of-words x
+  public-back : map (of {q = q}) (take (s .|X|) (words x ++ replicate (maxSize - length (words x)) 0)) ≡ x
+  public-back = ap (map of) (take-at (words x) (replicate (maxSize - length (words x)) 0) (s .|X|) length-x) ∙ of-words x
 
-  heard-back : mapHeard of afterGamma ≡ heard
-  heard-back = λ i.
+  transcript-back : mapTranscript of afterGamma ≡ transcript
+  transcript-back = λ i.
       record {
         α = of (j .α);
         sums = three-back (p .sums) i;
@@ -261,16 +261,16 @@ module _ (q : Prime) (j : Job) (F : JobFits q j) (p : Messages (Poly q) (Elem q)
         γ = of (j .γ);
       }
 
-  openings-judged : openingsStep q (state 6 afterGamma) (mapOpenings word o) .answer ≡ Judged (verdict s x heard o)
+  openings-judged : openingsStep q (state 6 afterGamma) (mapOpenings word o) .answer ≡ Judged (verdict s x transcript o)
   unfolding openingsStep openingsRefusal verdictOf
   openings-judged =
       let ws : List ℕ = listOpenings (mapOpenings word o) in
       ap (λ (t : Stepped). t .answer)
       (unless-none _ (state 6 afterGamma) (onward (state 6 afterGamma) afterGamma (Judged (verdictOf q (state 6 afterGamma) (mapOpenings word o))))
       (none-first (turnRefusal (inTurn 6 6 s) ∷ wordRefusal q ws ∷ []) (in-turn 6, (none-wordRefusal q ws (words-below (listOpenings o)), tt))))
-      ∙ ap (λ x. Judged (verdict s x (mapHeard of afterGamma) (mapOpenings of (mapOpenings word o)))) public-back
-      ∙ ap₂ (λ h o. Judged (verdict s x h o)) heard-back (openings-back o)
+      ∙ ap (λ x. Judged (verdict s x (mapTranscript of afterGamma) (mapOpenings of (mapOpenings word o)))) public-back
+      ∙ ap₂ (λ h o. Judged (verdict s x h o)) transcript-back (openings-back o)
 
-  pub conversation-judged : conversation q j p o ≡ Taken ∷ Taken ∷ Taken ∷ Taken ∷ Taken ∷ Taken ∷ Judged (verdict s x heard o) ∷ []
+  pub conversation-judged : conversation q j p o ≡ Taken ∷ Taken ∷ Taken ∷ Taken ∷ Taken ∷ Taken ∷ Judged (verdict s x transcript o) ∷ []
   unfolding conversation
   conversation-judged = rw (open-taken, alpha-taken, eta-taken, beta-taken, delta-taken, gamma-taken, openings-judged) refl

@@ -35,59 +35,59 @@ module _ {q : Prime} (Q : Qualifies q) (c : Circuit) (W : WellFormed (q .p) c) (
 
   -- L_row of R at y, and L_col of C at y, for an entry
   abbrev rowValue : Entry → Elem q → Elem q
-  rowValue e y = lagrange (c .R) (element (c .R) (e .row)) y
+  rowValue e y = lagrange (c .|R|) (element (c .|R|) (e .row)) y
 
   abbrev columnValue : Entry → Elem q → Elem q
-  columnValue e y = lagrange (c .C) (element (c .C) (e .column)) y
+  columnValue e y = lagrange (c .|C|) (element (c .|C|) (e .column)) y
 
-  pub extension-polynomial : (α : Elem q) → IsPolynomial (c .C) (extension c M α)
+  pub extension-polynomial : (α : Elem q) → IsPolynomial (c .|C|) (extension c M α)
   unfolding extension
   extension-polynomial α =
       polynomial-sumList (λ e y. of (e .value) ⊗ rowValue e α ⊗ columnValue e y) entries
-      (all-map (λ e f. polynomial-scale (of (e .value) ⊗ rowValue e α) (lagrange-polynomial Q (c .C) (W .C-size) (e .column) (f .column-below))) entries (W .fit M))
+      (all-map (λ e f. polynomial-scale (of (e .value) ⊗ rowValue e α) (lagrange-polynomial Q (c .|C|) (W .C-size) (e .column) (f .column-below))) entries (W .fit M))
 
   -- the sum over C of L_col times ẑ is ẑ at the column's element
-  column-picks : (f : Elem q → Elem q) (e : Entry) → e .column < c .C → sumOver (c .C) (λ u. columnValue e u ⊗ f u) ≡ f (element (c .C) (e .column))
+  column-picks : (f : Elem q → Elem q) (e : Entry) → e .column < c .|C| → sumOver (c .|C|) (λ u. columnValue e u ⊗ f u) ≡ f (element (c .|C|) (e .column))
   unfolding sumOver pick
   column-picks f e l =
-      sum-one R (c .C) (e .column) (λ j. columnValue e (element (c .C) j) ⊗ f (element (c .C) j)) l
+      sum-one R (c .|C|) (e .column) (λ j. columnValue e (element (c .|C|) j) ⊗ f (element (c .|C|) j)) l
       (λ j k ne.
-      ap (λ v. v ⊗ f (element (c .C) j)) (lagrange-on Q (c .C) (W .C-size) (e .column) j l k ∙ ap (λ b. pick b 𝟙 𝟘) (ne-eqb (e .column) j (λ h. ne (sym h))))
+      ap (λ v. v ⊗ f (element (c .|C|) j)) (lagrange-on Q (c .|C|) (W .C-size) (e .column) j l k ∙ ap (λ b. pick b 𝟙 𝟘) (ne-eqb (e .column) j (λ h. ne (sym h))))
       ∙ zero-mul R _)
-      ∙ ap (λ v. v ⊗ f (element (c .C) (e .column))) (lagrange-on Q (c .C) (W .C-size) (e .column) (e .column) l l ∙ ap (λ b. pick b 𝟙 𝟘) (eq-eqb (e .column) (e .column) refl))
+      ∙ ap (λ v. v ⊗ f (element (c .|C|) (e .column))) (lagrange-on Q (c .|C|) (W .C-size) (e .column) (e .column) l l ∙ ap (λ b. pick b 𝟙 𝟘) (eq-eqb (e .column) (e .column) refl))
       ∙ mul-comm 𝟙 _ ∙ mul-one _
 
   -- ẑ_M(y) as a sum over the entries
   pub image-by-entries :
       (ẑ : Poly q) (y : Elem q)
-      → image c ẑ M y ≡ sumList R (λ e. of (e .value) ⊗ eval ẑ (element (c .C) (e .column)) ⊗ rowValue e y) entries
+      → image c ẑ M y ≡ sumList R (λ e. of (e .value) ⊗ eval ẑ (element (c .|C|) (e .column)) ⊗ rowValue e y) entries
   unfolding image extension sumOver
   image-by-entries ẑ y =
       let f : Elem q → Elem q = eval ẑ in
-      let u : ℕ → Elem q = element (c .C) in
+      let u : ℕ → Elem q = element (c .|C|) in
       let weight : Entry → Elem q = λ e. of (e .value) ⊗ rowValue e y in
-      sum-ext R (c .C) _ _ (λ j l. mul-comm _ (f (u j)) ∙ sym (sumList-scale R (f (u j)) (λ e. weight e ⊗ columnValue e (u j)) entries))
-      ∙ sum-sumList R (c .C) (λ e j. f (u j) ⊗ (weight e ⊗ columnValue e (u j))) entries
+      sum-ext R (c .|C|) _ _ (λ j l. mul-comm _ (f (u j)) ∙ sym (sumList-scale R (f (u j)) (λ e. weight e ⊗ columnValue e (u j)) entries))
+      ∙ sum-sumList R (c .|C|) (λ e j. f (u j) ⊗ (weight e ⊗ columnValue e (u j))) entries
       ∙ sumList-ext R _ _ entries (all-map (λ e fits.
-      sum-ext R (c .C) _ _ (λ j l. ring R (f (u j) ∷ weight e ∷ columnValue e (u j) ∷ []) (λ z w k. z :* (w :* k) := w :* (k :* z)) tt)
-      ∙ sum-scale R (c .C) (weight e) (λ j. columnValue e (u j) ⊗ f (u j))
+      sum-ext R (c .|C|) _ _ (λ j l. ring R (f (u j) ∷ weight e ∷ columnValue e (u j) ∷ []) (λ z w k. z :* (w :* k) := w :* (k :* z)) tt)
+      ∙ sum-scale R (c .|C|) (weight e) (λ j. columnValue e (u j) ⊗ f (u j))
       ∙ ap (λ v. weight e ⊗ v) (column-picks f e (fits .column-below))
       ∙ ring R (of (e .value) ∷ rowValue e y ∷ f (u (e .column)) ∷ []) (λ v r z. v :* r :* z := v :* z :* r) tt) entries (W .fit M))
 
-  pub image-polynomial : (ẑ : Poly q) → IsPolynomial (c .R) (image c ẑ M)
+  pub image-polynomial : (ẑ : Poly q) → IsPolynomial (c .|R|) (image c ẑ M)
   image-polynomial ẑ =
-      let P = polynomial-sumList (λ e y. of (e .value) ⊗ eval ẑ (element (c .C) (e .column)) ⊗ rowValue e y) entries
-      (all-map (λ e f. polynomial-scale (of (e .value) ⊗ eval ẑ (element (c .C) (e .column))) (lagrange-polynomial Q (c .R) (W .R-size) (e .row) (f .row-below))) entries (W .fit M)) in
+      let P = polynomial-sumList (λ e y. of (e .value) ⊗ eval ẑ (element (c .|C|) (e .column)) ⊗ rowValue e y) entries
+      (all-map (λ e f. polynomial-scale (of (e .value) ⊗ eval ẑ (element (c .|C|) (e .column))) (lagrange-polynomial Q (c .|R|) (W .R-size) (e .row) (f .row-below))) entries (W .fit M)) in
       record { poly = P .poly; poly-length = P .poly-length; poly-value = λ y. P .poly-value y ∙ sym (image-by-entries ẑ y) }
 
   -- on R it is the row's sum
-  pub image-on-rows : (ẑ : Poly q) (i : ℕ) → i < c .R → image c ẑ M (element (c .R) i) ≡ rowSum c M (valuesOn (c .C) ẑ) i
+  pub image-on-rows : (ẑ : Poly q) (i : ℕ) → i < c .|R| → image c ẑ M (element (c .|R|) i) ≡ rowSum c M (valuesOn (c .|C|) ẑ) i
   unfolding rowSum
   image-on-rows ẑ i l =
-      image-by-entries ẑ (element (c .R) i)
+      image-by-entries ẑ (element (c .|R|) i)
       ∙ sumList-ext R _ _ entries (all-map (λ e f.
-      ap₂ (λ z v. of (e .value) ⊗ z ⊗ v) (sym (getD-valuesOn (c .C) (e .column) ẑ (f .column-below))) (lagrange-on Q (c .R) (W .R-size) (e .row) i (f .row-below) l)
-      ∙ choose-by (eqb (e .row) i) (of (e .value) ⊗ getD (valuesOn (c .C) ẑ) (e .column) 𝟘)) entries (W .fit M))
+      ap₂ (λ z v. of (e .value) ⊗ z ⊗ v) (sym (getD-valuesOn (c .|C|) (e .column) ẑ (f .column-below))) (lagrange-on Q (c .|R|) (W .R-size) (e .row) i (f .row-below) l)
+      ∙ choose-by (eqb (e .row) i) (of (e .value) ⊗ getD (valuesOn (c .|C|) ẑ) (e .column) 𝟘)) entries (W .fit M))
     where
       choose-by : (b : Bool) (a : Elem q) → a ⊗ pick b 𝟙 𝟘 ≡ pick b a 𝟘
       choose-by true a = unfold pick in mul-one a

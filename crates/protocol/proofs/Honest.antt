@@ -22,7 +22,7 @@ use Rattle.protocol.specs.Session.{Taken, Judged}
 use Rattle.protocol.specs.Job.{Job, proof, trueOpenings, honestConversation}
 use Rattle.protocol.specs.Demand2.{KeepsRules, RulesKept, HonestAccepted}
 use Rattle.protocol.proofs.AdmissionLaws.{WellFormed, JobFits, job-fits}
-use Rattle.protocol.proofs.Conversation.{Short, heard, conversation-judged}
+use Rattle.protocol.proofs.Conversation.{Short, transcript, conversation-judged}
 use Rattle.protocol.proofs.JoinedRule.{length-joinedQuotient, joined-rule}
 use Rattle.protocol.proofs.LineCheck.{line-rule, length-lineRemainder, length-lineQuotient}
 use Rattle.protocol.proofs.MatrixCheck.{matrix-rule, length-matrixRemainder}
@@ -71,18 +71,18 @@ module _ {q : Prime} (Q : Qualifies q) (j : Job) (F : JobFits q j) where
   unfolding lengths sizesOf
   m-length = length-map (j .m) of ∙ F .m-length
 
-  ẑ-length : length ẑ ≡ suc (c .C)
+  ẑ-length : length ẑ ≡ suc (c .|C|)
   ẑ-length = length-assignment Q c W x w (length-witness Q c W z (of (j .r)))
 
-  assigns : valuesOn (c .C) ẑ ≡ z
+  assigns : valuesOn (c .|C|) ẑ ≡ z
   assigns = assignment-values Q c W z (of (j .r)) (length-map (j .z) of ∙ F .z-length)
 
   -- ẑ satisfies every row, since its values are z
-  satisfied : Satisfied c (valuesOn (c .C) ẑ)
+  satisfied : Satisfied c (valuesOn (c .|C|) ẑ)
   satisfied = subst (λ v. Satisfied c v) (sym assigns) (F .satisfied)
 
   -- the mask adds to 0, so the line's sum is σ
-  claim : sumOver (c .C) (λ y. lineLeft η (values c α y) (eval m y) (eval ẑ y)) ≡ weighted η (sums c ẑ α)
+  claim : sumOver (c .|C|) (λ y. lineLeft η (values c α y) (eval m y) (eval ẑ y)) ≡ weighted η (sums c ẑ α)
   claim = line-sum-parts c m ẑ α η ∙ ap (λ v. v ⊕ weighted η (sums c ẑ α)) (F .mask-sum) ∙ zero-add (primeRing q) _
 
   keeps-rules : KeepsRules q c z α η β (proof q j)
@@ -121,12 +121,12 @@ module _ {q : Prime} (Q : Qualifies q) (j : Job) (F : JobFits q j) where
       }
 
   -- the verdict on the honest messages and their true openings
-  honest-verdict : verdict (sizesOf c) x (heard q j F p short (trueOpenings q j p)) (trueOpenings q j p) ≡ Accept
+  honest-verdict : verdict (sizesOf c) x (transcript q j F p short (trueOpenings q j p)) (trueOpenings q j p) ≡ Accept
   unfolding proof messages trueOpenings openings
   honest-verdict =
-      accepts (sizesOf c) x (heard q j F p short (trueOpenings q j p)) (trueOpenings q j p)
+      accepts (sizesOf c) x (transcript q j F p short (trueOpenings q j p)) (trueOpenings q j p)
       (row-rule Q c W ẑ satisfied α)
-      (ap (lineLeft η (values c α β) (eval m β)) (sym (eval-assignment c (size-positive (c .X) (W .X-size)) x w β))
+      (ap (lineLeft η (values c α β) (eval m β)) (sym (eval-assignment c (size-positive (c .|X|) (W .X-size)) x w β))
       ∙ line-rule Q c W m ẑ m-length ẑ-length α η (weighted η (sums c ẑ α)) claim β)
       (joined-rule Q c W α β (F .α-outside) (F .β-outside) (mapThree of (j .δ)) (of (j .γ)) (F .γ-outside))
 

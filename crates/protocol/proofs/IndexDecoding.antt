@@ -81,20 +81,20 @@ module _ {q : Prime} (Q : Qualifies q) (c : Circuit) (W : WellFormed (q .p) c) w
       F = primeField q
 
       rowcol : Elem q
-      rowcol = element (c .R) (e .row) ⊗ element (c .C) (e .column)
+      rowcol = element (c .|R|) (e .row) ⊗ element (c .|C|) (e .column)
 
       rowcol≢0 : rowcol ≢ 𝟘
-      rowcol≢0 = mul-not-zero R F (element (c .R) (e .row)) (element (c .C) (e .column))
-          (element-not-zero Q (c .R) (W .R-size) (e .row)) (element-not-zero Q (c .C) (W .C-size) (e .column))
+      rowcol≢0 = mul-not-zero R F (element (c .|R|) (e .row)) (element (c .|C|) (e .column))
+          (element-not-zero Q (c .|R|) (W .R-size) (e .row)) (element-not-zero Q (c .|C|) (W .C-size) (e .column))
 
       value≢0 : of {q = q} (e .value) ≢ 𝟘
       value≢0 = of-not-zero (e .value) (fits .value-positive) (fits .value-below)
 
-      row-read : placeOf {q = q} (element (c .R) (e .row)) (domain (c .R)) ≡ e .row
-      row-read = placeOf-element Q (c .R) (W .R-size) (e .row) (fits .row-below)
+      row-read : placeOf {q = q} (element (c .|R|) (e .row)) (domain (c .|R|)) ≡ e .row
+      row-read = placeOf-element Q (c .|R|) (W .R-size) (e .row) (fits .row-below)
 
-      column-read : placeOf {q = q} (element (c .C) (e .column)) (domain (c .C)) ≡ e .column
-      column-read = placeOf-element Q (c .C) (W .C-size) (e .column) (fits .column-below)
+      column-read : placeOf {q = q} (element (c .|C|) (e .column)) (domain (c .|C|)) ≡ e .column
+      column-read = placeOf-element Q (c .|C|) (W .C-size) (e .column) (fits .column-below)
 
       value-read : (rowcol ⊗ of (e .value) ⊘ rowcol) .word ≡ e .value
       value-read = ap (λ (x : Elem q). x .word) (divide-back rowcol (of (e .value)) rowcol≢0) ∙ word-of q (e .value) (fits .value-below)
@@ -116,7 +116,7 @@ module _ {q : Prime} (Q : Qualifies q) (c : Circuit) (W : WellFormed (q .p) c) w
       entries = at (c .matrices) M
 
       k : ℕ
-      k = at (sizesOf c .K) M
+      k = at (sizesOf c .|K|) M
 
       d : Entry
       d = record { row = 0; column = 0; value = 0 }

@@ -35,16 +35,16 @@ getD-append-replicate l k i a z le lt =
     ∙ getD-replicate (k - length l) (i - length l) a z (omega arith)
 
 -- |K_M| is the size for the entries' count
-K-sizeFor : (c : Circuit) (M : MatrixName) → at (sizesOf c .K) M ≡ sizeFor (length (at (c .matrices) M))
+K-sizeFor : (c : Circuit) (M : MatrixName) → at (sizesOf c .|K|) M ≡ sizeFor (length (at (c .matrices) M))
 unfolding sizesOf
 K-sizeFor c A = refl
 K-sizeFor c B = refl
 K-sizeFor c C = refl
 
-pub K-size : (c : Circuit) (M : MatrixName) → isSize (at (sizesOf c .K) M) ≡ true
+pub K-size : (c : Circuit) (M : MatrixName) → isSize (at (sizesOf c .|K|) M) ≡ true
 K-size c M = ap isSize (K-sizeFor c M) ∙ sizeFor-is-size (length (at (c .matrices) M))
 
-pub K-holds : {p : ℕ} (c : Circuit) → WellFormed p c → (M : MatrixName) → length (at (c .matrices) M) ≤ at (sizesOf c .K) M
+pub K-holds : {p : ℕ} (c : Circuit) → WellFormed p c → (M : MatrixName) → length (at (c .matrices) M) ≤ at (sizesOf c .|K|) M
 K-holds c W M = omega (arith, K-sizeFor c M, sizeFor-holds (length (at (c .matrices) M)) (W .few M))
 
 module _ {q : Prime} where
@@ -63,7 +63,7 @@ module _ {q : Prime} (Q : Qualifies q) (c : Circuit) (W : WellFormed (q .p) c) (
   entries = at (c .matrices) M
 
   abbrev k : ℕ
-  k = at (sizesOf c .K) M
+  k = at (sizesOf c .|K|) M
 
   module _ (below : i < length entries) (d : Entry) where
     placed-at-entry : (filling : Elem q) (f : Entry → Elem q) → eval (placed c M filling f) (element k i) ≡ f (getD entries i d)

@@ -16,7 +16,7 @@ use Rattle.field.specs.Prime.{Prime}
 use Rattle.field.specs.Element.{Elem, 𝟘, _⊗_}
 use Rattle.field.proofs.ElementLaws.{decide, mul-assoc, mul-comm, primeRing}
 use Rattle.domain.specs.Domain.{element, Outside, vanishing}
-use Rattle.domain.specs.Polynomial.{Poly, eval, scale, times}
+use Rattle.domain.specs.Polynomial.{Poly, eval, _·_, _⊠_}
 use Rattle.domain.specs.Qualifies.{Qualifies}
 use Rattle.domain.proofs.SizeLaws.{size-positive}
 use Rattle.domain.proofs.Division.{length-vanishingRatio}
@@ -53,7 +53,7 @@ module _ {q : Prime} (c : Circuit) (α β : Elem q) (ω : Three (Elem q)) (g : T
   R = primeRing q
 
   abbrev K : ℕ
-  K = largest (sizesOf c .K)
+  K = largest (sizesOf c .|K|)
 
   -- E_M, the left side of M's rule
   abbrev side : MatrixName → Poly q
@@ -61,17 +61,17 @@ module _ {q : Prime} (c : Circuit) (α β : Elem q) (ω : Three (Elem q)) (g : T
 
   -- (|K_M|/|K|) (v_K/v_{K_M}) E_M, which does not depend on δ
   selected : MatrixName → Poly q
-  selected M = scale (share c M) (times (cofactor c M) (side M))
+  selected M = _·_ (share c M) (_⊠_ (cofactor c M) (side M))
 
   eval-selected : (M : MatrixName) (y : Elem q) → eval (selected M) y ≡ share c M ⊗ eval (cofactor c M) y ⊗ eval (side M) y
   unfolding selected
   eval-selected M y =
-      eval-scale R (share c M) (times (cofactor c M) (side M)) y
+      eval-scale R (share c M) (_⊠_ (cofactor c M) (side M)) y
       ∙ ap (λ x. share c M ⊗ x) (eval-mul R (cofactor c M) (side M) y) ∙ sym (mul-assoc _ _ _)
 
   -- Σ δ_M s_M E_M
   abbrev joinedTerm : Three (Elem q) → MatrixName → Poly q
-  joinedTerm δ M = scale (at δ M) (selected M)
+  joinedTerm δ M = _·_ (at δ M) (selected M)
 
   abbrev joinedPoly : Three (Elem q) → Poly q
   joinedPoly δ = sumPolys (joinedTerm δ)
@@ -95,7 +95,7 @@ module _ {q : Prime} (c : Circuit) (α β : Elem q) (ω : Three (Elem q)) (g : T
         let left : length (cofactor c M) ≡ K - sizeK c M + 1 = length-vanishingRatio q (sizeK c M) K (K-size c M) (largest-size c) within in
         let right : length (side M) ≡ 2 * sizeK c M - 1 = length-matrixPoly c α β M (at ω M) (at g M) (g-lengths M ∙ matrix-length (sizesOf c) M) in
         let product = length-product R (cofactor c M) (side M) (omega arith) (omega arith) in
-        omega (arith, product, length-scale R (share c M) (times (cofactor c M) (side M)))
+        omega (arith, product, length-scale R (share c M) (_⊠_ (cofactor c M) (side M)))
 
     -- on K_M it is E_M
     selected-on : (M : MatrixName) (i : ℕ) → i < sizeK c M → eval (selected M) (element (sizeK c M) i) ≡ eval (side M) (element (sizeK c M) i)
@@ -106,7 +106,7 @@ module _ {q : Prime} (c : Circuit) (α β : Elem q) (ω : Three (Elem q)) (g : T
     module _ (δ : Three (Elem q)) where
       length-joinedPoly : length (joinedPoly δ) ≡ 2 * K - 1
       length-joinedPoly =
-          let l = length-sumPolys (joinedTerm δ) (sizesOf c .K) K (λ M. ap suc (length-scale R (at δ M) (selected M)) ∙ length-selected M) in
+          let l = length-sumPolys (joinedTerm δ) (sizesOf c .|K|) K (λ M. ap suc (length-scale R (at δ M) (selected M)) ∙ length-selected M) in
           omega (arith, l)
 
       eval-joinedPoly : (γ : Elem q) → Outside K γ → eval (joinedPoly δ) γ ≡ leftAt δ γ
@@ -149,7 +149,7 @@ module _ {q : Prime} (c : Circuit) (α β : Elem q) (ω : Three (Elem q)) (g : T
         on = sym (eval-cofactor Q c M κ) ∙ ap (λ v. eval (cofactor c M) κ ⊗ v) (vanishing-on Q (sizeK c M) (K-size c M) i below)
             ∙ mul-zero R _
 
-pub values-caught : {q : Prime} (Q : Qualifies q) (S : Setting q) (α β : Elem q) → Outside (S .circuit .R) α → Outside (S .circuit .C) β
+pub values-caught : {q : Prime} (Q : Qualifies q) (S : Setting q) (α β : Elem q) → Outside (S .circuit .|R|) α → Outside (S .circuit .|C|) β
     → (ω : Three (Elem q)) (g : Three (Poly q)) → ((M : MatrixName) → length (at g M) ≡ at (lengths (sizesOf (S .circuit)) .matrixRemainders) M)
     → ValuesCaught q S α β ω g
 values-caught {q} Q S α β α-outside β-outside ω g g-lengths M false =

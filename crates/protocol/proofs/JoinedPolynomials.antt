@@ -15,7 +15,7 @@ use Rattle.field.specs.Power.{inverse, _⊘_}
 use Rattle.field.proofs.ElementLaws.{of-mul, primeRing}
 use Rattle.field.proofs.Field.{mul-inverse, inverse-product}
 use Rattle.domain.specs.Domain.{element, Outside, vanishing}
-use Rattle.domain.specs.Polynomial.{Poly, eval, plus}
+use Rattle.domain.specs.Polynomial.{Poly, eval, _⊞_}
 use Rattle.domain.specs.Qualifies.{Qualifies}
 use Rattle.domain.proofs.SizeLaws.{size-divides, size-not-zero}
 use Rattle.domain.proofs.DomainLaws.{inside-element, vanishing-outside, outside-subgroup}
@@ -32,26 +32,26 @@ module _ {q : Prime} where
 
   -- a sum of polynomials, one for each matrix
   abbrev pub sumPolys : (MatrixName → Poly q) → Poly q
-  sumPolys f = plus (plus (f A) (f B)) (f C)
+  sumPolys f = _⊞_ (_⊞_ (f A) (f B)) (f C)
 
   pub eval-sumPolys : (f : MatrixName → Poly q) (y : Elem q) → eval (sumPolys f) y ≡ sumMatrices (λ M. eval (f M) y)
-  eval-sumPolys f y = eval-add (primeRing q) (plus (f A) (f B)) (f C) y ∙ ap (λ x. x ⊕ eval (f C) y) (eval-add (primeRing q) (f A) (f B) y)
+  eval-sumPolys f y = eval-add (primeRing q) (_⊞_ (f A) (f B)) (f C) y ∙ ap (λ x. x ⊕ eval (f C) y) (eval-add (primeRing q) (f A) (f B) y)
 
   -- where each of the three is as long as a size and d - 1, the sum is as long as the largest and d - 1
   pub length-sumPolys : (f : MatrixName → Poly q) (k : Three ℕ) (d : ℕ) → ((M : MatrixName) → suc (length (f M)) ≡ at k M + d)
       → suc (length (sumPolys f)) ≡ largest k + d
   unfolding largest
   length-sumPolys f k d h =
-      omega (arith, length-add (primeRing q) (plus (f A) (f B)) (f C), length-add (primeRing q) (f A) (f B), h A, h B, h C)
+      omega (arith, length-add (primeRing q) (_⊞_ (f A) (f B)) (f C), length-add (primeRing q) (f A) (f B), h A, h B, h C)
 
 module _ {q : Prime} (c : Circuit) (M : MatrixName) where
   -- |K_M|/|K|
   abbrev pub share : Elem q
-  share = of (sizeK c M) ⊘ of (largest (sizesOf c .K))
+  share = of (sizeK c M) ⊘ of (largest (sizesOf c .|K|))
 
   -- v_K/v_{K_M}
   abbrev pub cofactor : Poly q
-  cofactor = vanishingRatio (sizeK c M) (largest (sizesOf c .K))
+  cofactor = vanishingRatio (sizeK c M) (largest (sizesOf c .|K|))
 
 module _ {q : Prime} (Q : Qualifies q) (c : Circuit) (M : MatrixName) where
   abbrev R : CommRing (Elem q)
@@ -61,7 +61,7 @@ module _ {q : Prime} (Q : Qualifies q) (c : Circuit) (M : MatrixName) where
   k = sizeK c M
 
   abbrev K : ℕ
-  K = largest (sizesOf c .K)
+  K = largest (sizesOf c .|K|)
 
   pub eval-cofactor : (y : Elem q) → eval (cofactor c M) y ⊗ vanishing k y ≡ vanishing K y
   eval-cofactor = eval-vanishingRatio k K (K-size c M) (largest-size c) (within-largest c M)

@@ -12,7 +12,7 @@ use Rattle.field.specs.Prime.{Prime}
 use Rattle.field.specs.Element.{Elem, _⊗_}
 use Rattle.field.proofs.ElementLaws.{primeRing}
 use Rattle.domain.specs.Domain.{Outside, vanishing}
-use Rattle.domain.specs.Polynomial.{Poly, eval, scale}
+use Rattle.domain.specs.Polynomial.{Poly, eval, _·_}
 use Rattle.domain.specs.Qualifies.{Qualifies}
 use Rattle.protocol.specs.Three.{MatrixName, A, B, C, Three, at, each}
 use Rattle.protocol.specs.Circuit.{Circuit, sizesOf, largest, extension}
@@ -25,17 +25,17 @@ use Rattle.protocol.proofs.JoinedPolynomials.{sumMatrices-ext, eval-sum
 use Rattle.protocol.proofs.JoinedPolynomials.{share, cofactor, eval-cofactor, selector-is}
 use Rattle.protocol.proofs.MatrixCheck.{matrix-length, matrix-rule, length-matrixQuotient}
 
-module _ {q : Prime} (Q : Qualifies q) (c : Circuit) (W : WellFormed (q .p) c) (α β : Elem q) (α-outside : Outside (c .R) α)
-    (β-outside : Outside (c .C) β) (δ : Three (Elem q)) where
+module _ {q : Prime} (Q : Qualifies q) (c : Circuit) (W : WellFormed (q .p) c) (α β : Elem q) (α-outside : Outside (c .|R|) α)
+    (β-outside : Outside (c .|C|) β) (δ : Three (Elem q)) where
   abbrev R : CommRing (Elem q)
   R = primeRing q
 
   abbrev K : ℕ
-  K = largest (sizesOf c .K)
+  K = largest (sizesOf c .|K|)
 
   -- h2 is the sum of these
   abbrev quotientTerm : MatrixName → Poly q
-  quotientTerm M = scale (at δ M ⊗ share c M) (matrixQuotient c α β M)
+  quotientTerm M = _·_ (at δ M ⊗ share c M) (matrixQuotient c α β M)
 
   pub length-joinedQuotient : length (joinedQuotient c α β δ) ≡ lengths (sizesOf c) .joinedQuotient
   unfolding joinedQuotient lengths
@@ -48,7 +48,7 @@ module _ {q : Prime} (Q : Qualifies q) (c : Circuit) (W : WellFormed (q .p) c) (
         length-matrixQuotient Q c W α β α-outside β-outside M,
         matrix-length (sizesOf c) M,
       ) in
-      omega (arith, length-sumPolys quotientTerm (sizesOf c .K) 0 l)
+      omega (arith, length-sumPolys quotientTerm (sizesOf c .|K|) 0 l)
 
   -- the prover's g_M and h2 make the sides equal at every point outside K
   pub joined-rule : (γ : Elem q) → Outside K γ

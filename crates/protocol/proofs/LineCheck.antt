@@ -50,7 +50,7 @@ module _ {q : Prime} (n : Elem q) (nonzero : n ≢ 𝟘) where
       ring-by (primeRing q) (n ∷ inverse n ∷ a ∷ b ∷ []) (λ n i a b. b := a :* i from ((:- b) ⊙ (n :* i := :1)) ∷ (i ⊙ (n :* b := a)) ∷ [])
       (mul-inverse n nonzero, (e, tt)) tt
 
-module _ {q : Prime} (Q : Qualifies q) (c : Circuit) (W : WellFormed (q .p) c) (m ẑ : Poly q) (m-length : length m ≡ lengths (sizesOf c) .mask) (ẑ-length : length ẑ ≡ suc (c .C)) (α : Elem q) (η : Three (Elem q)) where
+module _ {q : Prime} (Q : Qualifies q) (c : Circuit) (W : WellFormed (q .p) c) (m ẑ : Poly q) (m-length : length m ≡ lengths (sizesOf c) .mask) (ẑ-length : length ẑ ≡ suc (c .|C|)) (α : Elem q) (η : Three (Elem q)) where
   abbrev R : CommRing (Elem q)
   R = primeRing q
 
@@ -58,32 +58,32 @@ module _ {q : Prime} (Q : Qualifies q) (c : Circuit) (W : WellFormed (q .p) c) (
   f = line c m ẑ α η
 
   abbrev n : Elem q
-  n = of (c .C)
+  n = of (c .|C|)
 
-  C-positive : 0 < c .C
-  C-positive = size-positive (c .C) (W .C-size)
+  C-positive : 0 < c .|C|
+  C-positive = size-positive (c .|C|) (W .C-size)
 
   n-not-zero : n ≢ 𝟘
-  n-not-zero = size-not-zero Q (c .C) (W .C-size)
+  n-not-zero = size-not-zero Q (c .|C|) (W .C-size)
 
-  f-length : length f ≡ 2 * c .C
+  f-length : length f ≡ 2 * c .|C|
   f-length = length-line Q c W m ẑ α η m-length ẑ-length
 
   -- the sum over C is |C| times the remainder's constant
-  line-sum : sumOver (c .C) (λ y. lineLeft η (values c α y) (eval m y) (eval ẑ y)) ≡ n ⊗ getD (remainder (c .C) f) 0 𝟘
-  line-sum = sumOver-ext (c .C) _ _ (λ i l. sym (eval-line Q c W m ẑ α η _)) ∙ sum-of-remainder Q (c .C) (W .C-size) f
+  line-sum : sumOver (c .|C|) (λ y. lineLeft η (values c α y) (eval m y) (eval ẑ y)) ≡ n ⊗ getD (remainder (c .|C|) f) 0 𝟘
+  line-sum = sumOver-ext (c .|C|) _ _ (λ i l. sym (eval-line Q c W m ẑ α η _)) ∙ sum-of-remainder Q (c .|C|) (W .C-size) f
 
   module _ (σ : Elem q) where
     abbrev Claim : Type 0
-    Claim = sumOver (c .C) (λ y. lineLeft η (values c α y) (eval m y) (eval ẑ y)) ≡ σ
+    Claim = sumOver (c .|C|) (λ y. lineLeft η (values c α y) (eval m y) (eval ẑ y)) ≡ σ
 
-    claim-constant : Claim → remainder (c .C) f ≡ (σ ⊘ n) ∷ lineRemainder c f
+    claim-constant : Claim → remainder (c .|C|) f ≡ (σ ⊘ n) ∷ lineRemainder c f
     unfolding lineRemainder
     claim-constant claim =
-        first-and-rest 𝟘 (remainder (c .C) f) (omega (arith, length-remainder R (c .C) f, C-positive))
-        ∙ ap (λ k. k ∷ tail (remainder (c .C) f)) (quotient-times n n-not-zero σ _ (sym line-sum ∙ claim))
+        first-and-rest 𝟘 (remainder (c .|C|) f) (omega (arith, length-remainder R (c .|C|) f, C-positive))
+        ∙ ap (λ k. k ∷ tail (remainder (c .|C|) f)) (quotient-times n n-not-zero σ _ (sym line-sum ∙ claim))
 
-    constant-claim : (g : Poly q) → remainder (c .C) f ≡ (σ ⊘ n) ∷ g → Claim
+    constant-claim : (g : Poly q) → remainder (c .|C|) f ≡ (σ ⊘ n) ∷ g → Claim
     constant-claim g e = line-sum ∙ ap (λ r. n ⊗ getD r 0 𝟘) e ∙ times-quotient n n-not-zero σ
 
     -- "m + Σ η_M M̂(α,Y) ẑ(Y) = h1 v_C + Y g1 + σ/|C|" at every point, where the sum is σ
@@ -92,9 +92,9 @@ module _ {q : Prime} (Q : Qualifies q) (c : Circuit) (W : WellFormed (q .p) c) (
         → lineLeft η (values c α y) (eval m y) (eval ẑ y) ≡ lineRight (sizesOf c) y σ (eval (lineRemainder c f) y) (eval (lineQuotient c f) y)
     unfolding lineRight lineQuotient sizesOf
     line-rule claim y =
-        sym (eval-line Q c W m ẑ α η y) ∙ divide (c .C) C-positive f y
-        ∙ ap (λ r. eval (quotient (c .C) f) y ⊗ vanishing (c .C) y ⊕ eval r y) (claim-constant claim)
-        ∙ ring R (eval (quotient (c .C) f) y ∷ vanishing (c .C) y ∷ σ ⊘ n ∷ y ∷ eval (lineRemainder c f) y ∷ [])
+        sym (eval-line Q c W m ẑ α η y) ∙ divide (c .|C|) C-positive f y
+        ∙ ap (λ r. eval (quotient (c .|C|) f) y ⊗ vanishing (c .|C|) y ⊕ eval r y) (claim-constant claim)
+        ∙ ring R (eval (quotient (c .|C|) f) y ∷ vanishing (c .|C|) y ∷ σ ⊘ n ∷ y ∷ eval (lineRemainder c f) y ∷ [])
         (λ h v k y g. h :* v :+ (k :+ y :* g) := h :* v :+ y :* g :+ k) tt
 
     abbrev Equal : Poly q → Poly q → Elem q → Type 0
@@ -103,29 +103,29 @@ module _ {q : Prime} (Q : Qualifies q) (c : Circuit) (W : WellFormed (q .p) c) (
     -- enough equal points: h1 is the quotient, and σ/|C| and g1 are the remainder
     recovered :
         (g1 h1 : Poly q) → length g1 ≡ lengths (sizesOf c) .lineRemainder → length h1 ≡ lengths (sizesOf c) .lineQuotient
-        → MoreThan (2 * c .C - 1) (λ y. Outside (c .C) y × Equal g1 h1 y)
-        → (lineQuotient c f ≡ h1) × (remainder (c .C) f ≡ (σ ⊘ n) ∷ g1)
+        → MoreThan (2 * c .|C| - 1) (λ y. Outside (c .|C|) y × Equal g1 h1 y)
+        → (lineQuotient c f ≡ h1) × (remainder (c .|C|) f ≡ (σ ⊘ n) ∷ g1)
     unfolding lineRight lineQuotient lengths sizesOf
     recovered g1 h1 fits fits′ (l, distinct, equal, more) =
-        division-recovers Q (c .C) (W .C-size) f h1 ((σ ⊘ n) ∷ g1)
-        (omega (arith, f-length)) (omega (arith, f-length)) (omega (arith, C-positive)) (2 * c .C - 1) (omega (arith, f-length, C-positive)) (
+        division-recovers Q (c .|C|) (W .C-size) f h1 ((σ ⊘ n) ∷ g1)
+        (omega (arith, f-length)) (omega (arith, f-length)) (omega (arith, C-positive)) (2 * c .|C| - 1) (omega (arith, f-length, C-positive)) (
           l,
           distinct,
           all-map (λ y e. (
             e .0,
             eval-line Q c W m ẑ α η y ∙ e .1
-                ∙ ring R (eval h1 y ∷ vanishing (c .C) y ∷ σ ⊘ n ∷ y ∷ eval g1 y ∷ []) (λ h v k y g. h :* v :+ y :* g :+ k := h :* v :+ (k :+ y :* g)) tt,
+                ∙ ring R (eval h1 y ∷ vanishing (c .|C|) y ∷ σ ⊘ n ∷ y ∷ eval g1 y ∷ []) (λ h v k y g. h :* v :+ y :* g :+ k := h :* v :+ (k :+ y :* g)) tt,
           )) l equal,
           more,
         )
 
   pub length-lineRemainder : length (lineRemainder c f) ≡ lengths (sizesOf c) .lineRemainder
   unfolding lineRemainder lengths sizesOf
-  length-lineRemainder = omega (arith, length-tail (remainder (c .C) f), length-remainder R (c .C) f)
+  length-lineRemainder = omega (arith, length-tail (remainder (c .|C|) f), length-remainder R (c .|C|) f)
 
   pub length-lineQuotient : length (lineQuotient c f) ≡ lengths (sizesOf c) .lineQuotient
   unfolding lineQuotient lengths sizesOf
-  length-lineQuotient = omega (arith, length-quotient R (c .C) f C-positive, f-length)
+  length-lineQuotient = omega (arith, length-quotient R (c .|C|) f C-positive, f-length)
 
 pub line-means :
     {q : Prime} → Qualifies q → (S : Setting q) (m : Poly q) → length m ≡ lengths (sizesOf (S .circuit)) .mask
@@ -135,7 +135,7 @@ line-means {q} Q S m m-length α σ η =
       complete = λ claim. (
         (lineRemainder c f, lineQuotient c f),
         (length-lineRemainder Q c W m ẑ m-length ẑ-length α η, length-lineQuotient Q c W m ẑ m-length ẑ-length α η),
-        (let (l, distinct, outside, more) = outside-many Q (c .C) (W .C-size) (2 * c .C - 1) room in
+        (let (l, distinct, outside, more) = outside-many Q (c .|C|) (W .C-size) (2 * c .|C| - 1) room in
             (l, distinct, all-map (λ y o. (o, left-value y ∙ rule claim y)) l outside, more)),
       );
       sound = λ (g1, h1) (fits, fits′) many. claims g1 (found g1 h1 fits fits′ many .1);
@@ -158,39 +158,39 @@ line-means {q} Q S m m-length α σ η =
     ẑ : Poly q
     ẑ = assignment c (S .x) (S .w)
 
-    ẑ-length : length ẑ ≡ suc (c .C)
+    ẑ-length : length ẑ ≡ suc (c .|C|)
     ẑ-length = length-assignment Q c W (S .x) (S .w) (S .w-length)
 
     f : Poly q
     f = line c m ẑ α η
 
-    room : 2 * c .C - 1 + c .C < q .p
-    room = omega (arith, large-enough q Q, size-bound (c .C) (W .C-size), size-positive (c .C) (W .C-size))
+    room : 2 * c .|C| - 1 + c .|C| < q .p
+    room = omega (arith, large-enough q Q, size-bound (c .|C|) (W .C-size), size-positive (c .|C|) (W .C-size))
 
     -- the left side with the verifier's ẑ(y), and with the value of ẑ
     left : Elem q → Elem q
     left y = lineLeft η (values c α y) (eval m y) (assignmentValue (sizesOf c) (S .x) y (eval (S .w) y))
 
     left-value : (y : Elem q) → left y ≡ lineLeft η (values c α y) (eval m y) (eval ẑ y)
-    left-value y = ap (lineLeft η (values c α y) (eval m y)) (sym (eval-assignment c (size-positive (c .X) (W .X-size)) (S .x) (S .w) y))
+    left-value y = ap (lineLeft η (values c α y) (eval m y)) (sym (eval-assignment c (size-positive (c .|X|) (W .X-size)) (S .x) (S .w) y))
 
     rule :
-        sumOver (c .C) (λ y. lineLeft η (values c α y) (eval m y) (eval ẑ y)) ≡ weighted η σ → (y : Elem q)
+        sumOver (c .|C|) (λ y. lineLeft η (values c α y) (eval m y) (eval ẑ y)) ≡ weighted η σ → (y : Elem q)
         → lineLeft η (values c α y) (eval m y) (eval ẑ y) ≡ lineRight (sizesOf c) y (weighted η σ) (eval (lineRemainder c f) y) (eval (lineQuotient c f) y)
     rule = line-rule Q c W m ẑ m-length ẑ-length α η (weighted η σ)
 
     claims :
-        (g1 : Poly q) → remainder (c .C) f ≡ (weighted η σ ⊘ of (c .C)) ∷ g1
-        → sumOver (c .C) (λ y. lineLeft η (values c α y) (eval m y) (eval ẑ y)) ≡ weighted η σ
+        (g1 : Poly q) → remainder (c .|C|) f ≡ (weighted η σ ⊘ of (c .|C|)) ∷ g1
+        → sumOver (c .|C|) (λ y. lineLeft η (values c α y) (eval m y) (eval ẑ y)) ≡ weighted η σ
     claims = constant-claim Q c W m ẑ m-length ẑ-length α η (weighted η σ)
 
     found :
         (g1 h1 : Poly q) → length g1 ≡ lengths (sizesOf c) .lineRemainder → length h1 ≡ lengths (sizesOf c) .lineQuotient
-        → MoreThan (2 * c .C - 1) (λ y. Outside (c .C) y × (left y ≡ lineRight (sizesOf c) y (weighted η σ) (eval g1 y) (eval h1 y)))
-        → (lineQuotient c f ≡ h1) × (remainder (c .C) f ≡ (weighted η σ ⊘ of (c .C)) ∷ g1)
+        → MoreThan (2 * c .|C| - 1) (λ y. Outside (c .|C|) y × (left y ≡ lineRight (sizesOf c) y (weighted η σ) (eval g1 y) (eval h1 y)))
+        → (lineQuotient c f ≡ h1) × (remainder (c .|C|) f ≡ (weighted η σ ⊘ of (c .|C|)) ∷ g1)
     found g1 h1 fits fits′ (l, distinct, equal, more) =
         recovered Q c W m ẑ m-length ẑ-length α η (weighted η σ) g1 h1 fits fits′
         (l, distinct, all-map (λ y e. (e .0, sym (left-value y) ∙ e .1)) l equal, more)
 
-    rest : (g1 : Poly q) → remainder (c .C) f ≡ (weighted η σ ⊘ of (c .C)) ∷ g1 → lineRemainder c f ≡ g1
+    rest : (g1 : Poly q) → remainder (c .|C|) f ≡ (weighted η σ ⊘ of (c .|C|)) ∷ g1 → lineRemainder c f ≡ g1
     rest g1 e = unfold lineRemainder in ap tail e

@@ -18,7 +18,7 @@ use Rattle.field.specs.Power.{inverse, _⊘_}
 use Rattle.field.proofs.ElementLaws.{primeRing}
 use Rattle.field.proofs.Field.{mul-inverse}
 use Rattle.domain.specs.Domain.{element, Outside, vanishing}
-use Rattle.domain.specs.Polynomial.{Poly, eval, minus, times, quotient}
+use Rattle.domain.specs.Polynomial.{Poly, eval, _⊟_, _⊠_, quotient}
 use Rattle.domain.specs.Qualifies.{Qualifies}
 use Rattle.domain.proofs.Qualification.{large-enough}
 use Rattle.domain.proofs.SizeLaws.{size-bound, size-not-zero}
@@ -41,12 +41,12 @@ use Rattle.protocol.proofs.MatrixPolynomials.{matrixPoly, eval-matrixPo
 use Rattle.protocol.proofs.MatrixSum.{denominator-not-zero, sum-of-ratios}
 
 -- the length of g_M and of h_M
-pub matrix-length : (s : Sizes) (M : MatrixName) → at (lengths s .matrixRemainders) M ≡ at (s .K) M - 1
+pub matrix-length : (s : Sizes) (M : MatrixName) → at (lengths s .matrixRemainders) M ≡ at (s .|K|) M - 1
 unfolding lengths
-matrix-length s M = at-each (λ N. at (s .K) N - 1) M
+matrix-length s M = at-each (λ N. at (s .|K|) N - 1) M
 
-module _ {q : Prime} (Q : Qualifies q) (c : Circuit) (W : WellFormed (q .p) c) (α β : Elem q) (α-outside : Outside (c .R) α)
-    (β-outside : Outside (c .C) β) (M : MatrixName) where
+module _ {q : Prime} (Q : Qualifies q) (c : Circuit) (W : WellFormed (q .p) c) (α β : Elem q) (α-outside : Outside (c .|R|) α)
+    (β-outside : Outside (c .|C|) β) (M : MatrixName) where
   abbrev R : CommRing (Elem q)
   R = primeRing q
 
@@ -83,7 +83,7 @@ module _ {q : Prime} (Q : Qualifies q) (c : Circuit) (W : WellFormed (q .p) c) (
   module _ (ω : Elem q) (g : Poly q) where
     left-at : (i : ℕ) → eval (matrixPoly c α β M ω g) (κ i) ≡ eval a (κ i) ⊖ eval b (κ i) ⊗ eval (ω ⊘ of k ∷ g) (κ i)
     unfolding matrixPoly
-    left-at i = eval-minus a (times b (ω ⊘ of k ∷ g)) (κ i) ∙ ap (λ x. eval a (κ i) ⊖ x) (eval-mul R b (ω ⊘ of k ∷ g) (κ i))
+    left-at i = eval-minus a (_⊠_ b (ω ⊘ of k ∷ g)) (κ i) ∙ ap (λ x. eval a (κ i) ⊖ x) (eval-mul R b (ω ⊘ of k ∷ g) (κ i))
 
     -- where the left side is 0 on K_M, Y g + ω/|K_M| is the prover's
     pub vanishing-parts : length g ≡ k - 1 → ((i : ℕ) → i < k → eval (matrixPoly c α β M ω g) (κ i) ≡ 𝟘)
@@ -123,7 +123,7 @@ module _ {q : Prime} (Q : Qualifies q) (c : Circuit) (W : WellFormed (q .p) c) (
 
   quotient-is : matrixQuotient c α β M ≡ quotient k (matrixPoly c α β M value (matrixRemainder c α β M))
   unfolding matrixQuotient matrixPoly
-  quotient-is = ap (λ r. quotient k (minus a (times b r))) ratio-parts
+  quotient-is = ap (λ r. quotient k (_⊟_ a (_⊠_ b r))) ratio-parts
 
   pub length-matrixQuotient : length (matrixQuotient c α β M) ≡ at (lengths (sizesOf c) .matrixRemainders) M
   length-matrixQuotient = omega (
@@ -149,10 +149,10 @@ module _ {q : Prime} (Q : Qualifies q) (c : Circuit) (W : WellFormed (q .p) c) (
     Equal g h y = matrixLeft (sizesOf c) M α β ω (indexAt (index c M) y) y (eval g y) ≡ matrixRight (sizesOf c) M y (eval h y)
 
     abbrev Allowed : Elem q → Type 0
-    Allowed = Outside (largest (sizesOf c .K))
+    Allowed = Outside (largest (sizesOf c .|K|))
 
     outside-K : (y : Elem q) → Allowed y → Outside k y
-    outside-K = outside-subgroup Q k (largest (sizesOf c .K)) (K-size c M) (largest-size c) (within-largest c M)
+    outside-K = outside-subgroup Q k (largest (sizesOf c .|K|)) (K-size c M) (largest-size c) (within-largest c M)
 
     abbrev Fits : Poly q → Type 0
     Fits f = length f ≡ at (lengths (sizesOf c) .matrixRemainders) M
@@ -186,13 +186,13 @@ module _ {q : Prime} (Q : Qualifies q) (c : Circuit) (W : WellFormed (q .p) c) (
     -- the prover's polynomials, where ω is M̂(α,β)
     many-equal : ω ≡ value → MoreThan (2 * k - 2) (λ y. Allowed y × Equal (matrixRemainder c α β M) (matrixQuotient c α β M) y)
     many-equal true-value =
-        let K : ℕ = largest (sizesOf c .K) in
+        let K : ℕ = largest (sizesOf c .|K|) in
         let (l, distinct, outside, more) = outside-many Q K (largest-size c) (2 * k - 2)
         (omega (arith, large-enough q Q, size-bound k (K-size c M), size-bound K (largest-size c))) in
         (l, distinct, all-map (λ y o. (o, rw true-value (matrix-rule y))) l outside, more)
 
 pub matrix-means : {q : Prime} (Q : Qualifies q) (S : Setting q) (M : MatrixName) (α β ω : Elem q)
-    → Outside (S .circuit .R) α → Outside (S .circuit .C) β → MatrixMeans q S M α β ω
+    → Outside (S .circuit .|R|) α → Outside (S .circuit .|C|) β → MatrixMeans q S M α β ω
 matrix-means {q} Q S M α β ω α-outside β-outside =
     record {
       complete = λ true-value. (

@@ -14,7 +14,7 @@ use Rattle.field.specs.Element.{Elem, of, 𝟘, 𝟙, _⊕_, _⊗_, _⊖_, neg}
 use Rattle.field.specs.Power.{_⊘_}
 use Rattle.field.proofs.ElementLaws.{add-comm, primeRing}
 use Rattle.domain.specs.Size.{isSize}
-use Rattle.domain.specs.Polynomial.{Poly, eval, plus, minus, scale, times}
+use Rattle.domain.specs.Polynomial.{Poly, eval, _⊞_, _⊟_, _·_, _⊠_}
 use Rattle.domain.proofs.SizeLaws.{size-positive, max-is-size}
 use Rattle.domain.proofs.Interpolation.{length-interpolate}
 use Rattle.protocol.specs.Three.{MatrixName, A, B, C, at}
@@ -25,22 +25,22 @@ use Rattle.protocol.specs.Messages.{numerator, denominator}
 use Rattle.protocol.proofs.IndexPolynomials.{K-size}
 use Rattle.protocol.proofs.MessagePolynomials.{eval-minus}
 
-length-difference : {q : Prime} (f g : Poly q) → length (minus f g) ≡ max (length f) (length g)
-length-difference {q} f g = omega (arith, length-add (primeRing q) f (scale (neg 𝟙) g), length-scale (primeRing q) (neg 𝟙) g)
+length-difference : {q : Prime} (f g : Poly q) → length (_⊟_ f g) ≡ max (length f) (length g)
+length-difference {q} f g = omega (arith, length-add (primeRing q) f (_·_ (neg 𝟙) g), length-scale (primeRing q) (neg 𝟙) g)
 
 -- |K_M|
 abbrev pub sizeK : Circuit → MatrixName → ℕ
-sizeK c M = at (sizesOf c .K) M
+sizeK c M = at (sizesOf c .|K|) M
 
 pub sizeK-positive : (c : Circuit) (M : MatrixName) → 0 < sizeK c M
 sizeK-positive c M = size-positive (sizeK c M) (K-size c M)
 
 -- |K| is one of the sizes, and the largest
-pub largest-size : (c : Circuit) → isSize (largest (sizesOf c .K)) ≡ true
+pub largest-size : (c : Circuit) → isSize (largest (sizesOf c .|K|)) ≡ true
 unfolding largest
 largest-size c = max-is-size (sizeK c A) (max (sizeK c B) (sizeK c C)) (K-size c A) (max-is-size (sizeK c B) (sizeK c C) (K-size c B) (K-size c C))
 
-pub within-largest : (c : Circuit) (M : MatrixName) → sizeK c M ≤ largest (sizesOf c .K)
+pub within-largest : (c : Circuit) (M : MatrixName) → sizeK c M ≤ largest (sizesOf c .|K|)
 unfolding largest
 within-largest c A = omega arith
 within-largest c B = omega arith
@@ -73,14 +73,14 @@ module _ {q : Prime} (c : Circuit) (α β : Elem q) (M : MatrixName) where
       let i : Index (Poly q) = index c M in
       let v : Index (Elem q) = indexAt i y in
       let corner : Poly q = α ⊗ β ∷ [] in
-      let without : Poly q = minus corner (scale α (i .col)) in
-      eval-scale R (of (c .R) ⊗ of (c .C)) (plus (minus without (scale β (i .row))) (i .rowcol)) y
-      ∙ ap (λ x. of (c .R) ⊗ of (c .C) ⊗ x)
-      (eval-add R (minus without (scale β (i .row))) (i .rowcol) y
+      let without : Poly q = _⊟_ corner (_·_ α (i .col)) in
+      eval-scale R (of (c .|R|) ⊗ of (c .|C|)) (_⊞_ (_⊟_ without (_·_ β (i .row))) (i .rowcol)) y
+      ∙ ap (λ x. of (c .|R|) ⊗ of (c .|C|) ⊗ x)
+      (eval-add R (_⊟_ without (_·_ β (i .row))) (i .rowcol) y
       ∙ ap (λ x. x ⊕ v .rowcol)
-      (eval-minus without (scale β (i .row)) y
+      (eval-minus without (_·_ β (i .row)) y
       ∙ ap₂ _⊖_
-      (eval-minus corner (scale α (i .col)) y
+      (eval-minus corner (_·_ α (i .col)) y
       ∙ ap₂ _⊖_ (ring R (α ∷ β ∷ y ∷ []) (λ α β y. α :* β :+ y :* :0 := α :* β) tt) (eval-scale R α (i .col) y))
       (eval-scale R β (i .row) y)))
 
@@ -95,14 +95,14 @@ module _ {q : Prime} (c : Circuit) (α β : Elem q) (M : MatrixName) where
       let col : Poly q = placed c M 𝟙 (columnElement c) in
       let rowcol : Poly q = placed c M 𝟙 (λ e. rowElement c e ⊗ columnElement c e) in
       let corner : Poly q = α ⊗ β ∷ [] in
-      let without : Poly q = minus corner (scale α col) in
+      let without : Poly q = _⊟_ corner (_·_ α col) in
       omega (
         arith,
         sizeK-positive c M,
-        length-scale R (of (c .R) ⊗ of (c .C)) (plus (minus without (scale β row)) rowcol),
-        length-add R (minus without (scale β row)) rowcol,
-        length-difference without (scale β row),
-        length-difference corner (scale α col),
+        length-scale R (of (c .|R|) ⊗ of (c .|C|)) (_⊞_ (_⊟_ without (_·_ β row)) rowcol),
+        length-add R (_⊟_ without (_·_ β row)) rowcol,
+        length-difference without (_·_ β row),
+        length-difference corner (_·_ α col),
         length-scale R β row,
         length-scale R α col,
         length-placed c M 𝟙 (rowElement {q = q} c),
@@ -112,13 +112,13 @@ module _ {q : Prime} (c : Circuit) (α β : Elem q) (M : MatrixName) where
 
   -- a_M - b_M (Y g + ω/|K_M|)
   unfoldable pub matrixPoly : Elem q → Poly q → Poly q
-  matrixPoly ω g = minus a (times b (ω ⊘ of k ∷ g))
+  matrixPoly ω g = _⊟_ a (_⊠_ b (ω ⊘ of k ∷ g))
 
   pub eval-matrixPoly : (ω : Elem q) (g : Poly q) (y : Elem q)
       → eval (matrixPoly ω g) y ≡ matrixLeft (sizesOf c) M α β ω (indexAt (index c M) y) y (eval g y)
   unfolding matrixPoly matrixLeft
   eval-matrixPoly ω g y =
-      eval-minus a (times b (ω ⊘ of k ∷ g)) y
+      eval-minus a (_⊠_ b (ω ⊘ of k ∷ g)) y
       ∙ ap₂ _⊖_ (eval-numerator y) (eval-mul R b (ω ⊘ of k ∷ g) y ∙ ap₂ _⊗_ (eval-denominator y) (add-comm _ _))
 
   pub length-matrixPoly : (ω : Elem q) (g : Poly q) → length g ≡ k - 1 → length (matrixPoly ω g) ≡ 2 * k - 1
@@ -129,7 +129,7 @@ module _ {q : Prime} (c : Circuit) (α β : Elem q) (M : MatrixName) where
       omega (
         arith,
         sizeK-positive c M,
-        length-difference a (times b G),
+        length-difference a (_⊠_ b G),
         product,
         length-numerator,
         length-denominator,

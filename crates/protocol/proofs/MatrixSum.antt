@@ -32,25 +32,25 @@ use Rattle.protocol.proofs.AdmissionLaws.{WellFormed, EntryFits}
 use Rattle.protocol.proofs.IndexPolynomials.{K-holds, entryIndex, fillingIndex, index-at-entry, index-at-filling}
 use Rattle.protocol.proofs.MatrixPolynomials.{sizeK, eval-numerator, eval-denominator}
 
-module _ {q : Prime} (Q : Qualifies q) (c : Circuit) (W : WellFormed (q .p) c) (α β : Elem q) (α-outside : Outside (c .R) α)
-    (β-outside : Outside (c .C) β) (M : MatrixName) where
+module _ {q : Prime} (Q : Qualifies q) (c : Circuit) (W : WellFormed (q .p) c) (α β : Elem q) (α-outside : Outside (c .|R|) α)
+    (β-outside : Outside (c .|C|) β) (M : MatrixName) where
   abbrev entries : List Entry
   entries = at (c .matrices) M
 
   -- |R|(α - row) and |C|(β - col)
   abbrev rowFactor : Elem q → Elem q
-  rowFactor row = of (c .R) ⊗ (α ⊖ row)
+  rowFactor row = of (c .|R|) ⊗ (α ⊖ row)
 
   abbrev columnFactor : Elem q → Elem q
-  columnFactor col = of (c .C) ⊗ (β ⊖ col)
+  columnFactor col = of (c .|C|) ⊗ (β ⊖ col)
 
-  row-not-zero : (i : ℕ) → i < c .R → rowFactor (element (c .R) i) ≢ 𝟘
-  row-not-zero i below = mul-not-zero (primeRing q) (primeField q) (of (c .R)) (α ⊖ element (c .R) i)
-      (size-not-zero Q (c .R) (W .R-size)) (outside-not-element Q (c .R) (W .R-size) α α-outside i below)
+  row-not-zero : (i : ℕ) → i < c .|R| → rowFactor (element (c .|R|) i) ≢ 𝟘
+  row-not-zero i below = mul-not-zero (primeRing q) (primeField q) (of (c .|R|)) (α ⊖ element (c .|R|) i)
+      (size-not-zero Q (c .|R|) (W .R-size)) (outside-not-element Q (c .|R|) (W .R-size) α α-outside i below)
 
-  column-not-zero : (i : ℕ) → i < c .C → columnFactor (element (c .C) i) ≢ 𝟘
-  column-not-zero i below = mul-not-zero (primeRing q) (primeField q) (of (c .C)) (β ⊖ element (c .C) i)
-      (size-not-zero Q (c .C) (W .C-size)) (outside-not-element Q (c .C) (W .C-size) β β-outside i below)
+  column-not-zero : (i : ℕ) → i < c .|C| → columnFactor (element (c .|C|) i) ≢ 𝟘
+  column-not-zero i below = mul-not-zero (primeRing q) (primeField q) (of (c .|C|)) (β ⊖ element (c .|C|) i)
+      (size-not-zero Q (c .|C|) (W .C-size)) (outside-not-element Q (c .|C|) (W .C-size) β β-outside i below)
 
   -- b_M at a point where the index has the values v: |R||C|(α - row)(β - col)
   denominator-factors : (y : Elem q) (v : Index (Elem q)) → indexAt (index c M) y ≡ v → v .rowcol ≡ v .row ⊗ v .col
@@ -58,13 +58,13 @@ module _ {q : Prime} (Q : Qualifies q) (c : Circuit) (W : WellFormed (q .p) c) (
   unfolding denominatorValue sizesOf
   denominator-factors y v here product =
       eval-denominator c α β M y ∙ ap (denominatorValue (sizesOf c) α β) here
-      ∙ ring-by (primeRing q) (of (c .R) ∷ of (c .C) ∷ α ∷ β ∷ v .row ∷ v .col ∷ v .rowcol ∷ [])
+      ∙ ring-by (primeRing q) (of (c .|R|) ∷ of (c .|C|) ∷ α ∷ β ∷ v .row ∷ v .col ∷ v .rowcol ∷ [])
       (λ m n α β r c p. m :* n :* (α :* β :- α :* c :- β :* r :+ p) := (m :* (α :- r)) :* (n :* (β :- c)) from (m :* n ⊙ (p := r :* c)) ∷ [])
       (product, tt) tt
 
   -- an entry's term of M̂(α,β)
   abbrev pub term : Entry → Elem q
-  term e = of (e .value) ⊗ lagrange (c .R) (element (c .R) (e .row)) α ⊗ lagrange (c .C) (element (c .C) (e .column)) β
+  term e = of (e .value) ⊗ lagrange (c .|R|) (element (c .|R|) (e .row)) α ⊗ lagrange (c .|C|) (element (c .|C|) (e .column)) β
 
   module _ (i : ℕ) where
     -- place i of K_M
@@ -78,27 +78,27 @@ module _ {q : Prime} (Q : Qualifies q) (c : Circuit) (W : WellFormed (q .p) c) (
       fits : EntryFits (q .p) c e
       fits = all-at (EntryFits (q .p) c) entries (W .fit M) i _ below
 
-      entry-denominator : eval (denominator c α β M) κ ≡ rowFactor (element (c .R) (e .row)) ⊗ columnFactor (element (c .C) (e .column))
+      entry-denominator : eval (denominator c α β M) κ ≡ rowFactor (element (c .|R|) (e .row)) ⊗ columnFactor (element (c .|C|) (e .column))
       unfolding rowElement columnElement
       entry-denominator = denominator-factors κ (entryIndex c e) (index-at-entry Q c W M i below _) refl
 
       pub ratio-at-entry : eval (numerator c α β M) κ ⊘ eval (denominator c α β M) κ ≡ term e
       unfolding numeratorValue sizesOf rowElement columnElement
       ratio-at-entry =
-          let row : Elem q = element (c .R) (e .row) in
-          let col : Elem q = element (c .C) (e .column) in
+          let row : Elem q = element (c .|R|) (e .row) in
+          let col : Elem q = element (c .|C|) (e .column) in
           ap₂ _⊗_
           (eval-numerator c α β M κ ∙ ap (numeratorValue (sizesOf c) α β) (index-at-entry Q c W M i below _))
           (ap inverse entry-denominator
           ∙ inverse-product (rowFactor row) (columnFactor col)
           (row-not-zero (e .row) (fits .row-below)) (column-not-zero (e .column) (fits .column-below)))
           ∙ ring (primeRing q)
-          (vanishing (c .R) α ∷ vanishing (c .C) β ∷ row ∷ col ∷ of (e .value) ∷ inverse (rowFactor row) ∷ inverse (columnFactor col) ∷ [])
+          (vanishing (c .|R|) α ∷ vanishing (c .|C|) β ∷ row ∷ col ∷ of (e .value) ∷ inverse (rowFactor row) ∷ inverse (columnFactor col) ∷ [])
           (λ u v r c e i j. u :* v :* (r :* c :* e) :* (i :* j) := e :* (r :* u :* i) :* (c :* v :* j)) tt
-          ∙ sym (ap₂ (λ x y. of (e .value) ⊗ x ⊗ y) (lagrange-off (c .R) row α α-outside) (lagrange-off (c .C) col β β-outside))
+          ∙ sym (ap₂ (λ x y. of (e .value) ⊗ x ⊗ y) (lagrange-off (c .|R|) row α α-outside) (lagrange-off (c .|C|) col β β-outside))
 
     module _ (after : length entries ≤ i) (within : i < sizeK c M) where
-      filling-denominator : eval (denominator c α β M) κ ≡ rowFactor (element (c .R) 0) ⊗ columnFactor (element (c .C) 0)
+      filling-denominator : eval (denominator c α β M) κ ≡ rowFactor (element (c .|R|) 0) ⊗ columnFactor (element (c .|C|) 0)
       unfolding element
       filling-denominator = denominator-factors κ fillingIndex (index-at-filling Q c W M i after within) (sym (mul-one 𝟙))
 
@@ -115,8 +115,8 @@ module _ {q : Prime} (Q : Qualifies q) (c : Circuit) (W : WellFormed (q .p) c) (
         mul-not-zero (primeRing q) (primeField q) _ _ (row-not-zero (e i .row) (fits i below .row-below))
         (column-not-zero (e i .column) (fits i below .column-below)) (sym (entry-denominator i below) ∙ vanishes)
     | no past ↦
-        mul-not-zero (primeRing q) (primeField q) _ _ (row-not-zero 0 (size-positive (c .R) (W .R-size)))
-        (column-not-zero 0 (size-positive (c .C) (W .C-size))) (sym (filling-denominator i (omega arith) within) ∙ vanishes)
+        mul-not-zero (primeRing q) (primeField q) _ _ (row-not-zero 0 (size-positive (c .|R|) (W .R-size)))
+        (column-not-zero 0 (size-positive (c .|C|) (W .C-size))) (sym (filling-denominator i (omega arith) within) ∙ vanishes)
   ]
 
   -- Σ over K_M of a_M/b_M is M̂(α,β)

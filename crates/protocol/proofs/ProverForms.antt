@@ -44,7 +44,7 @@ times-pick {q} false a = mul-zero (primeRing q) a
 unfoldable pub columnSum : {q : Prime} → Circuit → MatrixName → Elem q → ℕ → Elem q
 columnSum {q} c M α k =
     sumList (primeRing q)
-    (λ e. pick (eqb (e .column) k) (of (e .value) ⊗ lagrange (c .R) (element (c .R) (e .row)) α) 𝟘) (at (c .matrices) M)
+    (λ e. pick (eqb (e .column) k) (of (e .value) ⊗ lagrange (c .|R|) (element (c .|R|) (e .row)) α) 𝟘) (at (c .matrices) M)
 
 module _ {q : Prime} (Q : Qualifies q) (c : Circuit) (W : WellFormed (q .p) c) where
   -- a function's polynomial from its values
@@ -57,29 +57,29 @@ module _ {q : Prime} (Q : Qualifies q) (c : Circuit) (W : WellFormed (q .p) c) w
 
   -- ẑ_M interpolates the rows' sums of z, where z are the values of ẑ on C
   pub image-by-rows :
-      (M : MatrixName) (ẑ : Poly q) (z : List (Elem q)) → valuesOn (c .C) ẑ ≡ z
-      → agreeing (c .R) (image c ẑ M) ≡ interpolate (c .R) (tabulate (c .R) (rowSum c M z))
+      (M : MatrixName) (ẑ : Poly q) (z : List (Elem q)) → valuesOn (c .|C|) ẑ ≡ z
+      → agreeing (c .|R|) (image c ẑ M) ≡ interpolate (c .|R|) (tabulate (c .|R|) (rowSum c M z))
   image-by-rows M ẑ z e =
-      agreeing-values (c .R) (W .R-size) (image c ẑ M) (rowSum c M z)
+      agreeing-values (c .|R|) (W .R-size) (image c ẑ M) (rowSum c M z)
       (λ i l. image-on-rows Q c W M ẑ i l ∙ ap (λ v. rowSum c M v i) e)
 
-  extension-on-columns : (M : MatrixName) (α : Elem q) (k : ℕ) → k < c .C → extension c M α (element (c .C) k) ≡ columnSum c M α k
+  extension-on-columns : (M : MatrixName) (α : Elem q) (k : ℕ) → k < c .|C| → extension c M α (element (c .|C|) k) ≡ columnSum c M α k
   unfolding extension columnSum
   extension-on-columns M α k l =
       sumList-ext (primeRing q) _ _ (at (c .matrices) M)
       (all-map (λ e f.
-      let a : Elem q = of (e .value) ⊗ lagrange (c .R) (element (c .R) (e .row)) α in
-      ap (λ v. a ⊗ v) (lagrange-on Q (c .C) (W .C-size) (e .column) k (f .column-below) l) ∙ times-pick (eqb (e .column) k) a)
+      let a : Elem q = of (e .value) ⊗ lagrange (c .|R|) (element (c .|R|) (e .row)) α in
+      ap (λ v. a ⊗ v) (lagrange-on Q (c .|C|) (W .C-size) (e .column) k (f .column-below) l) ∙ times-pick (eqb (e .column) k) a)
       (at (c .matrices) M) (W .fit M))
 
   -- Σ η_M M̂(α,Y) interpolates the weighted columns' sums
   pub weighted-by-columns :
       (α : Elem q) (η : Three (Elem q))
-      → agreeing (c .C) (λ y. weighted η (values c α y))
-      ≡ interpolate (c .C) (tabulate (c .C) (λ k. weighted η (each (λ M. columnSum c M α k))))
+      → agreeing (c .|C|) (λ y. weighted η (values c α y))
+      ≡ interpolate (c .|C|) (tabulate (c .|C|) (λ k. weighted η (each (λ M. columnSum c M α k))))
   unfolding values
   weighted-by-columns α η =
-      agreeing-values (c .C) (W .C-size) (λ y. weighted η (values c α y)) (λ k. weighted η (each (λ M. columnSum c M α k)))
+      agreeing-values (c .|C|) (W .C-size) (λ y. weighted η (values c α y)) (λ k. weighted η (each (λ M. columnSum c M α k)))
       (λ k l. λ i. weighted η (record {
         a = extension-on-columns A α k l i;
         b = extension-on-columns B α k l i;
@@ -88,7 +88,7 @@ module _ {q : Prime} (Q : Qualifies q) (c : Circuit) (W : WellFormed (q .p) c) w
 
   -- a_M/b_M on K_M: the entries' terms of M̂(α,β), and 0 after them
   pub ratio-by-entries :
-      (α β : Elem q) → (α-outside : Outside (c .R) α) (β-outside : Outside (c .C) β) (M : MatrixName)
+      (α β : Elem q) → (α-outside : Outside (c .|R|) α) (β-outside : Outside (c .|C|) β) (M : MatrixName)
       → ratio c α β M
       ≡ interpolate (sizeK c M)
       (map (term Q c W α β α-outside β-outside M) (at (c .matrices) M) ++ replicate (sizeK c M - length (at (c .matrices) M)) 𝟘)

@@ -37,12 +37,12 @@ byteCount-bound [] h = omega arith
 byteCount-bound (n ∷ l) h = omega (arith, byteCount-bound l (h .1))
 
 module _ (s : Sizes) where
-  sizes-bound : All (λ t. t ≡ true) (sixSizeTests s) → All (λ n. n ≤ maxSize) (s .R ∷ s .C ∷ s .X ∷ listed (s .K))
+  sizes-bound : All (λ t. t ≡ true) (sixSizeTests s) → All (λ n. n ≤ maxSize) (s .|R| ∷ s .|C| ∷ s .|X| ∷ listed (s .|K|))
   unfolding sixSizeTests sizeTests
   sizes-bound (r, (c, (x, k))) =
-      all-map size-bound (s .R ∷ s .C ∷ s .X ∷ listed (s .K)) (r, (c, (and-true (isSize (s .X)) (leb (s .X) (s .C)) x .0, k)))
+      all-map size-bound (s .|R| ∷ s .|C| ∷ s .|X| ∷ listed (s .|K|)) (r, (c, (and-true (isSize (s .|X|)) (leb (s .|X|) (s .|C|)) x .0, k)))
 
-  lengths-bound : All (λ n. n ≤ maxSize) (s .R ∷ s .C ∷ s .X ∷ listed (s .K)) → All (λ n. n ≤ 2 * maxSize) (sectionLengths s)
+  lengths-bound : All (λ n. n ≤ maxSize) (s .|R| ∷ s .|C| ∷ s .|X| ∷ listed (s .|K|)) → All (λ n. n ≤ 2 * maxSize) (sectionLengths s)
   unfolding sectionLengths lengths largest
   lengths-bound h = omega arith
 
@@ -55,7 +55,7 @@ module _ (s : Sizes) where
   trailer-fits tests =
       let six = sizes-bound tests in
       let total = sections-bound (lengths-bound six) in
-      all-append Word (startsFrom 0 (sectionLengths s)) (s .R ∷ s .C ∷ s .X ∷ (listed (s .K) ++ (sectionBytes s ∷ [])))
+      all-append Word (startsFrom 0 (sectionLengths s)) (s .|R| ∷ s .|C| ∷ s .|X| ∷ (listed (s .|K|) ++ (sectionBytes s ∷ [])))
       (all-map (λ w h. omega arith) (startsFrom 0 (sectionLengths s)) (starts-bound 0 (sectionLengths s))) (omega arith)
 
   trailer-length : length (trailer s) ≡ 18
@@ -174,10 +174,10 @@ module _ (q : Prime) (Q : Qualifies q) (s : Sizes) (parts : List (List ℕ)) (wr
   sizes-read : sizesRead bytes ≡ s
   unfolding sizesRead trailer sectionLengths startsFrom
   sizes-read = λ i. record {
-    R = word-read 11 i;
-    C = word-read 12 i;
-    X = word-read 13 i;
-    K = record { a = word-read 14 i; b = word-read 15 i; c = word-read 16 i };
+    |R| = word-read 11 i;
+    |C| = word-read 12 i;
+    |X| = word-read 13 i;
+    |K| = record { a = word-read 14 i; b = word-read 15 i; c = word-read 16 i };
   }
 
   starts-read : tabulate 11 (trailerWord bytes) ≡ starts
@@ -266,7 +266,7 @@ module _ (q : Prime) (ws tr : List ℕ) (eighteen : length tr ≡ 18) (fit : All
   trailer-same : trailer s ≡ tr
   unfolding trailer sizesRead
   trailer-same =
-      ap₂ (λ starts last. starts ++ (s .R ∷ s .C ∷ s .X ∷ (listed (s .K) ++ (last ∷ [])))) (sym (pass .starts)) (sym (pass .last ∙ pass .total))
+      ap₂ (λ starts last. starts ++ (s .|R| ∷ s .|C| ∷ s .|X| ∷ (listed (s .|K|) ++ (last ∷ [])))) (sym (pass .starts)) (sym (pass .last ∙ pass .total))
       ∙ trailer-read ws tr eighteen fit
 
   words-written : Written q (bytesOf (ws ++ tr))

@@ -32,48 +32,48 @@ module _ {q : Prime} (Q : Qualifies q) (c : Circuit) (W : WellFormed (q .p) c) (
   abbrev f : Poly q
   f = rowPoly Q c W ẑ
 
-  R-positive : 0 < c .R
-  R-positive = size-positive (c .R) (W .R-size)
+  R-positive : 0 < c .|R|
+  R-positive = size-positive (c .|R|) (W .R-size)
 
   -- at a row's element the left side is the row's difference
   left-on-rows :
-      (i : ℕ) → i < c .R
-      → eval f (element (c .R) i) ≡ rowSum c A (valuesOn (c .C) ẑ) i ⊗ rowSum c B (valuesOn (c .C) ẑ) i ⊖ rowSum c C (valuesOn (c .C) ẑ) i
+      (i : ℕ) → i < c .|R|
+      → eval f (element (c .|R|) i) ≡ rowSum c A (valuesOn (c .|C|) ẑ) i ⊗ rowSum c B (valuesOn (c .|C|) ẑ) i ⊖ rowSum c C (valuesOn (c .|C|) ẑ) i
   unfolding rowLeft sums
   left-on-rows i l =
-      eval-rowPoly Q c W ẑ (element (c .R) i)
+      eval-rowPoly Q c W ẑ (element (c .|R|) i)
       ∙ ap₂ _⊖_ (ap₂ _⊗_ (image-on-rows Q c W A ẑ i l) (image-on-rows Q c W B ẑ i l)) (image-on-rows Q c W C ẑ i l)
 
   -- "ẑ_A ẑ_B - ẑ_C = h0 v_R" at every point, where every row is satisfied
-  pub row-rule : Satisfied c (valuesOn (c .C) ẑ) → (y : Elem q) → rowLeft (sums c ẑ y) ≡ rowRight (sizesOf c) y (eval (rowQuotient c ẑ) y)
+  pub row-rule : Satisfied c (valuesOn (c .|C|) ẑ) → (y : Elem q) → rowLeft (sums c ẑ y) ≡ rowRight (sizesOf c) y (eval (rowQuotient c ẑ) y)
   unfolding rowRight rowQuotient sizesOf
   row-rule satisfied y =
       sym (eval-rowPoly Q c W ẑ y)
-      ∙ vanishing-divides Q (c .R) (W .R-size) f (λ i l. left-on-rows i l ∙ eq→sub-zero (primeRing q) _ _ (satisfied i l)) y
+      ∙ vanishing-divides Q (c .|R|) (W .R-size) f (λ i l. left-on-rows i l ∙ eq→sub-zero (primeRing q) _ _ (satisfied i l)) y
 
   pub length-rowQuotient : length (rowQuotient c ẑ) ≡ lengths (sizesOf c) .rowQuotient
   unfolding rowQuotient lengths sizesOf
-  length-rowQuotient = omega (arith, length-quotient (primeRing q) (c .R) f R-positive, length-rowPoly Q c W ẑ, R-positive)
+  length-rowQuotient = omega (arith, length-quotient (primeRing q) (c .|R|) f R-positive, length-rowPoly Q c W ẑ, R-positive)
 
   abbrev Equal : Poly q → Elem q → Type 0
   Equal h0 y = rowLeft (sums c ẑ y) ≡ rowRight (sizesOf c) y (eval h0 y)
 
   -- enough equal points: h0 is the quotient, and the sides are equal everywhere
   recovered :
-      (h0 : Poly q) → length h0 ≡ lengths (sizesOf c) .rowQuotient → MoreThan (2 * c .R - 2) (λ y. Outside (c .R) y × Equal h0 y)
-      → (rowQuotient c ẑ ≡ h0) × ((y : Elem q) → eval f y ≡ eval h0 y ⊗ vanishing (c .R) y)
+      (h0 : Poly q) → length h0 ≡ lengths (sizesOf c) .rowQuotient → MoreThan (2 * c .|R| - 2) (λ y. Outside (c .|R|) y × Equal h0 y)
+      → (rowQuotient c ẑ ≡ h0) × ((y : Elem q) → eval f y ≡ eval h0 y ⊗ vanishing (c .|R|) y)
   unfolding rowRight rowQuotient lengths sizesOf
   recovered h0 fits (l, distinct, equal, more) =
-      quotient-recovers Q (c .R) (W .R-size) f h0
+      quotient-recovers Q (c .|R|) (W .R-size) f h0
       (omega (arith, length-rowPoly Q c W ẑ, R-positive)) (omega (arith, length-rowPoly Q c W ẑ, R-positive))
-      (2 * c .R - 2) (omega (arith, length-rowPoly Q c W ẑ, R-positive))
+      (2 * c .|R| - 2) (omega (arith, length-rowPoly Q c W ẑ, R-positive))
       (l, distinct, all-map (λ y e. (e .0, eval-rowPoly Q c W ẑ y ∙ e .1)) l equal, more)
 
-  divided-satisfied : (h0 : Poly q) → ((y : Elem q) → eval f y ≡ eval h0 y ⊗ vanishing (c .R) y) → Satisfied c (valuesOn (c .C) ẑ)
+  divided-satisfied : (h0 : Poly q) → ((y : Elem q) → eval f y ≡ eval h0 y ⊗ vanishing (c .|R|) y) → Satisfied c (valuesOn (c .|C|) ẑ)
   divided-satisfied h0 divided i l =
       sub-zero→eq (primeRing q) _ _
-      (sym (left-on-rows i l) ∙ divided (element (c .R) i)
-      ∙ ap (λ v. eval h0 (element (c .R) i) ⊗ v) (vanishing-on Q (c .R) (W .R-size) i l) ∙ mul-zero (primeRing q) _)
+      (sym (left-on-rows i l) ∙ divided (element (c .|R|) i)
+      ∙ ap (λ v. eval h0 (element (c .|R|) i) ⊗ v) (vanishing-on Q (c .|R|) (W .R-size) i l) ∙ mul-zero (primeRing q) _)
 
 pub row-means : {q : Prime} → Qualifies q → (S : Setting q) → RowMeans q S
 row-means {q} Q S =
@@ -81,7 +81,7 @@ row-means {q} Q S =
       complete = λ satisfied. (
         rowQuotient c ẑ,
         length-rowQuotient Q c W ẑ,
-        (let (l, distinct, outside, more) = outside-many Q (c .R) (W .R-size) (2 * c .R - 2) room in
+        (let (l, distinct, outside, more) = outside-many Q (c .|R|) (W .R-size) (2 * c .|R| - 2) room in
             (l, distinct, all-map (λ y o. (o, row-rule Q c W ẑ satisfied y)) l outside, more)),
       );
       sound = λ h0 fits many. divided-satisfied Q c W ẑ h0 (recovered Q c W ẑ h0 fits many .1);
@@ -101,5 +101,5 @@ row-means {q} Q S =
     ẑ : Poly q
     ẑ = assignment c (S .x) (S .w)
 
-    room : 2 * c .R - 2 + c .R < q .p
-    room = omega (arith, large-enough q Q, size-bound (c .R) (W .R-size))
+    room : 2 * c .|R| - 2 + c .|R| < q .p
+    room = omega (arith, large-enough q Q, size-bound (c .|R|) (W .R-size))

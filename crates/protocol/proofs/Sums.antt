@@ -31,19 +31,19 @@ module _ {q : Prime} (c : Circuit) (m ẑ : Poly q) (α : Elem q) where
 
   pub line-sum-parts :
       (η : Three (Elem q))
-      → sumOver (c .C) (λ y. lineLeft η (values c α y) (eval m y) (eval ẑ y)) ≡ sumOver (c .C) (eval m) ⊕ weighted η (sums c ẑ α)
+      → sumOver (c .|C|) (λ y. lineLeft η (values c α y) (eval m y) (eval ẑ y)) ≡ sumOver (c .|C|) (eval m) ⊕ weighted η (sums c ẑ α)
   unfolding lineLeft weighted values sums image
   line-sum-parts η =
       let scaled : MatrixName → Elem q → Elem q = λ M y. at η M ⊗ term M y in
-      sumOver-ext (c .C) _ (λ y. eval m y ⊕ (scaled A y ⊕ scaled B y ⊕ scaled C y))
+      sumOver-ext (c .|C|) _ (λ y. eval m y ⊕ (scaled A y ⊕ scaled B y ⊕ scaled C y))
       (λ i l.
-      ring R (eval m (element (c .C) i) ∷ eval ẑ (element (c .C) i) ∷ η .a ∷ η .b ∷ η .c ∷ extension c A α (element (c .C) i) ∷ extension c B α (element (c .C) i) ∷ extension c C α (element (c .C) i) ∷ [])
+      ring R (eval m (element (c .|C|) i) ∷ eval ẑ (element (c .|C|) i) ∷ η .a ∷ η .b ∷ η .c ∷ extension c A α (element (c .|C|) i) ∷ extension c B α (element (c .|C|) i) ∷ extension c C α (element (c .|C|) i) ∷ [])
       (λ m z a b c u v w. m :+ (a :* u :+ b :* v :+ c :* w) :* z := m :+ (a :* (u :* z) :+ b :* (v :* z) :+ c :* (w :* z))) tt)
-      ∙ sumOver-add (c .C) (eval m) (λ y. scaled A y ⊕ scaled B y ⊕ scaled C y)
-      ∙ ap (λ v. sumOver (c .C) (eval m) ⊕ v)
-      (sumOver-add (c .C) (λ y. scaled A y ⊕ scaled B y) (scaled C)
-      ∙ ap₂ _⊕_ (sumOver-add (c .C) (scaled A) (scaled B) ∙ ap₂ _⊕_ (sumOver-scale (c .C) (η .a) (term A)) (sumOver-scale (c .C) (η .b) (term B)))
-      (sumOver-scale (c .C) (η .c) (term C)))
+      ∙ sumOver-add (c .|C|) (eval m) (λ y. scaled A y ⊕ scaled B y ⊕ scaled C y)
+      ∙ ap (λ v. sumOver (c .|C|) (eval m) ⊕ v)
+      (sumOver-add (c .|C|) (λ y. scaled A y ⊕ scaled B y) (scaled C)
+      ∙ ap₂ _⊕_ (sumOver-add (c .|C|) (scaled A) (scaled B) ∙ ap₂ _⊕_ (sumOver-scale (c .|C|) (η .a) (term A)) (sumOver-scale (c .|C|) (η .b) (term B)))
+      (sumOver-scale (c .|C|) (η .c) (term C)))
 
 -- the line claim is a linear equation in η, with the coefficients ẑ_M(α) - σ_M
 module _ {q : Prime} (c : Circuit) (m ẑ : Poly q) (α : Elem q) (σ : Three (Elem q)) where
@@ -51,11 +51,11 @@ module _ {q : Prime} (c : Circuit) (m ẑ : Poly q) (α : Elem q) (σ : Three (E
   sumErrors = each (λ M. image c ẑ M α ⊖ at σ M)
 
   pub line-claim-linear :
-      (η : Three (Elem q)) → sumOver (c .C) (λ y. lineLeft η (values c α y) (eval m y) (eval ẑ y)) ≡ weighted η σ
-      → linear (sumOver (c .C) (eval m)) sumErrors η ≡ 𝟘
+      (η : Three (Elem q)) → sumOver (c .|C|) (λ y. lineLeft η (values c α y) (eval m y) (eval ẑ y)) ≡ weighted η σ
+      → linear (sumOver (c .|C|) (eval m)) sumErrors η ≡ 𝟘
   unfolding weighted sums
   line-claim-linear η claim =
-      ring-by (primeRing q) (sumOver (c .C) (eval m) ∷ η .a ∷ η .b ∷ η .c ∷ image c ẑ A α ∷ image c ẑ B α ∷ image c ẑ C α ∷ σ .a ∷ σ .b ∷ σ .c ∷ [])
+      ring-by (primeRing q) (sumOver (c .|C|) (eval m) ∷ η .a ∷ η .b ∷ η .c ∷ image c ẑ A α ∷ image c ẑ B α ∷ image c ẑ C α ∷ σ .a ∷ σ .b ∷ σ .c ∷ [])
       (λ m a b c u v w x y z.
       m :+ ((u :- x) :* a :+ (v :- y) :* b :+ (w :- z) :* c) := :0
       from (:1 ⊙ (m :+ (a :* u :+ b :* v :+ c :* w) := a :* x :+ b :* y :+ c :* z)) ∷ [])
@@ -66,5 +66,5 @@ sums-caught {q} S m α σ M false =
     let c : Circuit = S .circuit in
     let ẑ : Poly q = assignment c (S .x) (S .w) in
     at-most-mono (q .p * q .p) (q .p * q .p) (le-refl (q .p * q .p)) (line-claim-linear c m ẑ α σ)
-    (linear-solutions (sumOver (c .C) (eval m)) (sumErrors c m ẑ α σ) M
+    (linear-solutions (sumOver (c .|C|) (eval m)) (sumErrors c m ẑ α σ) M
     (λ e. false (sym (sub-zero→eq (primeRing q) _ _ (sym (at-each (λ M. image c ẑ M α ⊖ at σ M) M) ∙ e)))))

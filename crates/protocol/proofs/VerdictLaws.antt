@@ -7,7 +7,7 @@ use Rattle.field.specs.Prime.{Prime}
 use Rattle.field.specs.Element.{Elem, equal}
 use Rattle.field.proofs.Field.{equal-true, equal-false, true-equal}
 use Rattle.protocol.specs.Circuit.{Sizes}
-use Rattle.protocol.specs.Checks.{Heard, Openings, Verdict, Accept, Fails, Row, Line, Matrix, weighted, rowLeft, rowRight, assignmentValue, lineLeft, lineRight, joinedLeft, joinedRight, verdict}
+use Rattle.protocol.specs.Checks.{Transcript, Openings, Verdict, Accept, Fails, Row, Line, Matrix, weighted, rowLeft, rowRight, assignmentValue, lineLeft, lineRight, joinedLeft, joinedRight, verdict}
 use Rattle.protocol.specs.Demand2.{Holds, VerdictMeans}
 
 -- three equations tested in order
@@ -40,7 +40,7 @@ verdict-means q s x h o =
 
 -- where the three equations hold, the verdict is Accept
 pub accepts :
-    {q : Prime} (s : Sizes) (x : List (Elem q)) (h : Heard (Elem q)) (o : Openings (Elem q))
+    {q : Prime} (s : Sizes) (x : List (Elem q)) (h : Transcript (Elem q)) (o : Openings (Elem q))
     → Holds q s x h o Row → Holds q s x h o Line → Holds q s x h o Matrix → verdict s x h o ≡ Accept
 unfolding verdict pick
 accepts s x h o row line matrix = rw (true-equal _ _ row, true-equal _ _ line, true-equal _ _ matrix) refl

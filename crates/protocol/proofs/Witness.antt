@@ -14,7 +14,7 @@ use Rattle.field.specs.Prime.{Prime}
 use Rattle.field.specs.Element.{Elem, 𝟘, _⊕_, _⊗_}
 use Rattle.field.proofs.ElementLaws.{primeRing}
 use Rattle.domain.specs.Domain.{element, vanishing}
-use Rattle.domain.specs.Polynomial.{Poly, eval, minus, scale, quotient, interpolate, valuesOn}
+use Rattle.domain.specs.Polynomial.{Poly, eval, _⊟_, _·_, quotient, interpolate, valuesOn}
 use Rattle.domain.specs.Qualifies.{Qualifies}
 use Rattle.domain.proofs.ListLaws.{equal-entries}
 use Rattle.domain.proofs.SizeLaws.{size-positive, size-divides, size-quotient-positive}
@@ -32,73 +32,73 @@ module _ {q : Prime} (Q : Qualifies q) (c : Circuit) (W : WellFormed (q .p) c) (
   R = primeRing q
 
   abbrev zPoly : Poly q
-  zPoly = interpolate (c .C) z
+  zPoly = interpolate (c .|C|) z
 
   abbrev xPoly : Poly q
-  xPoly = interpolate (c .X) (publicPart c z)
+  xPoly = interpolate (c .|X|) (publicPart c z)
 
-  X-positive : 0 < c .X
-  X-positive = size-positive (c .X) (W .X-size)
+  X-positive : 0 < c .|X|
+  X-positive = size-positive (c .|X|) (W .X-size)
 
   -- a public column
-  column-below : (i : ℕ) → i < c .X → i * (c .C / c .X) < c .C
+  column-below : (i : ℕ) → i < c .|X| → i * (c .|C| / c .|X|) < c .|C|
   column-below i l =
-      let k : ℕ = c .C / c .X in
-      let whole : c .C ≡ c .X * k = size-divides (c .X) (c .C) (W .X-size) (W .C-size) (W .X-within) in
+      let k : ℕ = c .|C| / c .|X| in
+      let whole : c .|C| ≡ c .|X| * k = size-divides (c .|X|) (c .|C|) (W .X-size) (W .C-size) (W .X-within) in
       omega (
         arith,
         suc-mul i k,
         mul-le-mul-right k l,
-        size-quotient-positive (c .X) (c .C) (W .X-size) (W .C-size) (W .X-within),
+        size-quotient-positive (c .|X|) (c .|C|) (W .X-size) (W .C-size) (W .X-within),
       )
 
   -- z(Y) - x̂(Y) is 0 on X
-  difference-on-X : (i : ℕ) → i < c .X → eval (minus zPoly xPoly) (element (c .X) i) ≡ 𝟘
+  difference-on-X : (i : ℕ) → i < c .|X| → eval (_⊟_ zPoly xPoly) (element (c .|X|) i) ≡ 𝟘
   unfolding publicPart
   difference-on-X i l =
-      eval-minus zPoly xPoly (element (c .X) i)
+      eval-minus zPoly xPoly (element (c .|X|) i)
       ∙ eq→sub-zero R _ _
-      (ap (eval zPoly) (subgroup-element Q (c .X) (c .C) (W .X-size) (W .C-size) (W .X-within) i)
-      ∙ eval-interpolate Q (c .C) (W .C-size) z (i * (c .C / c .X)) (column-below i l)
-      ∙ sym (eval-interpolate Q (c .X) (W .X-size) (publicPart c z) i l ∙ getD-tabulate (c .X) i (λ i. getD z (i * (c .C / c .X)) 𝟘) 𝟘 l))
+      (ap (eval zPoly) (subgroup-element Q (c .|X|) (c .|C|) (W .X-size) (W .C-size) (W .X-within) i)
+      ∙ eval-interpolate Q (c .|C|) (W .C-size) z (i * (c .|C| / c .|X|)) (column-below i l)
+      ∙ sym (eval-interpolate Q (c .|X|) (W .X-size) (publicPart c z) i l ∙ getD-tabulate (c .|X|) i (λ i. getD z (i * (c .|C| / c .|X|)) 𝟘) 𝟘 l))
 
   pub length-witness : length (witness c z r) ≡ lengths (sizesOf c) .witness
   unfolding witness publicPoly lengths sizesOf
   length-witness = omega (
     arith,
-    length-add R (quotient (c .X) (minus zPoly xPoly)) (scale r (vanishingRatio (c .X) (c .C))),
-    length-quotient R (c .X) (minus zPoly xPoly) X-positive,
-    length-minus zPoly xPoly (omega (arith, length-interpolate (c .C) z, length-interpolate (c .X) (publicPart c z), W .X-within)),
-    length-interpolate (c .C) z,
-    length-scale R r (vanishingRatio {q = q} (c .X) (c .C)),
-    length-vanishingRatio q (c .X) (c .C) (W .X-size) (W .C-size) (W .X-within),
+    length-add R (quotient (c .|X|) (_⊟_ zPoly xPoly)) (_·_ r (vanishingRatio (c .|X|) (c .|C|))),
+    length-quotient R (c .|X|) (_⊟_ zPoly xPoly) X-positive,
+    length-minus zPoly xPoly (omega (arith, length-interpolate (c .|C|) z, length-interpolate (c .|X|) (publicPart c z), W .X-within)),
+    length-interpolate (c .|C|) z,
+    length-scale R r (vanishingRatio {q = q} (c .|X|) (c .|C|)),
+    length-vanishingRatio q (c .|X|) (c .|C|) (W .X-size) (W .C-size) (W .X-within),
     W .X-within,
   )
 
   abbrev ẑ : Poly q
   ẑ = assignment c (publicPart c z) (witness c z r)
 
-  eval-ẑ : (y : Elem q) → eval ẑ y ≡ eval zPoly y ⊕ r ⊗ vanishing (c .C) y
+  eval-ẑ : (y : Elem q) → eval ẑ y ≡ eval zPoly y ⊕ r ⊗ vanishing (c .|C|) y
   unfolding witness publicPoly assignmentValue sizesOf
   eval-ẑ y =
-      let high : Poly q = quotient (c .X) (minus zPoly xPoly) in
-      let ratio : Poly q = vanishingRatio (c .X) (c .C) in
+      let high : Poly q = quotient (c .|X|) (_⊟_ zPoly xPoly) in
+      let ratio : Poly q = vanishingRatio (c .|X|) (c .|C|) in
       eval-assignment c X-positive (publicPart c z) (witness c z r) y
-      ∙ ap (λ w. w ⊗ vanishing (c .X) y ⊕ eval xPoly y) (eval-add R high (scale r ratio) y ∙ ap (λ v. eval high y ⊕ v) (eval-scale R r ratio y))
-      ∙ ring-by R (eval high y ∷ r ∷ eval ratio y ∷ vanishing (c .X) y ∷ eval zPoly y ∷ eval xPoly y ∷ vanishing (c .C) y ∷ [])
+      ∙ ap (λ w. w ⊗ vanishing (c .|X|) y ⊕ eval xPoly y) (eval-add R high (_·_ r ratio) y ∙ ap (λ v. eval high y ⊕ v) (eval-scale R r ratio y))
+      ∙ ring-by R (eval high y ∷ r ∷ eval ratio y ∷ vanishing (c .|X|) y ∷ eval zPoly y ∷ eval xPoly y ∷ vanishing (c .|C|) y ∷ [])
       (λ h r s v z x w. (h :+ r :* s) :* v :+ x := z :+ r :* w from ((:- :1) ⊙ (z :- x := h :* v)) ∷ (r ⊙ (s :* v := w)) ∷ []) (
-        sym (eval-minus zPoly xPoly y) ∙ vanishing-divides Q (c .X) (W .X-size) (minus zPoly xPoly) difference-on-X y,
-        (eval-vanishingRatio (c .X) (c .C) (W .X-size) (W .C-size) (W .X-within) y, tt),
+        sym (eval-minus zPoly xPoly y) ∙ vanishing-divides Q (c .|X|) (W .X-size) (_⊟_ zPoly xPoly) difference-on-X y,
+        (eval-vanishingRatio (c .|X|) (c .|C|) (W .X-size) (W .C-size) (W .X-within) y, tt),
       ) tt
 
-  pub assignment-values : length z ≡ c .C → valuesOn (c .C) ẑ ≡ z
+  pub assignment-values : length z ≡ c .|C| → valuesOn (c .|C|) ẑ ≡ z
   assignment-values z-length =
-      equal-entries 𝟘 (valuesOn (c .C) ẑ) z (length-valuesOn (c .C) ẑ ∙ sym z-length)
+      equal-entries 𝟘 (valuesOn (c .|C|) ẑ) z (length-valuesOn (c .|C|) ẑ ∙ sym z-length)
       (λ i l.
-      let k : i < c .C = omega (arith, length-valuesOn (c .C) ẑ) in
-      getD-valuesOn (c .C) i ẑ k ∙ eval-ẑ (element (c .C) i)
-      ∙ ring-by R (eval zPoly (element (c .C) i) ∷ r ∷ vanishing (c .C) (element (c .C) i) ∷ getD z i 𝟘 ∷ [])
+      let k : i < c .|C| = omega (arith, length-valuesOn (c .|C|) ẑ) in
+      getD-valuesOn (c .|C|) i ẑ k ∙ eval-ẑ (element (c .|C|) i)
+      ∙ ring-by R (eval zPoly (element (c .|C|) i) ∷ r ∷ vanishing (c .|C|) (element (c .|C|) i) ∷ getD z i 𝟘 ∷ [])
       (λ z r v u. z :+ r :* v := u from (r ⊙ (v := :0)) ∷ (:1 ⊙ (z := u)) ∷ []) (
-        vanishing-inside Q (c .C) (W .C-size) _ (inside-element Q (c .C) (W .C-size) i k),
-        (eval-interpolate Q (c .C) (W .C-size) z i k, tt),
+        vanishing-inside Q (c .|C|) (W .C-size) _ (inside-element Q (c .|C|) (W .C-size) i k),
+        (eval-interpolate Q (c .|C|) (W .C-size) z i k, tt),
       ) tt)

@@ -24,24 +24,25 @@ countTests c = listed (mapThree (λ entries. leb (length entries) maxSize) (c .m
 
 -- the lengths of z and m
 unfoldable pub assignmentTests : Circuit → List ℕ → List ℕ → List Bool
-assignmentTests c z m = eqb (length z) (c .C) ∷ eqb (length m) (2 * c .C) ∷ []
+assignmentTests c z m = eqb (length z) (c .|C|) ∷ eqb (length m) (2 * c .|C|) ∷ []
 
 module _ (q : Prime) where
   -- 4, 5, 6 and 7, with the tests of all lists of the call, and the words that it has after the circuit's
   unfoldable pub circuitRefusals : Circuit → List Bool → List ℕ → List (Option Refusal)
   circuitRefusals c lists ws =
-      sizeRefusal (sizeTests (c .R) (c .C) (c .X) []) ∷ listRefusal lists ∷ wordRefusal q (entryValues c ++ ws) ∷ entryRefusal c ∷ []
+      sizeRefusal (sizeTests (c .|R|) (c .|C|) (c .|X|) []) ∷ listRefusal lists ∷ wordRefusal q (entryValues c ++ ws) ∷ entryRefusal c ∷ []
 
   -- "every circuit that the table of refusals lets through"
   abbrev pub Admitted : Circuit → Type 0
   Admitted c = first (circuitRefusals c (countTests c) []) ≡ none
 
-  -- 4 to 10, with z, m and as many of the challenges α, β, γ as the call has; the words after the circuit's hold them all
-  unfoldable pub proverRefusal : Circuit → List Bool → List ℕ → List ℕ → List ℕ → List ℕ → Option Refusal
-  proverRefusal c lists ws z m challenges =
+  -- 4 to 10 of a call or a job with the tests of its lists: z, r and m, all its challenge words in order, and those of α, β, γ among
+  -- them
+  unfoldable pub proverRefusal : Circuit → List Bool → List ℕ → ℕ → List ℕ → List ℕ → List ℕ → Option Refusal
+  proverRefusal c lists z r m challenges points =
       first
-      (circuitRefusals c lists ws
+      (circuitRefusals c lists (z ++ (r ∷ (m ++ challenges)))
       ++ (maskRefusal {q = q} c (map of m)
       ∷ assignmentRefusal {q = q} c (map of z)
-      ∷ challengeRefusal {q = q} 0 (c .R ∷ c .C ∷ largest (sizesOf c .K) ∷ []) (map of challenges)
+      ∷ challengeRefusal {q = q} 0 (c .|R| ∷ c .|C| ∷ largest (sizesOf c .|K|) ∷ []) (map of points)
       ∷ []))

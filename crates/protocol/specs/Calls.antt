@@ -28,9 +28,9 @@ maxWords = 2048
 
 -- a circuit as calls have it: three sizes, and for each matrix the words row, column, value of its entries
 pub record CircuitWords : Type 0 where
-  pub R : ℕ
-  pub C : ℕ
-  pub X : ℕ
+  pub |R| : ℕ
+  pub |C| : ℕ
+  pub |X| : ℕ
   pub matrices : Three (List ℕ)
 
 unfoldable pub entriesOf : List ℕ → List Entry
@@ -40,7 +40,7 @@ entriesOf (i ∷ (k ∷ [])) = []
 entriesOf (i ∷ (k ∷ (v ∷ l))) = record { row = i; column = k; value = v } ∷ entriesOf l
 
 unfoldable pub circuitOf : CircuitWords → Circuit
-circuitOf c = record { R = c .R; C = c .C; X = c .X; matrices = mapThree entriesOf (c .matrices) }
+circuitOf c = record { |R| = c .|R|; |C| = c .|C|; |X| = c .|X|; matrices = mapThree entriesOf (c .matrices) }
 
 -- whole entries, and not over 1,024 of them: a test for each matrix
 unfoldable pub entryListTests : CircuitWords → List Bool
@@ -94,7 +94,7 @@ module _ (q : Prime) where
   unfoldable pub indexCall : CircuitWords → Three (Index ℕ) → Outcome (Three (Index (List ℕ)))
   indexCall c lent =
       let circuit : Circuit = circuitOf c in
-      let lentTests : MatrixName → Index Bool = λ M. mapIndex (λ n. eqb n (at (sizesOf circuit .K) M)) (at lent M) in
+      let lentTests : MatrixName → Index Bool = λ M. mapIndex (λ n. eqb n (at (sizesOf circuit .|K|) M)) (at lent M) in
       judged
       (first
       (circuitRefusals q circuit
@@ -124,10 +124,10 @@ module _ (q : Prime) where
     -- the refusal of a prover call, from the lengths of its lent slices, the lengths that they must have, all its challenge
     -- words in order, and those among them that have a forbidden domain
     unfoldable pub roundRefusal : List ℕ → List ℕ → List ℕ → List ℕ → Option Refusal
-    roundRefusal lent given ws challenges =
+    roundRefusal lent given challenges points =
         proverRefusal q circuit
         (entryListTests (i .circuit) ++ (assignmentTests circuit (i .z) (i .m) ++ pairs eqb lent given))
-        (i .z ++ (i .r ∷ (i .m ++ ws))) (i .z) (i .m) challenges
+        (i .z) (i .r) (i .m) challenges points
 
     -- round 1: ŵ and h0 into lent slices
     unfoldable pub firstRoundCall : ℕ → ℕ → Outcome (List ℕ × List ℕ)

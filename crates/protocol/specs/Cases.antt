@@ -14,7 +14,7 @@ use Rattle.protocol.specs.Checks.{Openings, Row, Line, Matrix, Verdict, 
 use Rattle.protocol.specs.Messages.{Messages}
 use Rattle.protocol.specs.Refusals.{Refusal}
 use Rattle.protocol.specs.Session.{Answer, Taken, Judged}
-use Rattle.protocol.specs.Job.{Job, jobRefusal, proof, trueOpenings, conversation, honestConversation}
+use Rattle.protocol.specs.Job.{Job, jobRefusal, proof, trueOpenings, conversationOn, honestConversation}
 use Rattle.protocol.specs.Computes.{protocol-computes}
 
 -- p - 1, which is -1
@@ -31,7 +31,7 @@ entry i k v = record { row = i; column = k; value = v } ∷ []
 abbrev square : List ℕ → Job
 square z =
     record {
-      circuit = record { R = 1; C = 2; X = 1; matrices = record { a = entry 0 1 1; b = entry 0 1 1; c = entry 0 0 1 } };
+      circuit = record { |R| = 1; |C| = 2; |X| = 1; matrices = record { a = entry 0 1 1; b = entry 0 1 1; c = entry 0 0 1 } };
       z = z;
       r = 1;
       m = 1 ∷ 0 ∷ minusOne ∷ 1 ∷ [];
@@ -87,6 +87,7 @@ endingIn v = Taken ∷ Taken ∷ Taken ∷ Taken ∷ Taken ∷ Taken ∷ Judged 
 pub data Value : Type 0 where
   lists : List (List ℕ) → Value
   answers : List Answer → Value
+  changed : ℕ → List Answer → Value
   refusal : Option Refusal → Value
 
 pub record Case : Type 0 where
@@ -101,6 +102,10 @@ a is b = record { computed = a; stated = b }
 abbrev list : List ℕ → Value
 list l = lists (l ∷ [])
 
+-- answers, with the opening that was changed
+abbrev answersOn : Elem babyBear → List Answer → Value
+answersOn a l = changed (a .word) l
+
 -- P1 to P12, in order
 abbrev pub table : List Case
 table =
@@ -112,9 +117,9 @@ table =
     ∷ (lists (words (honest .lineRemainder) ∷ words (honest .lineQuotient) ∷ []) is lists ((7 ∷ []) ∷ (1 ∷ 1 ∷ []) ∷ []))
     ∷ (list (words (listed (honest .values))) is list (minusOne ∷ minusOne ∷ 2 ∷ []))
     ∷ (answers (honestConversation babyBear job) is answers (endingIn Accept))
-    ∷ (answers (conversation babyBear job (claiming (mapThree of (triple 3 3 8)) (honest .values)) opened) is answers (endingIn (Fails Row)))
-    ∷ (answers (conversation babyBear job (claiming (honest .sums) (mapThree of (triple minusOne minusOne 3))) opened) is answers (endingIn (Fails Line)))
-    ∷ (answers (conversation babyBear job honest (misread (of 1))) is answers (endingIn (Fails Matrix)))
+    ∷ (answers (conversationOn babyBear job (claiming (mapThree of (triple 3 3 8)) (honest .values)) opened) is answers (endingIn (Fails Row)))
+    ∷ (answers (conversationOn babyBear job (claiming (honest .sums) (mapThree of (triple minusOne minusOne 3))) opened) is answers (endingIn (Fails Line)))
+    ∷ (answersOn (opened .index .a .rowcolval) (conversationOn babyBear job honest (misread (of 1))) is answersOn (of minusOne) (endingIn (Fails Matrix)))
     ∷ (refusal (jobRefusal babyBear (square (9 ∷ 4 ∷ []))) is refusal (some (record { number = 9; position = 0 })))
     ∷ []
 

@@ -21,21 +21,21 @@ pub record Entry : Type 0 where
 
 -- |R|, |C|, |X| and the entries of A, B, C
 pub record Circuit : Type 0 where
-  pub R : ℕ
-  pub C : ℕ
-  pub X : ℕ
+  pub |R| : ℕ
+  pub |C| : ℕ
+  pub |X| : ℕ
   pub matrices : Three (List Entry)
 
 -- |R|, |C|, |X| and the three |K_M|
 pub record Sizes : Type 0 where
-  pub R : ℕ
-  pub C : ℕ
-  pub X : ℕ
-  pub K : Three ℕ
+  pub |R| : ℕ
+  pub |C| : ℕ
+  pub |X| : ℕ
+  pub |K| : Three ℕ
 
 -- "K_M is the smallest size not below the entry count"
 unfoldable pub sizesOf : Circuit → Sizes
-sizesOf c = record { R = c .R; C = c .C; X = c .X; K = each (λ M. sizeFor (length (at (c .matrices) M))) }
+sizesOf c = record { |R| = c .|R|; |C| = c .|C|; |X| = c .|X|; |K| = each (λ M. sizeFor (length (at (c .matrices) M))) }
 
 -- "K is the largest K_M"
 unfoldable pub largest : Three ℕ → ℕ
@@ -46,7 +46,7 @@ module _ {q : Prime} (c : Circuit) where
   unfoldable pub extension : MatrixName → Elem q → Elem q → Elem q
   extension M y z =
       sumList (primeRing q)
-      (λ e. of (e .value) ⊗ lagrange (c .R) (element (c .R) (e .row)) y ⊗ lagrange (c .C) (element (c .C) (e .column)) z)
+      (λ e. of (e .value) ⊗ lagrange (c .|R|) (element (c .|R|) (e .row)) y ⊗ lagrange (c .|C|) (element (c .|C|) (e .column)) z)
       (at (c .matrices) M)
 
   -- "the sum of A's values in it, each times z at its column", for row i
@@ -56,8 +56,8 @@ module _ {q : Prime} (c : Circuit) where
   -- "A row is satisfied when the sum of A's values in it, each times z at its column, times the same sum for B, is the same sum
   -- for C": every row is
   abbrev pub Satisfied : List (Elem q) → Type 0
-  Satisfied z = (i : ℕ) → i < c .R → rowSum A z i ⊗ rowSum B z i ≡ rowSum C z i
+  Satisfied z = (i : ℕ) → i < c .|R| → rowSum A z i ⊗ rowSum B z i ≡ rowSum C z i
 
   -- the public part of z: "column i is public exactly when i is a multiple of |C|/|X|"
   unfoldable pub publicPart : List (Elem q) → List (Elem q)
-  publicPart z = tabulate (c .X) (λ i. getD z (i * (c .C / c .X)) 𝟘)
+  publicPart z = tabulate (c .|X|) (λ i. getD z (i * (c .|C| / c .|X|)) 𝟘)

@@ -4,58 +4,114 @@
 use mathlib.Core.Path.{_≡_}
 use mathlib.Core.List.{List, [], _∷_, _++_, map, foldr}
 use mathlib.Core.Option.{none}
-use Prim.Native.Nat.{ℕ, _<_}
+use Prim.Native.Nat.{ℕ, _-_, _<_}
 use lib.ListN.{length}
 use Rattle.algebra.specs.Counting.{All}
 use Rattle.field.specs.Prime.{Prime}
-use Rattle.field.specs.Element.{Elem, of}
-use Rattle.domain.specs.Polynomial.{Poly, eval, valuesOn}
+use Rattle.field.specs.Element.{Elem, of, wordOf, words, 𝟘, _⊕_, _⊗_, _⊖_}
+use Rattle.field.specs.Power.{_⊘_}
+use Rattle.domain.specs.Domain.{vanishing, sumOver}
+use Rattle.domain.specs.Polynomial.{Poly, eval, interpolate, valuesOn}
 use Rattle.domain.specs.Qualifies.{Qualifies}
-use Rattle.protocol.specs.Three.{MatrixName, Three, at, mapThree}
-use Rattle.protocol.specs.Circuit.{Circuit, Sizes, sizesOf, publicPart}
+use Rattle.protocol.specs.Three.{MatrixName, Three, at, mapThree, sumMatrices}
+use Rattle.protocol.specs.Circuit.{Circuit, Sizes, sizesOf, largest, publicPart, extension}
 use Rattle.protocol.specs.Index.{indexAt, index, decode}
-use Rattle.protocol.specs.Checks.{Heard, Openings, Check, Row, Line, Matrix, Verdict, Accept, Fails, weighted, rowLeft, rowRight, assignmentValue, lineLeft, lineRight, matrixLeft, matrixRight, joinedLeft, joinedRight, verdict}
-use Rattle.protocol.specs.Messages.{Messages, lengths, assignment, sums, values, matrixQuotient}
+use Rattle.protocol.specs.Checks.{Transcript, Openings, mapOpenings, listOpenings, Row, Line, Matrix, Verdict, Accept, Fails, Holds, verdict}
+use Rattle.protocol.specs.Checks.{weighted, rowLeft, rowRight, lineLeft, lineRight, matrixLeft, matrixRight}
+use Rattle.protocol.specs.Messages.{Messages, mapMessages, lengths, publicPoly, assignment, image, sums, values}
 use Rattle.protocol.specs.Refusals.{Done, sixSizeTests, sizeRefusal, wordRefusal}
 use Rattle.protocol.specs.Admission.{Admitted}
-use Rattle.protocol.specs.Session.{Taken, Judged}
+use Rattle.protocol.specs.Session.{Answer, Taken, Judged}
 use Rattle.protocol.specs.Record.{Contents, sectionLengths, bytesOf, wordsIn, writeRecord, readRecord}
-use Rattle.protocol.specs.Job.{Job, jobRefusal, proof, honestConversation}
+use Rattle.protocol.specs.Calls.{ProverInput, circuitOf, firstRoundCall, secondRoundCall, thirdRoundCall, fourthRoundCall, fifthRoundCall, openingsCall}
+use Rattle.protocol.specs.Job.{Job, jobRefusal, proof, trueOpenings, conversation, honestConversation}
 
 module _ (q : Prime) where
-  module _ (c : Circuit) (z : List (Elem q)) (α : Elem q) (η : Three (Elem q)) (β : Elem q) (p : Messages (Poly q) (Elem q)) where
+  module _ (c : Circuit) (z : List (Elem q)) (r : Elem q) (m : Poly q) (α : Elem q) (η : Three (Elem q)) (β : Elem q) (δ : Three (Elem q))
+      (sent : Messages (Poly q) (Elem q)) where
     abbrev s : Sizes
     s = sizesOf c
 
-    abbrev ẑ : Poly q
-    ẑ = assignment c (publicPart c z) (p .witness)
+    abbrev x̂ : Poly q
+    x̂ = publicPoly c (publicPart c z)
 
-    -- the messages p have the lengths of the table and keep its rules, as equations at every point
+    abbrev ẑ : Poly q
+    ẑ = assignment c (publicPart c z) (sent .witness)
+
+    -- the transcript with y for γ
+    abbrev t : Elem q → Transcript (Elem q)
+    t y = record { α = α; sums = sent .sums; η = η; β = β; values = sent .values; δ = δ; γ = y }
+
+    -- the messages sent have the lengths of the table and keep its rules, as equations at every point: a field or two for each row
     pub record KeepsRules : Type 0 where
-      pub witness-length : length (p .witness) ≡ lengths s .witness
-      pub rowQuotient-length : length (p .rowQuotient) ≡ lengths s .rowQuotient
-      pub lineRemainder-length : length (p .lineRemainder) ≡ lengths s .lineRemainder
-      pub lineQuotient-length : length (p .lineQuotient) ≡ lengths s .lineQuotient
-      pub matrixRemainder-length : (M : MatrixName) → length (at (p .matrixRemainders) M) ≡ at (lengths s .matrixRemainders) M
-      pub joinedQuotient-length : length (p .joinedQuotient) ≡ lengths s .joinedQuotient
-      -- ẑ takes the values z on C
-      pub assigns : valuesOn (c .C) ẑ ≡ z
-      -- "ẑ_A ẑ_B - ẑ_C = h0 v_R"
-      pub row : (y : Elem q) → rowLeft (sums c ẑ y) ≡ rowRight s y (eval (p .rowQuotient) y)
-      -- "m + Σ η_M M̂(α,Y) ẑ(Y) = h1 v_C + Y g1 + σ/|C|"
+      -- ŵ, |C|-|X|+1: "(z(Y) - x̂(Y))/v_X, plus r × v_C/v_X; z and x̂ interpolate on C and X"
+      pub witness-length : length (sent .witness) ≡ lengths s .witness
+      pub witness :
+          (y : Elem q)
+          → eval (sent .witness) y ⊗ vanishing (c .|X|) y ≡ eval (interpolate (c .|C|) z) y ⊖ eval x̂ y ⊕ r ⊗ vanishing (c .|C|) y
+      -- so ẑ = ŵ v_X + x̂ takes the values z on C
+      pub assigns : valuesOn (c .|C|) ẑ ≡ z
+      -- m, 2|C|: "as given; its values over C add to 0"
+      pub mask-length : length (sent .mask) ≡ lengths s .mask
+      pub mask : sent .mask ≡ m
+      pub mask-sum : sumOver (c .|C|) (eval (sent .mask)) ≡ 𝟘
+      -- h0, |R|-1: "ẑ_A ẑ_B - ẑ_C = h0 v_R"
+      pub rowQuotient-length : length (sent .rowQuotient) ≡ lengths s .rowQuotient
+      pub row : (y : Elem q) → rowLeft (sums c ẑ y) ≡ rowRight s y (eval (sent .rowQuotient) y)
+      -- σ_A, σ_B, σ_C, 1 each: "ẑ_M(α)"
+      pub sums-true : (M : MatrixName) → at (sent .sums) M ≡ image c ẑ M α
+      -- g1, h1, |C|-1 and |C|: "m + Σ η_M M̂(α,Y) ẑ(Y) = h1 v_C + Y g1 + σ/|C|"
+      pub lineRemainder-length : length (sent .lineRemainder) ≡ lengths s .lineRemainder
+      pub lineQuotient-length : length (sent .lineQuotient) ≡ lengths s .lineQuotient
       pub line :
           (y : Elem q)
-          → lineLeft η (values c α y) (eval (p .mask) y) (eval ẑ y)
-          ≡ lineRight s y (weighted η (p .sums)) (eval (p .lineRemainder) y) (eval (p .lineQuotient) y)
-      -- "a_M - b_M (Y g_M + ω_M/|K_M|) = h_M v_{K_M}"
+          → lineLeft η (values c α y) (eval (sent .mask) y) (eval ẑ y)
+          ≡ lineRight s y (weighted η (sent .sums)) (eval (sent .lineRemainder) y) (eval (sent .lineQuotient) y)
+      -- ω_A, ω_B, ω_C, 1 each: "M̂(α,β)"
+      pub values-true : (M : MatrixName) → at (sent .values) M ≡ extension c M α β
+      -- g_M, |K_M|-1: "a_M - b_M (Y g_M + ω_M/|K_M|) = h_M v_{K_M}"; "h_M has length |K_M|-1"
+      pub matrixRemainder-length : (M : MatrixName) → length (at (sent .matrixRemainders) M) ≡ at (lengths s .matrixRemainders) M
+      pub quotients : MatrixName → Poly q
+      pub matrixQuotient-length : (M : MatrixName) → length (quotients M) ≡ at (s .|K|) M - 1
       pub matrix :
           (M : MatrixName) (y : Elem q)
-          → matrixLeft s M α β (at (p .values) M) (indexAt (index c M) y) y (eval (at (p .matrixRemainders) M) y)
-          ≡ matrixRight s M y (eval (matrixQuotient c α β M) y)
+          → matrixLeft s (t y) M (indexAt (index c M) y) (eval (at (sent .matrixRemainders) M) y) ≡ matrixRight s M y (eval (quotients M) y)
+      -- h2, |K|-1: "Σ δ_M (|K_M|/|K|) h_M"
+      pub joinedQuotient-length : length (sent .joinedQuotient) ≡ lengths s .joinedQuotient
+      pub joined :
+          (y : Elem q)
+          → eval (sent .joinedQuotient) y
+          ≡ sumMatrices (λ M. at δ M ⊗ (of (at (s .|K|) M) ⊘ of (largest (s .|K|))) ⊗ eval (quotients M) y)
 
   -- the honest messages of every job that the refusals let through keep the rules
   abbrev pub RulesKept : Type 0
-  RulesKept = (j : Job) → jobRefusal q j ≡ none → KeepsRules (j .circuit) (map of (j .z)) (of (j .α)) (mapThree of (j .η)) (of (j .β)) (proof q j)
+  RulesKept =
+      (j : Job) → jobRefusal q j ≡ none
+      → KeepsRules (j .circuit) (map of (j .z)) (of (j .r)) (map of (j .m)) (of (j .α)) (mapThree of (j .η)) (of (j .β)) (mapThree of (j .δ)) (proof q j)
+
+  -- the job of a prover's input and all challenges
+  abbrev pub jobOf : ProverInput → ℕ → Three ℕ → ℕ → Three ℕ → ℕ → Job
+  jobOf i α η β δ γ =
+      record { circuit = circuitOf (i .circuit); z = i .z; r = i .r; m = i .m; α = α; η = η; β = β; δ = δ; γ = γ }
+
+  -- the prover's calls are done, and their results are these messages and openings; a lent slice is as long as its result
+  pub record CallsDone (i : ProverInput) (α : ℕ) (η : Three ℕ) (β : ℕ) (δ : Three ℕ) (γ : ℕ) (sent : Messages (List ℕ) ℕ) (o : Openings ℕ) : Type 0 where
+    pub first : firstRoundCall q i (length (sent .witness)) (length (sent .rowQuotient)) ≡ Done (sent .witness, sent .rowQuotient)
+    pub mask : sent .mask ≡ i .m
+    pub second : secondRoundCall q i α ≡ Done (sent .sums)
+    pub third :
+        thirdRoundCall q i α η (length (sent .lineRemainder)) (length (sent .lineQuotient)) ≡ Done (sent .lineRemainder, sent .lineQuotient)
+    pub fourth : fourthRoundCall q i α η β (mapThree length (sent .matrixRemainders)) ≡ Done (sent .values, sent .matrixRemainders)
+    pub fifth : fifthRoundCall q i α η β δ (length (sent .joinedQuotient)) ≡ Done (sent .joinedQuotient)
+    pub opened : openingsCall q i α η β δ γ ≡ Done (listOpenings o)
+
+  -- where the prover's calls are done, their results together are the proof of that job, which nothing refuses, and its true openings
+  abbrev pub CallsGiveProof : Type 0
+  CallsGiveProof =
+      (i : ProverInput) (α : ℕ) (η : Three ℕ) (β : ℕ) (δ : Three ℕ) (γ : ℕ) (sent : Messages (List ℕ) ℕ) (o : Openings ℕ)
+      → CallsDone i α η β δ γ sent o
+      → let j : Job = jobOf i α η β δ γ in
+      (jobRefusal q j ≡ none) × (sent ≡ mapMessages words wordOf (proof q j)) × (o ≡ mapOpenings wordOf (trueOpenings q j (proof q j)))
 
   -- "The index polynomials give back the matrices"
   abbrev pub IndexGivesBack : Type 0
@@ -76,40 +132,41 @@ module _ (q : Prime) where
       (bytes : List ℕ) (found : Contents) → All (λ b. b < 256) bytes → readRecord bytes q ≡ Done found
       → writeRecord (found .sizes) (map wordsIn (found .parts)) ≡ bytes
 
+  -- every step is taken, and the verdict is Accept
+  abbrev pub accepted : List Answer
+  accepted = Taken ∷ Taken ∷ Taken ∷ Taken ∷ Taken ∷ Taken ∷ Judged Accept ∷ []
+
   -- "An honest proof of a satisfied circuit is accepted at all allowed challenges": no step is refused
   abbrev pub HonestAccepted : Type 0
-  HonestAccepted =
-      (j : Job) → jobRefusal q j ≡ none
-      → honestConversation q j ≡ Taken ∷ Taken ∷ Taken ∷ Taken ∷ Taken ∷ Taken ∷ Judged Accept ∷ []
+  HonestAccepted = (j : Job) → jobRefusal q j ≡ none → honestConversation q j ≡ accepted
 
-  module _ (s : Sizes) (x : List (Elem q)) (h : Heard (Elem q)) (o : Openings (Elem q)) where
-    -- the equation of each check
-    abbrev pub Holds : Check → Type 0
-    Holds Row = rowLeft (h .sums) ≡ rowRight s (h .α) (o .rowQuotient)
-    Holds Line =
-        lineLeft (h .η) (h .values) (o .mask) (assignmentValue s x (h .β) (o .witness))
-        ≡ lineRight s (h .β) (weighted (h .η) (h .sums)) (o .lineRemainder) (o .lineQuotient)
-    Holds Matrix =
-        joinedLeft s (h .α) (h .β) (h .values) (h .δ) (o .index) (h .γ) (o .matrixRemainders) ≡ joinedRight s (h .γ) (o .joinedQuotient)
+  -- the same said of what the prover's calls return
+  abbrev pub CallsAccepted : Type 0
+  CallsAccepted =
+      (i : ProverInput) (α : ℕ) (η : Three ℕ) (β : ℕ) (δ : Three ℕ) (γ : ℕ) (sent : Messages (List ℕ) ℕ) (o : Openings ℕ)
+      → CallsDone i α η β δ γ sent o → conversation q (jobOf i α η β δ γ) sent o ≡ accepted
 
-    -- what each verdict says
+  -- what each verdict says, of the equations of the checks
+  module _ (s : Sizes) (x : List (Elem q)) (t : Transcript (Elem q)) (o : Openings (Elem q)) where
     abbrev pub Says : Verdict → Type 0
-    Says Accept = Holds Row × Holds Line × Holds Matrix
-    Says (Fails Row) = ¬ Holds Row
-    Says (Fails Line) = Holds Row × ¬ Holds Line
-    Says (Fails Matrix) = Holds Row × Holds Line × ¬ Holds Matrix
+    Says Accept = Holds s x t o Row × Holds s x t o Line × Holds s x t o Matrix
+    Says (Fails Row) = ¬ Holds s x t o Row
+    Says (Fails Line) = Holds s x t o Row × ¬ Holds s x t o Line
+    Says (Fails Matrix) = Holds s x t o Row × Holds s x t o Line × ¬ Holds s x t o Matrix
 
   -- "The verdict is Accept, or Fails with the check that failed first"
   abbrev pub VerdictMeans : Type 0
-  VerdictMeans = (s : Sizes) (x : List (Elem q)) (h : Heard (Elem q)) (o : Openings (Elem q)) → Says s x h o (verdict s x h o)
+  VerdictMeans = (s : Sizes) (x : List (Elem q)) (t : Transcript (Elem q)) (o : Openings (Elem q)) → Says s x t o (verdict s x t o)
 
 -- for every prime that qualifies
 pub record Demand2 (q : Prime) : Type 0 where
   pub rules-kept : RulesKept q
+  pub calls-give-proof : CallsGiveProof q
   pub index-gives-back : IndexGivesBack q
   pub read-written : ReadWritten q
   pub written-read : WrittenRead q
   pub honest-accepted : HonestAccepted q
+  pub calls-accepted : CallsAccepted q
   pub verdict-means : VerdictMeans q
 
 abbrev pub Demand2Holds : Type 0

@@ -14,7 +14,8 @@ use Rattle.domain.specs.Qualifies.{Qualifies}
 use Rattle.protocol.specs.Three.{MatrixName, Three, at, each, mapThree}
 use Rattle.protocol.specs.Circuit.{Circuit, Sizes, sizesOf, largest, Satisfied, extension}
 use Rattle.protocol.specs.Index.{indexAt, index}
-use Rattle.protocol.specs.Checks.{weighted, rowLeft, rowRight, assignmentValue, lineLeft, lineRight, matrixLeft, matrixRight, joinedLeft, joinedRight}
+use Rattle.protocol.specs.Checks.{Transcript, Openings, Row, Line, Matrix, Holds, weighted, lineLeft, matrixLeft, matrixRight}
+use Rattle.protocol.specs.Checks.{withα, withη, withβ, withδ, withγ, openedRow, openedLine, openedMatrix}
 use Rattle.protocol.specs.Messages.{lengths, assignment, image, sums, values}
 use Rattle.protocol.specs.Admission.{Admitted}
 use Rattle.protocol.specs.Meaning.{CheckMeans}
@@ -25,7 +26,7 @@ module _ (q : Prime) where
     pub circuit : Circuit
     pub admitted : Admitted q circuit
     pub x : List (Elem q)
-    pub x-length : length x ≡ circuit .X
+    pub x-length : length x ≡ circuit .|X|
     pub w : Poly q
     pub w-length : length w ≡ lengths (sizesOf circuit) .witness
 
@@ -40,71 +41,71 @@ module _ (q : Prime) where
     ẑ = assignment c (S .x) (S .w)
 
     -- Row: "with σ_M read as ẑ_M(α), that ẑ's values on C satisfy every row"; sought: h0
-    abbrev pub RowMeans : Type 0
-    RowMeans =
+    abbrev pub RowMeans : Transcript (Elem q) → Openings (Elem q) → Type 0
+    RowMeans t o =
         CheckMeans {q = q} {Choice = Poly q}
-        (Satisfied c (valuesOn (c .C) ẑ))
+        (Satisfied c (valuesOn (c .|C|) ẑ))
         (λ h0. length h0 ≡ lengths s .rowQuotient)
-        (λ h0 α. rowLeft (sums c ẑ α) ≡ rowRight s α (eval h0 α))
-        (Outside (c .R))
-        (2 * c .R - 2)
+        (λ h0 α. Holds s (S .x) (withα α (withη (sums c ẑ α) (t .η) t)) (openedRow (eval h0 α) o) Row)
+        (Outside (c .|R|))
+        (2 * c .|R| - 2)
 
     -- "that m + Σ η_M M̂(α,Y) ẑ(Y) adds to σ over C"
-    abbrev pub LineClaim : Poly q → Elem q → Three (Elem q) → Three (Elem q) → Type 0
-    LineClaim m α σ η = sumOver (c .C) (λ y. lineLeft η (values c α y) (eval m y) (eval ẑ y)) ≡ weighted η σ
+    abbrev pub LineClaim : Poly q → Transcript (Elem q) → Type 0
+    LineClaim m t = sumOver (c .|C|) (λ y. lineLeft (t .η) (values c (t .α) y) (eval m y) (eval ẑ y)) ≡ weighted (t .η) (t .sums)
 
     -- Line: "with ω_M read as M̂(α,β)"; sought: g1 and h1
-    abbrev pub LineMeans : Poly q → Elem q → Three (Elem q) → Three (Elem q) → Type 0
-    LineMeans m α σ η =
+    abbrev pub LineMeans : Poly q → Transcript (Elem q) → Openings (Elem q) → Type 0
+    LineMeans m t o =
         CheckMeans {q = q} {Choice = Poly q × Poly q}
-        (LineClaim m α σ η)
+        (LineClaim m t)
         (λ (g1, h1). (length g1 ≡ lengths s .lineRemainder) × (length h1 ≡ lengths s .lineQuotient))
         (λ (g1, h1) β.
-        lineLeft η (values c α β) (eval m β) (assignmentValue s (S .x) β (eval (S .w) β))
-        ≡ lineRight s β (weighted η σ) (eval g1 β) (eval h1 β))
-        (Outside (c .C))
-        (2 * c .C - 1)
+        Holds s (S .x) (withβ β (withδ (values c (t .α) β) (t .δ) t)) (openedLine (eval (S .w) β) (eval m β) (eval g1 β) (eval h1 β) o) Line)
+        (Outside (c .|C|))
+        (2 * c .|C| - 1)
 
     -- one matrix: "by its g_M rule, that ω_M = M̂(α,β)"; sought: g_M and h_M, both of length |K_M| - 1
-    abbrev pub MatrixMeans : MatrixName → Elem q → Elem q → Elem q → Type 0
-    MatrixMeans M α β ω =
+    abbrev pub MatrixMeans : MatrixName → Transcript (Elem q) → Type 0
+    MatrixMeans M t =
         CheckMeans {q = q} {Choice = Poly q × Poly q}
-        (ω ≡ extension c M α β)
+        (at (t .values) M ≡ extension c M (t .α) (t .β))
         (λ (g, h). (length g ≡ at (lengths s .matrixRemainders) M) × (length h ≡ at (lengths s .matrixRemainders) M))
-        (λ (g, h) y. matrixLeft s M α β ω (indexAt (index c M) y) y (eval g y) ≡ matrixRight s M y (eval h y))
-        (Outside (largest (s .K)))
-        (2 * at (s .K) M - 2)
+        (λ (g, h) y. matrixLeft s (withγ y t) M (indexAt (index c M) y) (eval g y) ≡ matrixRight s M y (eval h y))
+        (Outside (largest (s .|K|)))
+        (2 * at (s .|K|) M - 2)
 
     -- "Whenever a claimed sum is false, at most p² of the p³ triples η make the line claim true"
-    abbrev pub SumsCaught : Poly q → Elem q → Three (Elem q) → Type 0
-    SumsCaught m α σ = (M : MatrixName) → at σ M ≢ image c ẑ M α → AtMost (q .p * q .p) (LineClaim m α σ)
+    abbrev pub SumsCaught : Poly q → Transcript (Elem q) → Type 0
+    SumsCaught m t = (M : MatrixName) → at (t .sums) M ≢ image c ẑ M (t .α) → AtMost (q .p * q .p) (λ η. LineClaim m (withη (t .sums) η t))
 
     -- the joined check's sides are equal at γ: "The joined check is Matrix, over the indexer's polynomials"
-    abbrev pub JoinedEqual : Elem q → Elem q → Three (Elem q) → Three (Poly q) → Three (Elem q) → Poly q → Elem q → Type 0
-    JoinedEqual α β ω g δ h2 γ =
-        joinedLeft s α β ω δ (each (λ M. indexAt (index c M) γ)) γ (mapThree (λ f. eval f γ) g) ≡ joinedRight s γ (eval h2 γ)
+    abbrev pub JoinedEqual : Transcript (Elem q) → Openings (Elem q) → Three (Poly q) → Three (Elem q) → Poly q → Elem q → Type 0
+    JoinedEqual t o g δ h2 γ =
+        Holds s (S .x) (withγ γ (withδ (t .values) δ t))
+        (openedMatrix (eval h2 γ) (mapThree (λ f. eval f γ) g) (each (λ M. indexAt (index c M) γ)) o) Matrix
 
     -- "Whenever a matrix value is false, then for every three polynomials g of the allowed lengths, the same for all δ, at most
     -- p² of the p³ triples δ let some h2 of the allowed length pass the joined check at more than 2|K|-2 allowed points"
-    abbrev pub ValuesCaught : Elem q → Elem q → Three (Elem q) → Three (Poly q) → Type 0
-    ValuesCaught α β ω g =
-        (M : MatrixName) → at ω M ≢ extension c M α β
+    abbrev pub ValuesCaught : Transcript (Elem q) → Openings (Elem q) → Three (Poly q) → Type 0
+    ValuesCaught t o g =
+        (M : MatrixName) → at (t .values) M ≢ extension c M (t .α) (t .β)
         → AtMost (q .p * q .p) (λ δ.
         (h2 : Poly q) × (length h2 ≡ lengths s .joinedQuotient)
-        × MoreThan (2 * largest (s .K) - 2) (λ γ. Outside (largest (s .K)) γ × JoinedEqual α β ω g δ h2 γ))
+        × MoreThan (2 * largest (s .|K|) - 2) (λ γ. Outside (largest (s .|K|)) γ × JoinedEqual t o g δ h2 γ))
 
     -- all of it: for "all other messages of the lengths above, honest or not (m need not add to 0), every α outside R and β
-    -- outside C, and any η and δ"
+    -- outside C, and any η and δ": t has the σ, the ω and the challenges, o the openings that the check does not read
     pub record Demand3 : Type 0 where
-      pub row : RowMeans
+      pub row : (t : Transcript (Elem q)) (o : Openings (Elem q)) → RowMeans t o
       pub line :
-          (m : Poly q) → length m ≡ lengths s .mask → (α : Elem q) → Outside (c .R) α → (σ η : Three (Elem q)) → LineMeans m α σ η
-      pub matrix : (M : MatrixName) (α β ω : Elem q) → Outside (c .R) α → Outside (c .C) β → MatrixMeans M α β ω
+          (m : Poly q) → length m ≡ lengths s .mask → (t : Transcript (Elem q)) → Outside (c .|R|) (t .α) → (o : Openings (Elem q)) → LineMeans m t o
+      pub matrix : (M : MatrixName) (t : Transcript (Elem q)) → Outside (c .|R|) (t .α) → Outside (c .|C|) (t .β) → MatrixMeans M t
       pub sums-caught :
-          (m : Poly q) → length m ≡ lengths s .mask → (α : Elem q) → Outside (c .R) α → (σ : Three (Elem q)) → SumsCaught m α σ
+          (m : Poly q) → length m ≡ lengths s .mask → (t : Transcript (Elem q)) → Outside (c .|R|) (t .α) → SumsCaught m t
       pub values-caught :
-          (α β : Elem q) → Outside (c .R) α → Outside (c .C) β → (ω : Three (Elem q)) (g : Three (Poly q))
-          → ((M : MatrixName) → length (at g M) ≡ at (lengths s .matrixRemainders) M) → ValuesCaught α β ω g
+          (t : Transcript (Elem q)) → Outside (c .|R|) (t .α) → Outside (c .|C|) (t .β) → (o : Openings (Elem q)) (g : Three (Poly q))
+          → ((M : MatrixName) → length (at g M) ≡ at (lengths s .matrixRemainders) M) → ValuesCaught t o g
 
 -- for every prime that qualifies and every setting
 abbrev pub Demand3Holds : Type 0

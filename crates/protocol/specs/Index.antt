@@ -31,16 +31,16 @@ indexAt i y = mapIndex (λ f. eval f y) i
 module _ {q : Prime} (c : Circuit) where
   -- an entry's row and column as elements of R and C
   unfoldable pub rowElement : Entry → Elem q
-  rowElement e = element (c .R) (e .row)
+  rowElement e = element (c .|R|) (e .row)
 
   unfoldable pub columnElement : Entry → Elem q
-  columnElement e = element (c .C) (e .column)
+  columnElement e = element (c .|C|) (e .column)
 
   -- of length |K_M|, "agreeing with the entries in order on K_M"; the places after the last entry hold the filling
   unfoldable pub placed : MatrixName → Elem q → (Entry → Elem q) → Poly q
   placed M filling f =
       let entries : List Entry = at (c .matrices) M in
-      let k : ℕ = at (sizesOf c .K) M in
+      let k : ℕ = at (sizesOf c .|K|) M in
       interpolate k (map f entries ++ replicate (k - length entries) filling)
 
   -- "row, col, rowcol (product of row and column elements) and rowcolval (that product times the value)";
@@ -64,8 +64,8 @@ module _ {q : Prime} where
   unfoldable pub entryAt : Sizes → Index (Elem q) → List Entry
   entryAt s v =
       pick (equal (v .rowcolval) 𝟘) []
-      (record { row = placeOf (v .row) (domain (s .R)); column = placeOf (v .col) (domain (s .C)); value = (v .rowcolval ⊘ v .rowcol) .word } ∷ [])
+      (record { row = placeOf (v .row) (domain (s .|R|)); column = placeOf (v .col) (domain (s .|C|)); value = (v .rowcolval ⊘ v .rowcol) .word } ∷ [])
 
   -- the entries of a matrix, from its index polynomials
   unfoldable pub decode : Sizes → MatrixName → Index (Poly q) → List Entry
-  decode s M i = foldr (λ y entries. entryAt s (indexAt i y) ++ entries) [] (domain (at (s .K) M))
+  decode s M i = foldr (λ y entries. entryAt s (indexAt i y) ++ entries) [] (domain (at (s .|K|) M))

@@ -5,13 +5,13 @@ use mathlib.Core.Option.{Option}
 use Prim.Native.Nat.{ℕ}
 use lib.ListN.{length}
 use Rattle.field.specs.Prime.{Prime}
-use Rattle.field.specs.Element.{Elem, of, words}
+use Rattle.field.specs.Element.{Elem, of, wordOf, words}
 use Rattle.domain.specs.Polynomial.{Poly}
 use Rattle.protocol.specs.Three.{Three, each, listed, mapThree}
 use Rattle.protocol.specs.Circuit.{Circuit, sizesOf, publicPart}
 use Rattle.protocol.specs.Index.{index}
 use Rattle.protocol.specs.Checks.{Openings, mapOpenings}
-use Rattle.protocol.specs.Messages.{Messages, messages, openings}
+use Rattle.protocol.specs.Messages.{Messages, mapMessages, messages, openings}
 use Rattle.protocol.specs.Refusals.{Refusal}
 use Rattle.protocol.specs.Admission.{countTests, assignmentTests, proverRefusal}
 use Rattle.protocol.specs.Session.{Answer, Stepped, unopened, openStep, alphaStep, etaStep, betaStep, deltaStep, gammaStep, openingsStep}
@@ -28,16 +28,19 @@ pub record Job : Type 0 where
   pub δ : Three ℕ
   pub γ : ℕ
 
-module _ (q : Prime) (j : Job) where
-  -- the field words after the entries
-  unfoldable pub jobWords : List ℕ
-  jobWords = j .z ++ (j .r ∷ (j .m ++ (j .α ∷ (listed (j .η) ++ (j .β ∷ (listed (j .δ) ++ (j .γ ∷ [])))))))
+-- the challenge words, and those of them that have a forbidden domain
+abbrev pub challengeWords : Job → List ℕ
+challengeWords j = j .α ∷ (listed (j .η) ++ (j .β ∷ (listed (j .δ) ++ (j .γ ∷ []))))
 
+abbrev pub challengePoints : Job → List ℕ
+challengePoints j = j .α ∷ j .β ∷ j .γ ∷ []
+
+module _ (q : Prime) (j : Job) where
   -- the first refusal that applies to the whole job
   unfoldable pub jobRefusal : Option Refusal
   jobRefusal =
       let c : Circuit = j .circuit in
-      proverRefusal q c (countTests c ++ assignmentTests c (j .z) (j .m)) jobWords (j .z) (j .m) (j .α ∷ j .β ∷ j .γ ∷ [])
+      proverRefusal q c (countTests c ++ assignmentTests c (j .z) (j .m)) (j .z) (j .r) (j .m) (challengeWords j) (challengePoints j)
 
   -- the honest prover's messages
   unfoldable pub proof : Messages (Poly q) (Elem q)
@@ -45,25 +48,27 @@ module _ (q : Prime) (j : Job) where
 
   -- the true openings of given messages, with the indexer's polynomials
   unfoldable pub trueOpenings : Messages (Poly q) (Elem q) → Openings (Elem q)
-  trueOpenings p = openings p (each (index (j .circuit))) (of (j .α)) (of (j .β)) (of (j .γ))
+  trueOpenings sent = openings sent (each (index (j .circuit))) (of (j .α)) (of (j .β)) (of (j .γ))
 
   -- the public words x
   unfoldable pub publicWords : List ℕ
   publicWords = words (publicPart {q = q} (j .circuit) (map of (j .z)))
 
-  -- the verifier's seven answers to given messages, their lengths and given openings
-  unfoldable pub conversation : Messages (Poly q) (Elem q) → Openings (Elem q) → List Answer
-  conversation p o =
-      let word : Elem q → ℕ = λ a. a .word in
+  -- the verifier's seven answers to messages in words, their lengths and openings
+  unfoldable pub conversation : Messages (List ℕ) ℕ → Openings ℕ → List Answer
+  conversation sent o =
       let opened : Stepped = openStep q unopened (sizesOf (j .circuit)) publicWords in
-      let afterα : Stepped = alphaStep q (opened .session) (length (p .witness)) (length (p .mask)) (length (p .rowQuotient)) (j .α) in
-      let afterη : Stepped = etaStep q (afterα .session) (mapThree word (p .sums)) (j .η) in
-      let afterβ : Stepped = betaStep q (afterη .session) (length (p .lineRemainder)) (length (p .lineQuotient)) (j .β) in
-      let afterδ : Stepped = deltaStep q (afterβ .session) (mapThree word (p .values)) (mapThree length (p .matrixRemainders)) (j .δ) in
-      let afterγ : Stepped = gammaStep q (afterδ .session) (length (p .joinedQuotient)) (j .γ) in
-      let closed : Stepped = openingsStep q (afterγ .session) (mapOpenings word o) in
+      let afterα : Stepped = alphaStep q (opened .session) (length (sent .witness)) (length (sent .mask)) (length (sent .rowQuotient)) (j .α) in
+      let afterη : Stepped = etaStep q (afterα .session) (sent .sums) (j .η) in
+      let afterβ : Stepped = betaStep q (afterη .session) (length (sent .lineRemainder)) (length (sent .lineQuotient)) (j .β) in
+      let afterδ : Stepped = deltaStep q (afterβ .session) (sent .values) (mapThree length (sent .matrixRemainders)) (j .δ) in
+      let afterγ : Stepped = gammaStep q (afterδ .session) (length (sent .joinedQuotient)) (j .γ) in
+      let closed : Stepped = openingsStep q (afterγ .session) o in
       opened .answer ∷ afterα .answer ∷ afterη .answer ∷ afterβ .answer ∷ afterδ .answer ∷ afterγ .answer ∷ closed .answer ∷ []
 
-  -- the verifier's answers to the honest prover
+  -- the verifier's answers to messages and openings of elements, and to the honest prover
+  unfoldable pub conversationOn : Messages (Poly q) (Elem q) → Openings (Elem q) → List Answer
+  conversationOn sent o = conversation (mapMessages words wordOf sent) (mapOpenings wordOf o)
+
   unfoldable pub honestConversation : List Answer
-  honestConversation = conversation proof (trueOpenings proof)
+  honestConversation = conversationOn proof (trueOpenings proof)

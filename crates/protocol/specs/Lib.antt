@@ -15,3 +15,4 @@ pub mod Cases
 pub mod Meaning
 pub mod Demand2
 pub mod Demand3
+pub mod Verdicts

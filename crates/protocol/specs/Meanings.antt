@@ -7,7 +7,7 @@ use Rattle.protocol.specs.declared.Fault.{Fault}
 use Rattle.protocol.specs.declared.Fault.the-variants as fault
 use Rattle.protocol.specs.declared.Triple.{Triple}
 use Rattle.protocol.specs.declared.Sizes as declared-sizes
-use Rattle.protocol.specs.declared.Heard as declared-heard
+use Rattle.protocol.specs.declared.Transcript as declared-transcript
 use Rattle.protocol.specs.declared.Opened.{Opened}
 use Rattle.protocol.specs.declared.Check as declared-check
 use Rattle.protocol.specs.declared.Check.the-variants as check
@@ -16,7 +16,7 @@ use Rattle.protocol.specs.declared.Verdict.the-variants as verdict
 use Rattle.protocol.specs.Three.{Three}
 use Rattle.protocol.specs.Circuit.{Sizes}
 use Rattle.protocol.specs.Index.{Index}
-use Rattle.protocol.specs.Checks.{Heard, Openings, Check, Row, Line, Matrix, Verdict, Accept, Fails}
+use Rattle.protocol.specs.Checks.{Transcript, Openings, Check, Row, Line, Matrix, Verdict, Accept, Fails}
 use Rattle.protocol.specs.Refusals.{Refusal}
 
 abbrev pub faultRefusal : Fault → Option Refusal
@@ -27,10 +27,10 @@ abbrev pub three : Triple → Three ℕ
 three t = record { a = t .a; b = t .b; c = t .c }
 
 abbrev pub sizes : declared-sizes.Sizes → Sizes
-sizes s = record { R = s .r; C = s .c; X = s .x; K = three (s .k) }
+sizes s = record { |R| = s .r; |C| = s .c; |X| = s .x; |K| = three (s .k) }
 
-abbrev pub heard : declared-heard.Heard → Heard ℕ
-heard h =
+abbrev pub transcript : declared-transcript.Transcript → Transcript ℕ
+transcript h =
     record {
       α = h .alpha;
       sums = three (h .sums);

@@ -5,7 +5,7 @@ use Rattle.field.specs.Prime.{Prime}
 use Rattle.field.specs.Element.{Elem, of, _⊗_}
 use Rattle.field.specs.Power.{_⊘_}
 use Rattle.domain.specs.Domain.{vanishing, sumOver}
-use Rattle.domain.specs.Polynomial.{Poly, eval, plus, minus, scale, times, quotient, remainder, vanishingPoly, interpolate, agreeing}
+use Rattle.domain.specs.Polynomial.{Poly, eval, constant, _⊞_, _·_, _⊟_, _⊠_, quotient, remainder, vanishingPoly, interpolate, agreeing}
 use Rattle.protocol.specs.Three.{MatrixName, A, B, C, Three, at, each, mapThree}
 use Rattle.protocol.specs.Circuit.{Circuit, Sizes, sizesOf, largest, publicPart, extension}
 use Rattle.protocol.specs.Index.{Index, indexAt, index}
@@ -23,44 +23,58 @@ pub record Messages (P E : Type 0) : Type 0 where
   pub matrixRemainders : Three P
   pub joinedQuotient : P
 
+abbrev pub mapMessages : {P P′ E E′ : Type 0} → (P → P′) → (E → E′) → Messages P E → Messages P′ E′
+mapMessages f g sent =
+    record {
+      witness = f (sent .witness);
+      mask = f (sent .mask);
+      rowQuotient = f (sent .rowQuotient);
+      sums = mapThree g (sent .sums);
+      lineRemainder = f (sent .lineRemainder);
+      lineQuotient = f (sent .lineQuotient);
+      values = mapThree g (sent .values);
+      matrixRemainders = mapThree f (sent .matrixRemainders);
+      joinedQuotient = f (sent .joinedQuotient);
+    }
+
 -- the table's column "Length"
 unfoldable pub lengths : Sizes → Messages ℕ ℕ
 lengths s =
     record {
-      witness = s .C - s .X + 1;
-      mask = 2 * s .C;
-      rowQuotient = s .R - 1;
+      witness = s .|C| - s .|X| + 1;
+      mask = 2 * s .|C|;
+      rowQuotient = s .|R| - 1;
       sums = each (λ M. 1);
-      lineRemainder = s .C - 1;
-      lineQuotient = s .C;
+      lineRemainder = s .|C| - 1;
+      lineQuotient = s .|C|;
       values = each (λ M. 1);
-      matrixRemainders = each (λ M. at (s .K) M - 1);
-      joinedQuotient = largest (s .K) - 1;
+      matrixRemainders = each (λ M. at (s .|K|) M - 1);
+      joinedQuotient = largest (s .|K|) - 1;
     }
 
 module _ {q : Prime} (c : Circuit) where
   -- x̂ interpolates x on X
   unfoldable pub publicPoly : List (Elem q) → Poly q
-  publicPoly x = interpolate (c .X) x
+  publicPoly x = interpolate (c .|X|) x
 
   -- ŵ: "(z(Y) - x̂(Y))/v_X, plus r × v_C/v_X; z and x̂ interpolate on C and X"
   unfoldable pub witness : List (Elem q) → Elem q → Poly q
   witness z r =
-      plus (quotient (c .X) (minus (interpolate (c .C) z) (publicPoly (publicPart c z)))) (scale r (quotient (c .X) (vanishingPoly (c .C))))
+      quotient (c .|X|) (interpolate (c .|C|) z ⊟ publicPoly (publicPart c z)) ⊞ r · quotient (c .|X|) (vanishingPoly (c .|C|))
 
   -- "ẑ = ŵ v_X + x̂"
   unfoldable pub assignment : List (Elem q) → Poly q → Poly q
-  assignment x w = plus (times w (vanishingPoly (c .X))) (publicPoly x)
+  assignment x ŵ = ŵ ⊠ vanishingPoly (c .|X|) ⊞ publicPoly x
 
   -- "ẑ_M(Y) is the sum over c in C of M̂(Y,c) ẑ(c)"
   unfoldable pub image : Poly q → MatrixName → Elem q → Elem q
-  image ẑ M y = sumOver (c .C) (λ u. extension c M y u ⊗ eval ẑ u)
+  image ẑ M y = sumOver (c .|C|) (λ u. extension c M y u ⊗ eval ẑ u)
 
   -- h0: "ẑ_A ẑ_B - ẑ_C = h0 v_R"
   unfoldable pub rowQuotient : Poly q → Poly q
   rowQuotient ẑ =
-      let ẑ_M : MatrixName → Poly q = λ M. agreeing (c .R) (image ẑ M) in
-      quotient (c .R) (minus (times (ẑ_M A) (ẑ_M B)) (ẑ_M C))
+      let ẑ_M : MatrixName → Poly q = λ M. agreeing (c .|R|) (image ẑ M) in
+      quotient (c .|R|) (ẑ_M A ⊠ ẑ_M B ⊟ ẑ_M C)
 
   -- σ_M: "ẑ_M(α)"
   unfoldable pub sums : Poly q → Elem q → Three (Elem q)
@@ -72,43 +86,43 @@ module _ {q : Prime} (c : Circuit) where
 
   -- "m + Σ η_M M̂(α,Y) ẑ(Y)"
   unfoldable pub line : Poly q → Poly q → Elem q → Three (Elem q) → Poly q
-  line m ẑ α η = plus m (times (agreeing (c .C) (λ y. weighted η (values α y))) ẑ)
+  line m ẑ α η = m ⊞ agreeing (c .|C|) (λ y. weighted η (values α y)) ⊠ ẑ
 
   -- g1 and h1: "= h1 v_C + Y g1 + σ/|C|"
   unfoldable pub lineRemainder : Poly q → Poly q
-  lineRemainder f = tail (remainder (c .C) f)
+  lineRemainder f = tail (remainder (c .|C|) f)
 
   unfoldable pub lineQuotient : Poly q → Poly q
-  lineQuotient f = quotient (c .C) f
+  lineQuotient f = quotient (c .|C|) f
 
   module _ (α β : Elem q) (M : MatrixName) where
     -- "a_M = v_R(α) v_C(β) rowcolval_M"
     unfoldable pub numerator : Poly q
-    numerator = scale (vanishing (c .R) α ⊗ vanishing (c .C) β) (index c M .rowcolval)
+    numerator = vanishing (c .|R|) α ⊗ vanishing (c .|C|) β · index c M .rowcolval
 
     -- "b_M = |R||C|(αβ - α col_M - β row_M + rowcol_M)"
     unfoldable pub denominator : Poly q
     denominator =
         let i : Index (Poly q) = index c M in
-        scale (of (c .R) ⊗ of (c .C)) (plus (minus (minus (α ⊗ β ∷ []) (scale α (i .col))) (scale β (i .row))) (i .rowcol))
+        of (c .|R|) ⊗ of (c .|C|) · (constant (α ⊗ β) ⊟ α · i .col ⊟ β · i .row ⊞ i .rowcol)
 
     -- Y g_M + ω_M/|K_M|, the polynomial of length |K_M| with the values a_M/b_M on K_M
     unfoldable pub ratio : Poly q
-    ratio = agreeing (at (sizesOf c .K) M) (λ y. eval numerator y ⊘ eval denominator y)
+    ratio = agreeing (at (sizesOf c .|K|) M) (λ y. eval numerator y ⊘ eval denominator y)
 
     -- g_M and h_M: "a_M - b_M (Y g_M + ω_M/|K_M|) = h_M v_{K_M}"
     unfoldable pub matrixRemainder : Poly q
     matrixRemainder = tail ratio
 
     unfoldable pub matrixQuotient : Poly q
-    matrixQuotient = quotient (at (sizesOf c .K) M) (minus numerator (times denominator ratio))
+    matrixQuotient = quotient (at (sizesOf c .|K|) M) (numerator ⊟ denominator ⊠ ratio)
 
   -- h2: "Σ δ_M (|K_M|/|K|) h_M"
   unfoldable pub joinedQuotient : Elem q → Elem q → Three (Elem q) → Poly q
   joinedQuotient α β δ =
-      let k : Three ℕ = sizesOf c .K in
-      let term : MatrixName → Poly q = λ M. scale (at δ M ⊗ (of (at k M) ⊘ of (largest k))) (matrixQuotient α β M) in
-      plus (plus (term A) (term B)) (term C)
+      let k : Three ℕ = sizesOf c .|K| in
+      let term : MatrixName → Poly q = λ M. at δ M ⊗ (of (at k M) ⊘ of (largest k)) · matrixQuotient α β M in
+      term A ⊞ term B ⊞ term C
 
   -- all messages, from z, r, m and the challenges
   unfoldable pub messages : List (Elem q) → Elem q → Poly q → Elem q → Three (Elem q) → Elem q → Three (Elem q) → Messages (Poly q) (Elem q)
@@ -130,14 +144,14 @@ module _ {q : Prime} (c : Circuit) where
 
 -- the true openings: each is its polynomial's value, "ŵ, m, g1, h1 at β; h0 at α; h2, g_A, g_B, g_C at γ", and the index at γ
 unfoldable pub openings : {q : Prime} → Messages (Poly q) (Elem q) → Three (Index (Poly q)) → Elem q → Elem q → Elem q → Openings (Elem q)
-openings s i α β γ =
+openings sent i α β γ =
     record {
-      witness = eval (s .witness) β;
-      mask = eval (s .mask) β;
-      lineRemainder = eval (s .lineRemainder) β;
-      lineQuotient = eval (s .lineQuotient) β;
-      rowQuotient = eval (s .rowQuotient) α;
-      joinedQuotient = eval (s .joinedQuotient) γ;
-      matrixRemainders = mapThree (λ f. eval f γ) (s .matrixRemainders);
+      witness = eval (sent .witness) β;
+      mask = eval (sent .mask) β;
+      lineRemainder = eval (sent .lineRemainder) β;
+      lineQuotient = eval (sent .lineQuotient) β;
+      rowQuotient = eval (sent .rowQuotient) α;
+      joinedQuotient = eval (sent .joinedQuotient) γ;
+      matrixRemainders = mapThree (λ f. eval f γ) (sent .matrixRemainders);
       index = mapThree (λ f. indexAt f γ) i;
     }

@@ -29,9 +29,9 @@ wordsIn bytes = tabulate (length bytes / 4) (wordAt bytes)
 
 -- "Sections in order w, m, h0, s (the σ), g1, h1, o (the ω), ga, gb, gc, h2"
 unfoldable pub sections : {T : Type 0} → Messages (List T) T → List (List T)
-sections p =
-    p .witness ∷ p .mask ∷ p .rowQuotient ∷ listed (p .sums) ∷ p .lineRemainder ∷ p .lineQuotient ∷ listed (p .values)
-    ∷ p .matrixRemainders .a ∷ p .matrixRemainders .b ∷ p .matrixRemainders .c ∷ p .joinedQuotient ∷ []
+sections sent =
+    sent .witness ∷ sent .mask ∷ sent .rowQuotient ∷ listed (sent .sums) ∷ sent .lineRemainder ∷ sent .lineQuotient ∷ listed (sent .values)
+    ∷ sent .matrixRemainders .a ∷ sent .matrixRemainders .b ∷ sent .matrixRemainders .c ∷ sent .joinedQuotient ∷ []
 
 -- their lengths in words, by the table of messages
 unfoldable pub sectionLengths : Sizes → List ℕ
@@ -51,7 +51,7 @@ sectionBytes s = foldr (λ n total. 4 * n + total) 0 (sectionLengths s)
 
 -- "the eleven byte starts, |R|, |C|, |X|, |K_A|, |K_B|, |K_C|, and last the byte start of the trailer"
 unfoldable pub trailer : Sizes → List ℕ
-trailer s = startsFrom 0 (sectionLengths s) ++ (s .R ∷ s .C ∷ s .X ∷ (listed (s .K) ++ (sectionBytes s ∷ [])))
+trailer s = startsFrom 0 (sectionLengths s) ++ (s .|R| ∷ s .|C| ∷ s .|X| ∷ (listed (s .|K|) ++ (sectionBytes s ∷ [])))
 
 unfoldable pub writeRecord : Sizes → List (List ℕ) → List ℕ
 writeRecord s parts = bytesOf (foldr _++_ [] parts ++ trailer s)
@@ -75,10 +75,10 @@ module _ (bytes : List ℕ) where
   unfoldable pub sizesRead : Sizes
   sizesRead =
       record {
-        R = trailerWord 11;
-        C = trailerWord 12;
-        X = trailerWord 13;
-        K = record { a = trailerWord 14; b = trailerWord 15; c = trailerWord 16 };
+        |R| = trailerWord 11;
+        |C| = trailerWord 12;
+        |X| = trailerWord 13;
+        |K| = record { a = trailerWord 14; b = trailerWord 15; c = trailerWord 16 };
       }
 
   unfoldable pub recordRefusal : Prime → Option Refusal

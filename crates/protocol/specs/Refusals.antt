@@ -52,7 +52,7 @@ sizeTests r c x more = isSize r ∷ isSize c ∷ (isSize x && leb x c) ∷ map i
 
 -- the same for all six sizes
 unfoldable pub sixSizeTests : Sizes → List Bool
-sixSizeTests s = sizeTests (s .R) (s .C) (s .X) (listed (s .K))
+sixSizeTests s = sizeTests (s .|R|) (s .|C|) (s .|X|) (listed (s .|K|))
 
 -- 1, session: "a step out of turn"
 unfoldable pub turnRefusal : Bool → Option Refusal
@@ -90,7 +90,7 @@ rises d e = ltb (d .row) (e .row) || (eqb (d .row) (e .row) && ltb (d .column) (
 
 -- "row or column past its domain, value 0"
 unfoldable pub fits : Circuit → Entry → Bool
-fits c e = ltb (e .row) (c .R) && ltb (e .column) (c .C) && not (eqb (e .value) 0)
+fits c e = ltb (e .row) (c .|R|) && ltb (e .column) (c .|C|) && not (eqb (e .value) 0)
 
 -- the tests of the entries after d, and of all entries of a matrix
 unfoldable pub entryTestsAfter : Circuit → Entry → List Entry → List Bool
@@ -108,11 +108,11 @@ entryRefusal c = refuse 7 0 (entryTests c (c .matrices .a) ++ (entryTests c (c .
 module _ {q : Prime} where
   -- 8, mask: "m does not add to 0 over C"
   unfoldable pub maskRefusal : Circuit → Poly q → Option Refusal
-  maskRefusal c m = refuse 8 0 (equal (sumOver (c .C) (eval m)) 𝟘 ∷ [])
+  maskRefusal c m = refuse 8 0 (equal (sumOver (c .|C|) (eval m)) 𝟘 ∷ [])
 
   -- 9, assignment: "z fails a row", the "lowest such row"
   unfoldable pub assignmentRefusal : Circuit → List (Elem q) → Option Refusal
-  assignmentRefusal c z = refuse 9 0 (tabulate (c .R) (λ i. equal (rowSum c A z i ⊗ rowSum c B z i) (rowSum c C z i)))
+  assignmentRefusal c z = refuse 9 0 (tabulate (c .|R|) (λ i. equal (rowSum c A z i ⊗ rowSum c B z i) (rowSum c C z i)))
 
   -- 10, challenge: "in its forbidden domain", for challenges and the sizes of their domains; positions are "α 0, β 1, γ 2"
   unfoldable pub challengeRefusal : ℕ → List ℕ → List (Elem q) → Option Refusal

@@ -1,26 +1,27 @@
 -- The verifier's session: seven steps (document 01, "Session and verdict"). Words at the border are numbers; every definition is
 -- total, for sessions that no step made too. Assumes nothing.
-use mathlib.Core.Bool.{Bool, true, _&&_}
+use mathlib.Core.Bool.{Bool, true, not, _&&_}
 use mathlib.Core.List.{List, [], _∷_, _++_, map}
 use mathlib.Core.Option.{Option, none, some}
 use Prim.Native.Nat.{ℕ, suc, _-_}
-use lib.Dec.{eqb}
-use lib.ListN.{length, take, replicate}
+use lib.Dec.{eqb, ltb}
+use lib.ListN.{length, take, drop, replicate}
 use Rattle.field.specs.Prime.{Prime}
 use Rattle.field.specs.Element.{of}
 use Rattle.domain.specs.Size.{maxSize}
+use Rattle.domain.specs.Domain.{inside}
 use Rattle.protocol.specs.Three.{Three, each, listed}
 use Rattle.protocol.specs.Circuit.{Sizes, largest}
-use Rattle.protocol.specs.Checks.{Heard, Openings, mapHeard, mapOpenings, listOpenings, Verdict, verdict}
+use Rattle.protocol.specs.Checks.{Transcript, Openings, mapTranscript, mapOpenings, listTranscript, listOpenings, withα, withη, withβ, withδ, withγ, Verdict, verdict}
 use Rattle.protocol.specs.Messages.{Messages, lengths}
-use Rattle.protocol.specs.Refusals.{Refusal, first, sixSizeTests, turnRefusal, sizeRefusal, listRefusal, wordRefusal, challengeRefusal, lengthRefusal}
+use Rattle.protocol.specs.Refusals.{Refusal, first, pairs, sixSizeTests, turnRefusal, sizeRefusal, listRefusal, wordRefusal, challengeRefusal, lengthRefusal}
 
 -- stage: how many of the seven steps were taken; x: the public words, and zeros after them up to 1,024 words
 pub record Session : Type 0 where
   pub stage : ℕ
   pub sizes : Sizes
   pub x : List ℕ
-  pub heard : Heard ℕ
+  pub transcript : Transcript ℕ
 
 pub data Answer : Type 0 where
   Taken : Answer
@@ -32,8 +33,9 @@ pub record Stepped : Type 0 where
   pub session : Session
   pub answer : Answer
 
-abbrev pub silence : Heard ℕ
-silence =
+-- the transcript before anything is heard
+abbrev pub blank : Transcript ℕ
+blank =
     let zeros : Three ℕ = each (λ M. 0) in
     record { α = 0; sums = zeros; η = zeros; β = 0; values = zeros; δ = zeros; γ = 0 }
 
@@ -42,9 +44,9 @@ unfoldable pub unopened : Session
 unopened =
     record {
       stage = 0;
-      sizes = record { R = 0; C = 0; X = 0; K = each (λ M. 0) };
+      sizes = record { |R| = 0; |C| = 0; |X| = 0; |K| = each (λ M. 0) };
       x = replicate maxSize 0;
-      heard = silence;
+      transcript = blank;
     }
 
 -- the next session and its answer, or the same session where the step is refused
@@ -52,9 +54,9 @@ abbrev pub unless : Option Refusal → Session → Stepped → Stepped
 unless none s next = next
 unless (some r) s next = record { session = s; answer = Refused r }
 
--- the session one step on, having heard h
-abbrev pub onward : Session → Heard ℕ → Answer → Stepped
-onward s h answer = record { session = record { stage = suc (s .stage); sizes = s .sizes; x = s .x; heard = h }; answer = answer }
+-- the session one step on, with the transcript t
+abbrev pub onward : Session → Transcript ℕ → Answer → Stepped
+onward s t answer = record { session = record { stage = suc (s .stage); sizes = s .sizes; x = s .x; transcript = t }; answer = answer }
 
 -- every test passes
 abbrev pub all : List Bool → Bool
@@ -68,7 +70,7 @@ inTurn n stage s = eqb stage n && all (sixSizeTests s)
 -- what refuses each step, from the stage and the sizes of the session, in the order of the table
 module _ (q : Prime) where
   unfoldable pub openRefusal : Sizes → List ℕ → Option Refusal
-  openRefusal s x = first (sizeRefusal (sixSizeTests s) ∷ listRefusal (eqb (length x) (s .X) ∷ []) ∷ wordRefusal q x ∷ [])
+  openRefusal s x = first (sizeRefusal (sixSizeTests s) ∷ listRefusal (eqb (length x) (s .|X|) ∷ []) ∷ wordRefusal q x ∷ [])
 
   module _ (stage : ℕ) (s : Sizes) where
     abbrev table : Messages ℕ ℕ
@@ -79,7 +81,7 @@ module _ (q : Prime) where
         first
         (turnRefusal (inTurn 1 stage s)
         ∷ wordRefusal q (α ∷ [])
-        ∷ challengeRefusal {q = q} 0 (s .R ∷ []) (of α ∷ [])
+        ∷ challengeRefusal {q = q} 0 (s .|R| ∷ []) (of α ∷ [])
         ∷ lengthRefusal (witness ∷ mask ∷ rowQuotient ∷ []) (table .witness ∷ table .mask ∷ table .rowQuotient ∷ [])
         ∷ [])
 
@@ -91,7 +93,7 @@ module _ (q : Prime) where
         first
         (turnRefusal (inTurn 3 stage s)
         ∷ wordRefusal q (β ∷ [])
-        ∷ challengeRefusal {q = q} 1 (s .C ∷ []) (of β ∷ [])
+        ∷ challengeRefusal {q = q} 1 (s .|C| ∷ []) (of β ∷ [])
         ∷ lengthRefusal (lineRemainder ∷ lineQuotient ∷ []) (table .lineRemainder ∷ table .lineQuotient ∷ [])
         ∷ [])
 
@@ -108,57 +110,92 @@ module _ (q : Prime) where
         first
         (turnRefusal (inTurn 5 stage s)
         ∷ wordRefusal q (γ ∷ [])
-        ∷ challengeRefusal {q = q} 2 (largest (s .K) ∷ []) (of γ ∷ [])
+        ∷ challengeRefusal {q = q} 2 (largest (s .|K|) ∷ []) (of γ ∷ [])
         ∷ lengthRefusal (joinedQuotient ∷ []) (table .joinedQuotient ∷ [])
         ∷ [])
 
-    unfoldable pub openingsRefusal : Openings ℕ → Option Refusal
-    openingsRefusal o = first (turnRefusal (inTurn 6 stage s) ∷ wordRefusal q (listOpenings o) ∷ [])
+-- what a session holds is what steps leave in it before the openings: in x the public words and zeros after them, and a transcript of
+-- field words whose α is outside R, β outside C and γ outside K
+module _ (q : Prime) where
+  abbrev pub allBelow : List ℕ → Bool
+  allBelow ws = all (map (λ w. ltb w (q .p)) ws)
+
+  unfoldable pub publicFits : ℕ → List ℕ → Bool
+  publicFits n x = allBelow (take n x) && all (map (λ w. eqb w 0) (drop n x))
+
+  unfoldable pub transcriptFits : Sizes → Transcript ℕ → Bool
+  transcriptFits s t =
+      allBelow (listTranscript t)
+      && all (pairs (λ n y. not (inside {q = q} n y)) (s .|R| ∷ s .|C| ∷ largest (s .|K|) ∷ []) (of (t .α) ∷ of (t .β) ∷ of (t .γ) ∷ []))
+
+  unfoldable pub leftBySteps : Session → Bool
+  leftBySteps s = publicFits (s .sizes .|X|) (s .x) && transcriptFits (s .sizes) (s .transcript)
 
 module _ (q : Prime) (s : Session) where
-  abbrev h : Heard ℕ
-  h = s .heard
+  abbrev t : Transcript ℕ
+  t = s .transcript
+
+  -- the verdict is given only on what steps leave
+  unfoldable pub openingsRefusal : Openings ℕ → Option Refusal
+  openingsRefusal o = first (turnRefusal (inTurn 6 (s .stage) (s .sizes) && leftBySteps q s) ∷ wordRefusal q (listOpenings o) ∷ [])
 
   -- "open (the six sizes in trailer order, x)"; "opening makes a new session", and is never out of turn
   unfoldable pub openStep : Sizes → List ℕ → Stepped
   openStep n x =
       unless (openRefusal q n x) s
-      (record { session = record { stage = 1; sizes = n; x = x ++ replicate (maxSize - length x) 0; heard = silence }; answer = Taken })
+      (record { session = record { stage = 1; sizes = n; x = x ++ replicate (maxSize - length x) 0; transcript = blank }; answer = Taken })
 
   -- "lengths of ŵ, m, h0, then α"
   unfoldable pub alphaStep : ℕ → ℕ → ℕ → ℕ → Stepped
   alphaStep witness mask rowQuotient α =
-      unless (alphaRefusal q (s .stage) (s .sizes) witness mask rowQuotient α) s
-      (onward s (record { α = α; sums = h .sums; η = h .η; β = h .β; values = h .values; δ = h .δ; γ = h .γ }) Taken)
+      unless (alphaRefusal q (s .stage) (s .sizes) witness mask rowQuotient α) s (onward s (withα α t) Taken)
 
   -- "the three σ, then the three η"
   unfoldable pub etaStep : Three ℕ → Three ℕ → Stepped
-  etaStep sums η =
-      unless (etaRefusal q (s .stage) (s .sizes) sums η) s
-      (onward s (record { α = h .α; sums = sums; η = η; β = h .β; values = h .values; δ = h .δ; γ = h .γ }) Taken)
+  etaStep sums η = unless (etaRefusal q (s .stage) (s .sizes) sums η) s (onward s (withη sums η t) Taken)
 
   -- "lengths of g1, h1, then β"
   unfoldable pub betaStep : ℕ → ℕ → ℕ → Stepped
   betaStep lineRemainder lineQuotient β =
-      unless (betaRefusal q (s .stage) (s .sizes) lineRemainder lineQuotient β) s
-      (onward s (record { α = h .α; sums = h .sums; η = h .η; β = β; values = h .values; δ = h .δ; γ = h .γ }) Taken)
+      unless (betaRefusal q (s .stage) (s .sizes) lineRemainder lineQuotient β) s (onward s (withβ β t) Taken)
 
   -- "the three ω and lengths of g_M, then the three δ"
   unfoldable pub deltaStep : Three ℕ → Three ℕ → Three ℕ → Stepped
   deltaStep values matrixRemainders δ =
-      unless (deltaRefusal q (s .stage) (s .sizes) values matrixRemainders δ) s
-      (onward s (record { α = h .α; sums = h .sums; η = h .η; β = h .β; values = values; δ = δ; γ = h .γ }) Taken)
+      unless (deltaRefusal q (s .stage) (s .sizes) values matrixRemainders δ) s (onward s (withδ values δ t) Taken)
 
   -- "length of h2, then γ"
   unfoldable pub gammaStep : ℕ → ℕ → Stepped
-  gammaStep joinedQuotient γ =
-      unless (gammaRefusal q (s .stage) (s .sizes) joinedQuotient γ) s
-      (onward s (record { α = h .α; sums = h .sums; η = h .η; β = h .β; values = h .values; δ = h .δ; γ = γ }) Taken)
+  gammaStep joinedQuotient γ = unless (gammaRefusal q (s .stage) (s .sizes) joinedQuotient γ) s (onward s (withγ γ t) Taken)
 
-  -- the verdict on openings, where all before them has been heard
+  -- the verdict on openings, where the transcript is whole
   unfoldable pub verdictOf : Openings ℕ → Verdict
-  verdictOf o = verdict (s .sizes) (map (of {q = q}) (take (s .sizes .X) (s .x))) (mapHeard of h) (mapOpenings of o)
+  verdictOf o = verdict (s .sizes) (map (of {q = q}) (take (s .sizes .|X|) (s .x))) (mapTranscript of t) (mapOpenings of o)
 
   -- "openings", and the verdict; "After the verdict every step is out of turn"
   unfoldable pub openingsStep : Openings ℕ → Stepped
-  openingsStep o = unless (openingsRefusal q (s .stage) (s .sizes) o) s (onward s h (Judged (verdictOf o)))
+  openingsStep o = unless (openingsRefusal o) s (onward s t (Judged (verdictOf o)))
+
+-- a step with its inputs, and the session after steps that follow each other, refused ones among them
+pub data Step : Type 0 where
+  Open : Sizes → List ℕ → Step
+  Alpha : ℕ → ℕ → ℕ → ℕ → Step
+  Eta : Three ℕ → Three ℕ → Step
+  Beta : ℕ → ℕ → ℕ → Step
+  Delta : Three ℕ → Three ℕ → Three ℕ → Step
+  Gamma : ℕ → ℕ → Step
+  Last : Openings ℕ → Step
+
+module _ (q : Prime) where
+  abbrev pub stepped : Session → Step → Stepped
+  stepped s (Open n x) = openStep q s n x
+  stepped s (Alpha witness mask rowQuotient α) = alphaStep q s witness mask rowQuotient α
+  stepped s (Eta sums η) = etaStep q s sums η
+  stepped s (Beta lineRemainder lineQuotient β) = betaStep q s lineRemainder lineQuotient β
+  stepped s (Delta values matrixRemainders δ) = deltaStep q s values matrixRemainders δ
+  stepped s (Gamma joinedQuotient γ) = gammaStep q s joinedQuotient γ
+  stepped s (Last o) = openingsStep q s o
+
+  abbrev pub after : Session → List Step → Session
+  after s [] = s
+  after s (step ∷ steps) = after (stepped s step .session) steps

@@ -25,7 +25,7 @@ pub struct Sizes {
 }
 
 // What the verifier hears before the openings: challenges, claimed sums and claimed matrix values.
-pub struct Heard {
+pub struct Transcript {
     pub alpha: u32,
     pub sums: Triple,
     pub eta: Triple,

@@ -16,7 +16,7 @@ use Rattle.circuit.specs.Given.{given, proverInput, Fits}
 use Rattle.circuit.proofs.Fitting.{C-fits, X-fits, X-below}
 use Rattle.prover.specs.CallGiven.{assignmentIn}
 
-circuit-columns : (r c x : ℕ) (ea eb ec : List ℕ) → circuitOf (given r c x ea eb ec) .C ≡ c
+circuit-columns : (r c x : ℕ) (ea eb ec : List ℕ) → circuitOf (given r c x ea eb ec) .|C| ≡ c
 unfolding circuitOf
 circuit-columns r c x ea eb ec = refl
 
@@ -33,7 +33,7 @@ module _ {p r c x : ℕ} {ea eb ec z m : List ℕ} (F : Fits p r c x ea eb ec z 
 
   -- ẑ has the values z on C
   pub assignment-on-C : {q : Prime} → q .p ≡ p → Qualifies q → (mask : ℕ)
-      → valuesOn (circuitOf (given r c x ea eb ec) .C) (assignmentIn q (proverInput r c x ea eb ec z mask m)) ≡ map of z
+      → valuesOn (circuitOf (given r c x ea eb ec) .|C|) (assignmentIn q (proverInput r c x ea eb ec z mask m)) ≡ map of z
   assignment-on-C {q} e Q mask =
       assignment-values Q (circuitOf (given r c x ea eb ec))
       (subst⁻¹ (λ (p : ℕ). WellFormed p (circuitOf (given r c x ea eb ec))) e (F .well-formed)) (map of z) (of mask)

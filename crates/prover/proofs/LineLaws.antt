@@ -25,7 +25,7 @@ use Rattle.field.specs.Element.{Elem, of, 𝟘, words, _⊕_, _⊗_}
 use Rattle.field.proofs.ElementLaws.{primeRing}
 use Rattle.field.proofs.Words.{of-result}
 use Rattle.domain.specs.Domain.{element, lagrange}
-use Rattle.domain.specs.Polynomial.{Poly, plus, times, remainder, interpolate}
+use Rattle.domain.specs.Polynomial.{Poly, _⊞_, _⊠_, remainder, interpolate}
 use Rattle.domain.specs.Qualifies.{Qualifies}
 use Rattle.domain.proofs.ListLaws.{equal-entries}
 use Rattle.protocol.specs.Three.{MatrixName, A, B, C, Three, at, each, mapThree}
@@ -136,7 +136,7 @@ module _ {q : Prime} where
 abbrev pub rowValues : {q : Prime} → ℕ → Elem q → List (Elem q)
 rowValues r α = tabulate r (λ i. lagrange r (element r i) α)
 
-module _ (q : Prime) (k : Circuit) {r : ℕ} (c : ℕ) (eR : k .R ≡ r) (α : Elem q) where
+module _ (q : Prime) (k : Circuit) {r : ℕ} (c : ℕ) (eR : k .|R| ≡ r) (α : Elem q) where
   column-total : (M : MatrixName) {es : List Entry} → at (k .matrices) M ≡ es → All (Within r c) es → (j : ℕ)
       → columnTotal (rowValues r α) es j ≡ columnSum k M α j
   unfolding columnTotal columnSum
@@ -145,7 +145,7 @@ module _ (q : Prime) (k : Circuit) {r : ℕ} (c : ℕ) (eR : k .R ≡ r) (α : E
       ap (λ (x : Elem q). pick (eqb (e .column) j) (of (e .value) ⊗ x) 𝟘)
       (getD-tabulate r (e .row) (λ i. lagrange r (element r i) α) 𝟘 (within .row-below)
       ∙ (λ t. lagrange (sym eR t) (element (sym eR t) (e .row)) α))) es inside)
-      ∙ ap (λ (l : List Entry). sumList (primeRing q) (λ e. pick (eqb (e .column) j) (of (e .value) ⊗ lagrange (k .R) (element (k .R) (e .row)) α) 𝟘) l)
+      ∙ ap (λ (l : List Entry). sumList (primeRing q) (λ e. pick (eqb (e .column) j) (of (e .value) ⊗ lagrange (k .|R|) (element (k .|R|) (e .row)) α) 𝟘) l)
       (sym same)
 
   -- the weighted sums over the entries of A, B, C
@@ -180,21 +180,21 @@ columns-within r es e = subst (λ (n : ℕ). All (Within r n) es) (sym e)
 
 -- Σ η_M M̂(α,Y), times ẑ, and m
 pub line-made :
-    (q : Prime) (Q : Qualifies q) (k : Circuit) (W : WellFormed (q .p) k) {c : ℕ} → k .C ≡ c → (m ẑ : Poly q) (α : Elem q) (η : Three (Elem q))
-    → words (plus (times (interpolate c (tabulate c (λ j. weighted η (each (λ M. columnSum k M α j))))) ẑ) m) ≡ words (line k m ẑ α η)
+    (q : Prime) (Q : Qualifies q) (k : Circuit) (W : WellFormed (q .p) k) {c : ℕ} → k .|C| ≡ c → (m ẑ : Poly q) (α : Elem q) (η : Three (Elem q))
+    → words (_⊞_ (_⊠_ (interpolate c (tabulate c (λ j. weighted η (each (λ M. columnSum k M α j))))) ẑ) m) ≡ words (line k m ẑ α η)
 unfolding line
 line-made q Q k W {c} eC m ẑ α η =
     let f : ℕ → Elem q = λ j. weighted η (each (λ M. columnSum k M α j)) in
     ap words
-    (plus-comm (primeRing q) (times (interpolate c (tabulate c f)) ẑ) m
-    ∙ ap (λ (g : Poly q). plus m (times g ẑ)) ((λ t. interpolate (sym eC t) (tabulate (sym eC t) f)) ∙ sym (weighted-by-columns Q k W α η)))
+    (plus-comm (primeRing q) (_⊠_ (interpolate c (tabulate c f)) ẑ) m
+    ∙ ap (λ (g : Poly q). _⊞_ m (_⊠_ g ẑ)) ((λ t. interpolate (sym eC t) (tabulate (sym eC t) f)) ∙ sym (weighted-by-columns Q k W α η)))
 
 pub words-tail : {q : Prime} (l : List (Elem q)) → tail (words l) ≡ words (tail l)
 words-tail [] = refl
 words-tail (x ∷ l) = refl
 
 -- g1 from the remainder's words
-pub line-remainder-made : (q : Prime) (k : Circuit) {c : ℕ} {ws : List ℕ} (f : Poly q) → k .C ≡ c → ws ≡ words (remainder c f)
+pub line-remainder-made : (q : Prime) (k : Circuit) {c : ℕ} {ws : List ℕ} (f : Poly q) → k .|C| ≡ c → ws ≡ words (remainder c f)
     → tail ws ≡ words (lineRemainder k f)
 unfolding lineRemainder
 line-remainder-made q k {c} f eC made = ap tail made ∙ words-tail (remainder c f) ∙ (λ t. words (tail (remainder (sym eC t) f)))

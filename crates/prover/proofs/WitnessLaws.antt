@@ -18,7 +18,7 @@ use Rattle.field.specs.Element.{Elem, of, 𝟘, 𝟙, words, neg}
 use Rattle.field.proofs.ElementLaws.{primeRing}
 use Rattle.field.proofs.Words.{of-result, word-of, of-results}
 use Rattle.domain.specs.Size.{isSize}
-use Rattle.domain.specs.Polynomial.{Poly, plus, minus, scale, times, quotient, vanishingPoly, interpolate}
+use Rattle.domain.specs.Polynomial.{Poly, _⊞_, _⊟_, _·_, _⊠_, quotient, vanishingPoly, interpolate}
 use Rattle.domain.proofs.Fill.{word-at}
 use Rattle.domain.proofs.ListLaws.{map-tabulate}
 use Rattle.domain.proofs.SizeLaws.{size-divides}
@@ -83,7 +83,7 @@ module _ (q : Prime) where
       ∙ zero-word q)
 
 -- each (|C|/|X|)-th word of z is the public part
-pub public-words : {q : Prime} (k : Circuit) {c x : ℕ} (z : List ℕ) → k .C ≡ c → k .X ≡ x
+pub public-words : {q : Prime} (k : Circuit) {c x : ℕ} (z : List ℕ) → k .|C| ≡ c → k .|X| ≡ x
     → map (of {q = q}) (tabulate x (λ i. getD z (i * (c / x)) 0)) ≡ publicPart k (map of z)
 unfolding publicPart
 public-words {q} k {c} {x} z eC eX =
@@ -98,7 +98,7 @@ public-within {c} {x} z d sc sx le same within =
     omega (arith, size-divides x c sx sc le, ap (λ (n : ℕ). n * (c / x)) (part-length x d within))
 
 -- and the polynomial with these words as its values is x̂
-pub public-poly : (q : Prime) (k : Circuit) {c x : ℕ} (z d e : List ℕ) → k .C ≡ c → k .X ≡ x → x ≤ length d → length e ≡ length (take x d)
+pub public-poly : (q : Prime) (k : Circuit) {c x : ℕ} (z d e : List ℕ) → k .|C| ≡ c → k .|X| ≡ x → x ≤ length d → length e ≡ length (take x d)
     → e ≡ tabulate (length (take x d)) (λ i. getD z (i * (c / x)) 0)
     → words (interpolate {q = q} (length (take x (e ++ drop x d))) (map of (take x (e ++ drop x d))))
     ≡ words (publicPoly k (publicPart k (map (of {q = q}) z)))
@@ -108,19 +108,19 @@ public-poly q k {c} {x} z d e eC eX within kept made =
     let values : take x (e ++ drop x d) ≡ public =
     filled-part x d within e kept ∙ made ∙ ap (λ (n : ℕ). tabulate n (λ i. getD z (i * (c / x)) 0)) (sym (part-length x d within)) in
     ap₂ (λ (n : ℕ) (l : List ℕ). words (interpolate {q = q} n (map of l))) (sym (filled-length x d within e kept) ∙ sym eX) values
-    ∙ ap (λ l. words (interpolate {q = q} (k .X) l)) (public-words k z eC eX)
+    ∙ ap (λ l. words (interpolate {q = q} (k .|X|) l)) (public-words k z eC eX)
 
 module _ (q : Prime) where
   -- f + (p - 1)·g is f - g
   pub minus-made : {p : ℕ} → q .p ≡ p → (F G : Poly q) {f g : Poly q} {e : List ℕ} → f ≡ F → g ≡ G
-      → e ≡ words (plus f (scale (of (p - 1)) g)) → e ≡ words (minus F G)
-  minus-made value F G made-f made-g made = made ∙ (λ t. words (plus (made-f t) (scale (minus-one q value t) (made-g t))))
+      → e ≡ words (_⊞_ f (_·_ (of (p - 1)) g)) → e ≡ words (_⊟_ F G)
+  minus-made value F G made-f made-g made = made ∙ (λ t. words (_⊞_ (made-f t) (_·_ (minus-one q value t) (made-g t))))
 
   -- f + 1·g is f + g
   pub plus-made : (F G : Poly q) {f g : Poly q} {e : List ℕ} → f ≡ F → g ≡ G
-      → e ≡ words (plus f (scale (of 1) g)) → e ≡ words (plus F G)
+      → e ≡ words (_⊞_ f (_·_ (of 1) g)) → e ≡ words (_⊞_ F G)
   plus-made F G made-f made-g made =
-      made ∙ (λ t. words (plus (made-f t) (scale 𝟙 (made-g t)))) ∙ ap (λ h. words (plus F h)) (scale-one (primeRing q) G)
+      made ∙ (λ t. words (_⊞_ (made-f t) (_·_ 𝟙 (made-g t)))) ∙ ap (λ h. words (_⊞_ F h)) (scale-one (primeRing q) G)
 
 -- a 0 behind the first n words of a slice of n + 1
 pub padded : (n : ℕ) (out e : List ℕ) → length out ≡ n + 1 → length e ≡ n → set (e ++ drop n out) n 0 ≡ e ++ (0 ∷ [])
@@ -131,25 +131,25 @@ padded n out e whole part =
 
 -- ŵ from its two terms, the first of them padded
 pub witness-made :
-    (q : Prime) (k : Circuit) {c x : ℕ} (z : List (Elem q)) (r : Elem q) {f e : List ℕ} {g : Poly q} → k .C ≡ c → k .X ≡ x
-    → f ≡ e ++ (0 ∷ []) → e ≡ words (quotient x (minus (interpolate c z) (publicPoly k (publicPart k z)))) → g ≡ quotient x (vanishingPoly c)
-    → length e < length (quotient x (vanishingPoly {q = q} c)) → words (plus (map of f) (scale r g)) ≡ words (witness k z r)
+    (q : Prime) (k : Circuit) {c x : ℕ} (z : List (Elem q)) (r : Elem q) {f e : List ℕ} {g : Poly q} → k .|C| ≡ c → k .|X| ≡ x
+    → f ≡ e ++ (0 ∷ []) → e ≡ words (quotient x (_⊟_ (interpolate c z) (publicPoly k (publicPart k z)))) → g ≡ quotient x (vanishingPoly c)
+    → length e < length (quotient x (vanishingPoly {q = q} c)) → words (_⊞_ (map of f) (_·_ r g)) ≡ words (witness k z r)
 unfolding witness
 witness-made q k {c} {x} z r {f} {e} {g} eC eX pad made ratio shorter =
-    let F : Poly q = quotient x (minus (interpolate c z) (publicPoly k (publicPart k z))) in
+    let F : Poly q = quotient x (_⊟_ (interpolate c z) (publicPoly k (publicPart k z))) in
     let G : Poly q = quotient x (vanishingPoly c) in
     ap words
-    ((λ t. plus (map of (pad t)) (scale r (ratio t)))
-    ∙ ap (λ l. plus l (scale r G)) (map-append of e (0 ∷ []))
-    ∙ plus-padded (primeRing q) (map of e) (scale r G) (omega (arith, length-map e (of {q = q}), length-scale (primeRing q) r G))
-    ∙ ap (λ l. plus l (scale r G)) (of-results F made)
+    ((λ t. _⊞_ (map of (pad t)) (_·_ r (ratio t)))
+    ∙ ap (λ l. _⊞_ l (_·_ r G)) (map-append of e (0 ∷ []))
+    ∙ plus-padded (primeRing q) (map of e) (_·_ r G) (omega (arith, length-map e (of {q = q}), length-scale (primeRing q) r G))
+    ∙ ap (λ l. _⊞_ l (_·_ r G)) (of-results F made)
     ∙ (λ t.
-    plus (quotient (sym eX t) (minus (interpolate (sym eC t) z) (publicPoly k (publicPart k z))))
-    (scale r (quotient (sym eX t) (vanishingPoly (sym eC t))))))
+    _⊞_ (quotient (sym eX t) (_⊟_ (interpolate (sym eC t) z) (publicPoly k (publicPart k z))))
+    (_·_ r (quotient (sym eX t) (vanishingPoly (sym eC t))))))
 
 -- ẑ from ŵ v_X and x̂
 pub assignment-made :
-    (q : Prime) (k : Circuit) {x : ℕ} (z w : Poly q) → k .X ≡ x
-    → words (plus (times w (vanishingPoly x)) (publicPoly k (publicPart k z))) ≡ words (assignment k (publicPart k z) w)
+    (q : Prime) (k : Circuit) {x : ℕ} (z w : Poly q) → k .|X| ≡ x
+    → words (_⊞_ (_⊠_ w (vanishingPoly x)) (publicPoly k (publicPart k z))) ≡ words (assignment k (publicPart k z) w)
 unfolding assignment
-assignment-made q k z w eX = λ t. words (plus (times w (vanishingPoly (sym eX t))) (publicPoly k (publicPart k z)))
+assignment-made q k z w eX = λ t. words (_⊞_ (_⊠_ w (vanishingPoly (sym eX t))) (publicPoly k (publicPart k z)))

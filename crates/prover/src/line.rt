@@ -98,7 +98,7 @@ pub fn weights_into(
     requires { ⌜ (isSize r ≡ true) × (isSize c ≡ true) ⌝ }
     requires { ⌜ length (now out) ≡ c ⌝ }
     requires { ⌜ EachWithin r c (now a) (now b) (now m) ⌝ }
-    ensures { λ _. ⌜ ((q : Prime) → Known q p → Qualifies q → (k : Circuit) → k .R ≡ r
+    ensures { λ _. ⌜ ((q : Prime) → Known q p → Qualifies q → (k : Circuit) → k .|R| ≡ r
         → k .matrices ≡ entryLists (now (a .entry)) (now (b .entry)) (now (m .entry))
         → now (out .exit)
         ≡ words (interpolation c (tabulate c (λ j. weighted (mapThree of (three eta)) (each (λ M. columnSum {q = q} k M (of alpha) j)))))) ⌝ }
@@ -130,7 +130,7 @@ pub fn line_into(
     requires { ⌜ (isSize r ≡ true) × (isSize c ≡ true) ⌝ }
     requires { ⌜ (length (now assignment) ≡ c + 1) × (length (now mask) ≡ 2 * c) × (length (now out) ≡ 2 * c) ⌝ }
     requires { ⌜ EachWithin r c (now a) (now b) (now m) ⌝ }
-    ensures { λ _. ⌜ ((q : Prime) → Known q p → Qualifies q → (k : Circuit) → WellFormed p k → k .R ≡ r → k .C ≡ c
+    ensures { λ _. ⌜ ((q : Prime) → Known q p → Qualifies q → (k : Circuit) → WellFormed p k → k .|R| ≡ r → k .|C| ≡ c
         → k .matrices ≡ entryLists (now (a .entry)) (now (b .entry)) (now (m .entry))
         → now (out .exit)
         ≡ words (linePoly k (map (of {q = q}) (now (mask .entry))) (map of (now (assignment .entry))) (of alpha) (mapThree of (three eta)))) ⌝ }
@@ -181,7 +181,7 @@ pub fn line_remainder_into(p: u32, c: u32, line: &[u32], out: &mut [u32])
     requires { ⌜ 0 < p ⌝ }
     requires { ⌜ isSize c ≡ true ⌝ }
     requires { ⌜ length (now out) ≡ c - 1 ⌝ }
-    ensures { λ _. ⌜ ((q : Prime) → q .p ≡ p → (k : Circuit) → k .C ≡ c
+    ensures { λ _. ⌜ ((q : Prime) → q .p ≡ p → (k : Circuit) → k .|C| ≡ c
         → now (out .exit) ≡ words (lineRemainder k (map (of {q = q}) (now (line .entry))))) ⌝ }
 {
     let n = c as usize;
@@ -195,7 +195,7 @@ pub fn line_quotient_into(p: u32, c: u32, line: &[u32], out: &mut [u32])
     requires { ⌜ 0 < p ⌝ }
     requires { ⌜ isSize c ≡ true ⌝ }
     requires { ⌜ (length (now line) ≡ 2 * c) × (length (now out) ≡ c) ⌝ }
-    ensures { λ _. ⌜ ((q : Prime) → q .p ≡ p → (k : Circuit) → k .C ≡ c
+    ensures { λ _. ⌜ ((q : Prime) → q .p ≡ p → (k : Circuit) → k .|C| ≡ c
         → now (out .exit) ≡ words (lineQuotient k (map (of {q = q}) (now (line .entry))))) ⌝ }
 {
     poly::quotient_into(p, c as usize, line, out);

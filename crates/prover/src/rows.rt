@@ -9,7 +9,7 @@ ghost use Rattle.algebra.specs.Lists.{tabulate};
 ghost use Rattle.field.specs.Prime.{Prime};
 ghost use Rattle.field.specs.Element.{of, words};
 ghost use Rattle.domain.specs.Size.{isSize};
-ghost use Rattle.domain.specs.Polynomial.{Poly, minus, times, quotient, valuesOn, interpolate as interpolation};
+ghost use Rattle.domain.specs.Polynomial.{Poly, _⊟_, _⊠_, quotient, valuesOn, interpolate as interpolation};
 ghost use Rattle.domain.specs.Qualifies.{Qualifies};
 ghost use Rattle.domain.specs.Known.{Known};
 ghost use Rattle.protocol.specs.Three.{MatrixName, at};
@@ -40,7 +40,7 @@ fn product_minus_into(p: u32, f: &[u32], g: &[u32], h: &[u32], out: &mut [u32])
     requires { ⌜ (0 < length (now f)) × (length (now g) ≡ length (now f)) × (length (now h) ≡ length (now f)) ⌝ }
     requires { ⌜ length (now out) + 1 ≡ length (now f) + length (now f) ⌝ }
     ensures { λ _. ⌜ ((q : Prime) → q .p ≡ p
-        → now (out .exit) ≡ words (minus (times (map (of {q = q}) (now (f .entry))) (map of (now (g .entry)))) (map of (now (h .entry))))) ⌝ }
+        → now (out .exit) ≡ words (_⊟_ (_⊠_ (map (of {q = q}) (now (f .entry))) (map of (now (g .entry)))) (map of (now (h .entry))))) ⌝ }
 {
     poly::multiply_into(p, f, g, out);
     let minus_one = p - 1;
@@ -54,7 +54,7 @@ fn product_quotient_into(p: u32, n: usize, f: &[u32], g: &[u32], h: &[u32], out:
     requires { ⌜ (length (now f) ≡ n) × (length (now g) ≡ n) × (length (now h) ≡ n) × (length (now out) ≡ n - 1) ⌝ }
     ensures { λ _. ⌜ ((q : Prime) → q .p ≡ p
         → now (out .exit)
-        ≡ words (quotient n (minus (times (map (of {q = q}) (now (f .entry))) (map of (now (g .entry)))) (map of (now (h .entry)))))) ⌝ }
+        ≡ words (quotient n (_⊟_ (_⊠_ (map (of {q = q}) (now (f .entry))) (map of (now (g .entry)))) (map of (now (h .entry)))))) ⌝ }
 {
     let m = n + n - 1;
     let mut difference = [0u32; 2047];
@@ -76,9 +76,9 @@ pub fn row_quotient_into(
     requires { ⌜ isSize r ≡ true ⌝ }
     requires { ⌜ length (now out) ≡ r - 1 ⌝ }
     requires { ⌜ EachWithin r (length (now z)) (now a) (now b) (now m) ⌝ }
-    ensures { λ _. ⌜ ((q : Prime) → Known q p → Qualifies q → (k : Circuit) → WellFormed p k → k .R ≡ r
+    ensures { λ _. ⌜ ((q : Prime) → Known q p → Qualifies q → (k : Circuit) → WellFormed p k → k .|R| ≡ r
         → k .matrices ≡ entryLists (now (a .entry)) (now (b .entry)) (now (m .entry))
-        → (ẑ : Poly q) → valuesOn (k .C) ẑ ≡ map of (now (z .entry)) → now (out .exit) ≡ words (rowQuotient k ẑ)) ⌝ }
+        → (ẑ : Poly q) → valuesOn (k .|C|) ẑ ≡ map of (now (z .entry)) → now (out .exit) ≡ words (rowQuotient k ẑ)) ⌝ }
 {
     let n = r as usize;
     let mut image_a = [0u32; 1024];
@@ -95,9 +95,9 @@ pub fn row_sum_value(p: u32, r: u32, entries: &[u32], z: &[u32], alpha: u32) -> 
     requires { ⌜ 1 < p ⌝ }
     requires { ⌜ isSize r ≡ true ⌝ }
     requires { ⌜ All (Within r (length (now z))) (entriesOf (now entries)) ⌝ }
-    ensures { λ s. ⌜ ((q : Prime) → Known q p → Qualifies q → (k : Circuit) → WellFormed p k → k .R ≡ r
+    ensures { λ s. ⌜ ((q : Prime) → Known q p → Qualifies q → (k : Circuit) → WellFormed p k → k .|R| ≡ r
         → (M : MatrixName) → at (k .matrices) M ≡ entriesOf (now (entries .entry))
-        → (ẑ : Poly q) → valuesOn (k .C) ẑ ≡ map of (now (z .entry)) → s ≡ (imageValue k ẑ M (of alpha)) .word) ⌝ }
+        → (ẑ : Poly q) → valuesOn (k .|C|) ẑ ≡ map of (now (z .entry)) → s ≡ (imageValue k ẑ M (of alpha)) .word) ⌝ }
 {
     let n = r as usize;
     let mut image = [0u32; 1024];

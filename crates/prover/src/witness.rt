@@ -9,7 +9,7 @@ ghost use Rattle.algebra.specs.Lists.{tabulate};
 ghost use Rattle.field.specs.Prime.{Prime};
 ghost use Rattle.field.specs.Element.{of, words};
 ghost use Rattle.domain.specs.Size.{isSize};
-ghost use Rattle.domain.specs.Polynomial.{minus, quotient, vanishingPoly, interpolate as interpolation};
+ghost use Rattle.domain.specs.Polynomial.{_⊟_, quotient, vanishingPoly, interpolate as interpolation};
 ghost use Rattle.domain.specs.Known.{Known};
 ghost use Rattle.protocol.specs.Circuit.{Circuit, publicPart};
 ghost use Rattle.protocol.specs.Messages.{publicPoly, witness as witnessPoly, assignment};
@@ -57,7 +57,7 @@ pub fn public_poly_into(p: u32, c: u32, x: u32, z: &[u32], out: &mut [u32])
     requires { ⌜ 1 < p ⌝ }
     requires { ⌜ (isSize c ≡ true) × (isSize x ≡ true) × (x ≤ c) ⌝ }
     requires { ⌜ (length (now z) ≡ c) × (length (now out) ≡ x) ⌝ }
-    ensures { λ _. ⌜ ((q : Prime) → Known q p → (k : Circuit) → k .C ≡ c → k .X ≡ x
+    ensures { λ _. ⌜ ((q : Prime) → Known q p → (k : Circuit) → k .|C| ≡ c → k .|X| ≡ x
         → now (out .exit) ≡ words (publicPoly k (publicPart k (map (of {q = q}) (now (z .entry)))))) ⌝ }
 {
     let n = x as usize;
@@ -71,9 +71,9 @@ fn private_quotient_into(p: u32, c: u32, x: u32, z: &[u32], out: &mut [u32])
     requires { ⌜ 1 < p ⌝ }
     requires { ⌜ (isSize c ≡ true) × (isSize x ≡ true) × (x ≤ c) ⌝ }
     requires { ⌜ (length (now z) ≡ c) × (length (now out) ≡ c - x) ⌝ }
-    ensures { λ _. ⌜ ((q : Prime) → Known q p → (k : Circuit) → k .C ≡ c → k .X ≡ x
+    ensures { λ _. ⌜ ((q : Prime) → Known q p → (k : Circuit) → k .|C| ≡ c → k .|X| ≡ x
         → now (out .exit)
-        ≡ words (quotient x (minus (interpolation c (map (of {q = q}) (now (z .entry)))) (publicPoly k (publicPart k (map of (now (z .entry)))))))) ⌝ }
+        ≡ words (quotient x (_⊟_ (interpolation c (map (of {q = q}) (now (z .entry)))) (publicPoly k (publicPart k (map of (now (z .entry)))))))) ⌝ }
 {
     let n = c as usize;
     let m = x as usize;
@@ -105,7 +105,7 @@ pub fn witness_into(p: u32, c: u32, x: u32, z: &[u32], r: u32, out: &mut [u32])
     requires { ⌜ 1 < p ⌝ }
     requires { ⌜ (isSize c ≡ true) × (isSize x ≡ true) × (x ≤ c) ⌝ }
     requires { ⌜ (length (now z) ≡ c) × (length (now out) ≡ c - x + 1) ⌝ }
-    ensures { λ _. ⌜ ((q : Prime) → Known q p → (k : Circuit) → k .C ≡ c → k .X ≡ x
+    ensures { λ _. ⌜ ((q : Prime) → Known q p → (k : Circuit) → k .|C| ≡ c → k .|X| ≡ x
         → now (out .exit) ≡ words (witnessPoly k (map (of {q = q}) (now (z .entry))) (of r))) ⌝ }
 {
     let n = (c - x) as usize;
@@ -123,7 +123,7 @@ pub fn assignment_into(p: u32, c: u32, x: u32, z: &[u32], witness: &[u32], out: 
     requires { ⌜ 1 < p ⌝ }
     requires { ⌜ (isSize c ≡ true) × (isSize x ≡ true) × (x ≤ c) ⌝ }
     requires { ⌜ (length (now z) ≡ c) × (length (now witness) ≡ c - x + 1) × (length (now out) ≡ c + 1) ⌝ }
-    ensures { λ _. ⌜ ((q : Prime) → Known q p → (k : Circuit) → k .C ≡ c → k .X ≡ x
+    ensures { λ _. ⌜ ((q : Prime) → Known q p → (k : Circuit) → k .|C| ≡ c → k .|X| ≡ x
         → now (out .exit) ≡ words (assignment k (publicPart k (map (of {q = q}) (now (z .entry)))) (map of (now (witness .entry))))) ⌝ }
 {
     let m = x as usize;

@@ -24,18 +24,18 @@ abbrev pub InRange : ℕ → Type 0
 InRange n = (0 < n) × (n ≤ 1024)
 
 module _ (s : Sizes) (allowed : Allowed s) where
-  pub sizes-in-range : All InRange (s .R ∷ s .C ∷ s .X ∷ listed (s .K))
+  pub sizes-in-range : All InRange (s .|R| ∷ s .|C| ∷ s .|X| ∷ listed (s .|K|))
   unfolding sixSizeTests sizeTests
   sizes-in-range =
       let (r, (c, (x, k))) = allowed in
-      all-map {P = λ n. isSize n ≡ true} {Q = InRange} (λ n h. (size-positive n h, size-bound n h)) (s .R ∷ s .C ∷ s .X ∷ listed (s .K))
-      (r, (c, (and-true (isSize (s .X)) (leb (s .X) (s .C)) x .0, k)))
+      all-map {P = λ n. isSize n ≡ true} {Q = InRange} (λ n h. (size-positive n h, size-bound n h)) (s .|R| ∷ s .|C| ∷ s .|X| ∷ listed (s .|K|))
+      (r, (c, (and-true (isSize (s .|X|)) (leb (s .|X|) (s .|C|)) x .0, k)))
 
-  pub public-within : s .X ≤ s .C
+  pub public-within : s .|X| ≤ s .|C|
   unfolding sixSizeTests sizeTests
   public-within =
       let (r, (c, (x, k))) = allowed in
-      leb-true (s .X) (s .C) (and-true (isSize (s .X)) (leb (s .X) (s .C)) x .1)
+      leb-true (s .|X|) (s .|C|) (and-true (isSize (s .|X|)) (leb (s .|X|) (s .|C|)) x .1)
 
   pub lengths-bound : All (λ n. n ≤ 2048) (sectionLengths s)
   unfolding sectionLengths lengths largest

@@ -25,19 +25,19 @@ one-less m n h = omega arith
 
 module _ (i : ProverInput) {ws points : List ℕ} (free : Free i ws points) where
   pub fitting :
-      Fits (babyBear .p) (i .circuit .R) (i .circuit .C) (i .circuit .X) (i .circuit .matrices .a) (i .circuit .matrices .b) (i .circuit .matrices .c) (i .z)
+      Fits (babyBear .p) (i .circuit .|R|) (i .circuit .|C|) (i .circuit .|X|) (i .circuit .matrices .a) (i .circuit .matrices .b) (i .circuit .matrices .c) (i .z)
       (i .m)
   fitting =
-      round-fits (i .circuit .R) (i .circuit .C) (i .circuit .X) (i .circuit .matrices .a) (i .circuit .matrices .b) (i .circuit .matrices .c)
+      round-fits (i .circuit .|R|) (i .circuit .|C|) (i .circuit .|X|) (i .circuit .matrices .a) (i .circuit .matrices .b) (i .circuit .matrices .c)
       babyBear (i .z) (i .m) (i .r) [] [] ws points (free .none-refused) .fits
 
-  pub rows-most : i .circuit .R ≤ 1024
-  rows-most = size-bound (i .circuit .R) (R-fits fitting)
+  pub rows-most : i .circuit .|R| ≤ 1024
+  rows-most = size-bound (i .circuit .|R|) (R-fits fitting)
 
-  pub columns-most : i .circuit .C ≤ 1024
-  columns-most = size-bound (i .circuit .C) (C-fits fitting)
+  pub columns-most : i .circuit .|C| ≤ 1024
+  columns-most = size-bound (i .circuit .|C|) (C-fits fitting)
 
-  pub witness-most : i .circuit .C - i .circuit .X + 1 ≤ 1024
+  pub witness-most : i .circuit .|C| - i .circuit .|X| + 1 ≤ 1024
   witness-most = witness-bound fitting
 
   pub mask-most : length (i .m) ≤ 2048

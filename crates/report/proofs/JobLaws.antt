@@ -143,10 +143,10 @@ module _ (i : ProverInput) (α : ℕ) (η : Three ℕ) (β : ℕ) (δ : Three �
     public-same : publicWords babyBear j ≡ publicOf (sizesOf c) (i .z)
     unfolding publicWords sizesOf
     public-same =
-        let place : ℕ → ℕ = λ k. k * (c .C / c .X) in
-        ap (words {q = babyBear}) (sym (public-words c {c = c .C} {x = c .X} (i .z) refl refl))
-        ∙ words-back (tabulate (c .X) (λ k. getD (i .z) (place k) 0))
-        (tabulated-below (c .X) (λ k. getD (i .z) (place k) 0) (λ k. picked-below (i .z) z-back (place k)))
+        let place : ℕ → ℕ = λ k. k * (c .|C| / c .|X|) in
+        ap (words {q = babyBear}) (sym (public-words c {c = c .|C|} {x = c .|X|} (i .z) refl refl))
+        ∙ words-back (tabulate (c .|X|) (λ k. getD (i .z) (place k) 0))
+        (tabulated-below (c .|X|) (λ k. getD (i .z) (place k) 0) (λ k. picked-below (i .z) z-back (place k)))
 
     mask-length : length (p .mask) ≡ lengths (sizesOf c) .mask
     unfolding proof messages lengths sizesOf

@@ -26,14 +26,14 @@ Passes tests = All (λ t. t ≡ true) tests
 module _ (q : Prime) (c : Circuit) (z m : List ℕ) where
   -- α, β, γ are outside R, C, K
   abbrev pointTests : List ℕ → List Bool
-  pointTests points = pairs (λ n (y : Elem q). not (inside n y)) (c .R ∷ c .C ∷ largest (sizesOf c .K) ∷ []) (map of points)
+  pointTests points = pairs (λ n (y : Elem q). not (inside n y)) (c .|R| ∷ c .|C| ∷ largest (sizesOf c .|K|) ∷ []) (map of points)
 
   abbrev rows : List Bool → List ℕ → List ℕ → List (Option Refusal)
   rows lists ws points =
       circuitRefusals q c lists ws
       ++ (maskRefusal {q = q} c (map of m)
       ∷ assignmentRefusal {q = q} c (map of z)
-      ∷ challengeRefusal {q = q} 0 (c .R ∷ c .C ∷ largest (sizesOf c .K) ∷ []) (map of points)
+      ∷ challengeRefusal {q = q} 0 (c .|R| ∷ c .|C| ∷ largest (sizesOf c .|K|) ∷ []) (map of points)
       ∷ [])
 
   -- what 5, 6 and 10 let through

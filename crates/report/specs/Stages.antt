@@ -115,7 +115,7 @@ lastAnswer s x α σ η β ω δ γ o = answerAfter (afterValues (afterSums s x 
 
 -- the public words of z
 abbrev pub publicOf : Sizes → List ℕ → List ℕ
-publicOf s z = tabulate (s .X) (λ i. getD z (i * (s .C / s .X)) 0)
+publicOf s z = tabulate (s .|X|) (λ i. getD z (i * (s .|C| / s .|X|)) 0)
 
 -- o, ga, gb, gc, h2 and the last line
 unfoldable pub restText : ProverInput → ℕ → Three ℕ → Three ℕ → ℕ → Three ℕ → ℕ → Openings ℕ → List ℕ

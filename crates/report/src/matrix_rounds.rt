@@ -64,7 +64,7 @@ pub fn put_fourth(
 ) -> FourthRound
     requires { ⌜ Free (proverInput r c x (now ea) (now eb) (now ec) (now z) mask (now m))
         (alpha ∷ (listed (three eta) ++ (beta ∷ []))) (alpha ∷ beta ∷ []) ⌝ }
-    requires { ⌜ three k ≡ sizesOf (circuitOf (given r c x (now ea) (now eb) (now ec))) .K ⌝ }
+    requires { ⌜ three k ≡ sizesOf (circuitOf (given r c x (now ea) (now eb) (now ec))) .|K| ⌝ }
     requires { ⌜ at + mostFourth ≤ length (now out) ⌝ }
     ensures { λ f. ⌜ three (f .values)
         ≡ valueWords (proverInput r c x (now (ea .entry)) (now (eb .entry)) (now (ec .entry)) (now (z .entry)) mask (now (m .entry)))
@@ -123,7 +123,7 @@ pub fn put_fifth(
 ) -> usize
     requires { ⌜ Free (proverInput r c x (now ea) (now eb) (now ec) (now z) mask (now m))
         (alpha ∷ (listed (three eta) ++ (beta ∷ listed (three delta)))) (alpha ∷ beta ∷ []) ⌝ }
-    requires { ⌜ k ≡ largest (sizesOf (circuitOf (given r c x (now ea) (now eb) (now ec))) .K) ⌝ }
+    requires { ⌜ k ≡ largest (sizesOf (circuitOf (given r c x (now ea) (now eb) (now ec))) .|K|) ⌝ }
     requires { ⌜ at + mostLine ≤ length (now out) ⌝ }
     ensures { λ p. ⌜ Printed (now (out .entry)) at
         (fifthText (proverInput r c x (now (ea .entry)) (now (eb .entry)) (now (ec .entry)) (now (z .entry)) mask (now (m .entry)))

@@ -30,12 +30,12 @@ module _ (k : CircuitWords) (before : Three (Index (List ℕ))) where
   answers l = l ≡ fills (indexCall babyBear k (mapThree (mapIndex length) before)) before
 
   abbrev pub CallFits : Type 0
-  CallFits = IndexFits (k .R) (k .C) (k .X) (k .matrices .a) (k .matrices .b) (k .matrices .c) babyBear before
+  CallFits = IndexFits (k .|R|) (k .|C|) (k .|X|) (k .matrices .a) (k .matrices .b) (k .matrices .c) babyBear before
 
   -- and the judgement
   module _ (f : Fault) (judgement : faultRefusal f ≡ indexRefusal babyBear k (twelveLengths before)) where
     pub call-fits : f ≡ fault.Fine → CallFits
-    call-fits told = index-fits (k .R) (k .C) (k .X) (k .matrices .a) (k .matrices .b) (k .matrices .c) babyBear before (matched told judgement)
+    call-fits told = index-fits (k .|R|) (k .|C|) (k .|X|) (k .matrices .a) (k .matrices .b) (k .matrices .c) babyBear before (matched told judgement)
 
     pub index-done : {a b c : Index (List ℕ)} → f ≡ fault.Fine → a ≡ polynomials A → b ≡ polynomials B → c ≡ polynomials C
         → answers (filling filled.Done (threeOf a b c))

@@ -24,12 +24,12 @@ module _ (i : ProverInput) (lent due challenges points : List ℕ) where
   abbrev pub InputFits : Type 0
   InputFits =
       let k = i .circuit in
-      RoundFits (k .R) (k .C) (k .X) (k .matrices .a) (k .matrices .b) (k .matrices .c) babyBear (i .z) (i .m) (i .r) lent due challenges points
+      RoundFits (k .|R|) (k .|C|) (k .|X|) (k .matrices .a) (k .matrices .b) (k .matrices .c) babyBear (i .z) (i .m) (i .r) lent due challenges points
 
   pub input-fits : (f : Fault) → faultRefusal f ≡ roundRefusal babyBear i lent due challenges points → f ≡ fault.Fine → InputFits
   input-fits f judgement told =
       let k = i .circuit in
-      round-fits (k .R) (k .C) (k .X) (k .matrices .a) (k .matrices .b) (k .matrices .c) babyBear (i .z) (i .m) (i .r) lent due challenges points
+      round-fits (k .|R|) (k .|C|) (k .|X|) (k .matrices .a) (k .matrices .b) (k .matrices .c) babyBear (i .z) (i .m) (i .r) lent due challenges points
       (matched told judgement)
 
 -- a slice that is one shorter than |K_M|, and than |K|

@@ -59,7 +59,7 @@ threeListedWith = mapOutcome (λ t. (listed (t .0), t .1))
 
 -- the six sizes in trailer order
 abbrev pub sizesListed : Outcome Sizes → Outcome (List ℕ)
-sizesListed = mapOutcome (λ s. s .R ∷ s .C ∷ s .X ∷ listed (s .K))
+sizesListed = mapOutcome (λ s. s .|R| ∷ s .|C| ∷ s .|X| ∷ listed (s .|K|))
 
 -- a step: the words of the next session, or those before
 abbrev pub stepWords : steps.Answer → List ℕ → List ℕ → Answered (List ℕ)

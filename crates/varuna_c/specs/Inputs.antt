@@ -10,7 +10,7 @@ use Rattle.verifier.specs.Session.{threeAt}
 
 -- six sizes in trailer order
 unfoldable pub sizesIn : List ℕ → Sizes
-sizesIn l = record { R = getD l 0 0; C = getD l 1 0; X = getD l 2 0; K = threeAt l 3 }
+sizesIn l = record { |R| = getD l 0 0; |C| = getD l 1 0; |X| = getD l 2 0; |K| = threeAt l 3 }
 
 -- four openings of a matrix's index polynomials from a place on
 abbrev pub indexAt : List ℕ → ℕ → Index ℕ

@@ -13,27 +13,27 @@ use Rattle.protocol.specs.Session.{all, inTurn}
 use Rattle.protocol.proofs.RefusalLaws.{and-true}
 
 pub record Allowed (s : Sizes) : Type 0 where
-  pub R-size : isSize (s .R) ≡ true
-  pub C-size : isSize (s .C) ≡ true
-  pub X-size : isSize (s .X) ≡ true
-  pub X-within : s .X ≤ s .C
-  pub K-size : (M : MatrixName) → isSize (at (s .K) M) ≡ true
+  pub R-size : isSize (s .|R|) ≡ true
+  pub C-size : isSize (s .|C|) ≡ true
+  pub X-size : isSize (s .|X|) ≡ true
+  pub X-within : s .|X| ≤ s .|C|
+  pub K-size : (M : MatrixName) → isSize (at (s .|K|) M) ≡ true
 
 pub allowed : (s : Sizes) → all (sixSizeTests s) ≡ true → Allowed s
 unfolding sixSizeTests sizeTests
 allowed s e =
-    let (r, e1) = and-true (isSize (s .R)) _ e in
-    let (c, e2) = and-true (isSize (s .C)) _ e1 in
-    let (x, e3) = and-true (isSize (s .X) && leb (s .X) (s .C)) _ e2 in
-    let (xs, xc) = and-true (isSize (s .X)) _ x in
-    let (a, e4) = and-true (isSize (s .K .a)) _ e3 in
-    let (b, e5) = and-true (isSize (s .K .b)) _ e4 in
-    let (d, e6) = and-true (isSize (s .K .c)) _ e5 in
+    let (r, e1) = and-true (isSize (s .|R|)) _ e in
+    let (c, e2) = and-true (isSize (s .|C|)) _ e1 in
+    let (x, e3) = and-true (isSize (s .|X|) && leb (s .|X|) (s .|C|)) _ e2 in
+    let (xs, xc) = and-true (isSize (s .|X|)) _ x in
+    let (a, e4) = and-true (isSize (s .|K| .a)) _ e3 in
+    let (b, e5) = and-true (isSize (s .|K| .b)) _ e4 in
+    let (d, e6) = and-true (isSize (s .|K| .c)) _ e5 in
     record {
       R-size = r;
       C-size = c;
       X-size = xs;
-      X-within = leb-true (s .X) (s .C) xc;
+      X-within = leb-true (s .|X|) (s .|C|) xc;
       K-size = elim [ A ↦ a | B ↦ b | C ↦ d ];
     }
 
@@ -41,9 +41,9 @@ pub in-turn-allowed : (n stage : ℕ) (s : Sizes) → inTurn n stage s ≡ true 
 unfolding inTurn
 in-turn-allowed n stage s e = allowed s (and-true (eqb stage n) _ e .1)
 
-pub largest-size : (s : Sizes) → Allowed s → isSize (largest (s .K)) ≡ true
+pub largest-size : (s : Sizes) → Allowed s → isSize (largest (s .|K|)) ≡ true
 unfolding largest
-largest-size s w = max-is-size (s .K .a) (max (s .K .b) (s .K .c)) (w .K-size A) (max-is-size (s .K .b) (s .K .c) (w .K-size B) (w .K-size C))
+largest-size s w = max-is-size (s .|K| .a) (max (s .|K| .b) (s .|K| .c)) (w .K-size A) (max-is-size (s .|K| .b) (s .|K| .c) (w .K-size B) (w .K-size C))
 
 -- a size is from 1 to 1,024
 pub size-range : (n : ℕ) → isSize n ≡ true → (0 < n) × (n ≤ maxSize)

@@ -12,16 +12,16 @@ ghost use Rattle.domain.specs.Qualifies.{Qualifies};
 ghost use Rattle.domain.specs.Known.{Known};
 ghost use Rattle.protocol.specs.Three.{MatrixName, at, mapThree};
 ghost use Rattle.protocol.specs.Index.{mapIndex};
-ghost use Rattle.protocol.specs.Checks.{mapHeard, mapOpenings, rowLeft, rowRight, weighted, assignmentValue, lineLeft, lineRight};
+ghost use Rattle.protocol.specs.Checks.{mapTranscript, mapOpenings, rowLeft, rowRight, weighted, assignmentValue, lineLeft, lineRight};
 ghost use Rattle.protocol.specs.Checks.{numeratorValue, denominatorValue, matrixLeft, joinedLeft, joinedRight};
 ghost use Rattle.protocol.specs.Checks as checks;
 ghost use Rattle.protocol.specs.Refusals.{sixSizeTests};
 ghost use Rattle.protocol.specs.Session.{all};
-ghost use Rattle.protocol.specs.Meanings.{three, sizes, heard, indexWords, openings, verdictMeaning};
+ghost use Rattle.protocol.specs.Meanings.{three, sizes, transcript, indexWords, openings, verdictMeaning};
 use protocol::Check;
-use protocol::Heard;
 use protocol::Opened;
 use protocol::Sizes;
+use protocol::Transcript;
 use protocol::Triple;
 use protocol::Verdict;
 use protocol::six_sizes::largest;
@@ -93,7 +93,7 @@ fn line_right(p: u32, s: Sizes, beta: u32, sum: u32, remainder: u32, quotient: u
 }
 
 // Line: m(β) + (Σ η_M ω_M) ẑ(β) = h1(β) v_C(β) + β g1(β) + σ/|C|.
-fn line_holds(p: u32, s: Sizes, x: &[u32], h: Heard, o: Opened) -> bool
+fn line_holds(p: u32, s: Sizes, x: &[u32], h: Transcript, o: Opened) -> bool
     requires { ⌜ 1 < p ⌝ }
     requires { ⌜ isSize (s .x) ≡ true ⌝ }
     requires { ⌜ length (now x) ≡ s .x ⌝ }
@@ -140,14 +140,14 @@ fn denominator_value(p: u32, s: Sizes, alpha: u32, beta: u32, index: [u32; 4]) -
 fn matrix_left(
     p: u32,
     s: Sizes,
-    h: Heard,
+    h: Transcript,
     size: u32,
     value: u32,
     index: [u32; 4],
     remainder: u32,
 ) -> u32
     requires { ⌜ 1 < p ⌝ }
-    ensures { λ r. ⌜ ((q : Prime) → q .p ≡ p → (M : MatrixName) → at (sizes s .K) M ≡ size
+    ensures { λ r. ⌜ ((q : Prime) → q .p ≡ p → (M : MatrixName) → at (sizes s .|K|) M ≡ size
         → r ≡ (matrixLeft (sizes s) M (of {q = q} (h .alpha)) (of (h .beta)) (of value) (mapIndex of (indexWords index)) (of (h .gamma))
         (of remainder)) .word) ⌝ }
 {
@@ -161,7 +161,7 @@ fn matrix_left(
 // s_M = |K_M| v_K(γ) / (|K| v_{K_M}(γ)), with |K_M| = size.
 fn selector(p: u32, s: Sizes, size: u32, gamma: u32) -> u32
     requires { ⌜ 1 < p ⌝ }
-    ensures { λ r. ⌜ ((q : Prime) → q .p ≡ p → (M : MatrixName) → at (sizes s .K) M ≡ size
+    ensures { λ r. ⌜ ((q : Prime) → q .p ≡ p → (M : MatrixName) → at (sizes s .|K|) M ≡ size
         → r ≡ (checks.selector (sizes s) M (of {q = q} gamma)) .word) ⌝ }
 {
     let n = largest(s.k);
@@ -174,7 +174,7 @@ fn selector(p: u32, s: Sizes, size: u32, gamma: u32) -> u32
 fn matrix_term(
     p: u32,
     s: Sizes,
-    h: Heard,
+    h: Transcript,
     size: u32,
     delta: u32,
     value: u32,
@@ -182,7 +182,7 @@ fn matrix_term(
     remainder: u32,
 ) -> u32
     requires { ⌜ 1 < p ⌝ }
-    ensures { λ r. ⌜ ((q : Prime) → q .p ≡ p → (M : MatrixName) → at (sizes s .K) M ≡ size
+    ensures { λ r. ⌜ ((q : Prime) → q .p ≡ p → (M : MatrixName) → at (sizes s .|K|) M ≡ size
         → r ≡ (of {q = q} delta ⊗ checks.selector (sizes s) M (of (h .gamma))
         ⊗ matrixLeft (sizes s) M (of (h .alpha)) (of (h .beta)) (of value) (mapIndex of (indexWords index)) (of (h .gamma)) (of remainder)) .word) ⌝ }
 {
@@ -195,7 +195,7 @@ fn matrix_term(
 }
 
 // Matrix: Σ δ_M s_M (a_M - b_M (γ g_M + ω_M/|K_M|)) = h2(γ) v_K(γ).
-fn matrix_holds(p: u32, s: Sizes, h: Heard, o: Opened, index: [[u32; 4]; 3]) -> bool
+fn matrix_holds(p: u32, s: Sizes, h: Transcript, o: Opened, index: [[u32; 4]; 3]) -> bool
     requires { ⌜ 1 < p ⌝ }
     ensures { λ r. ⌜ ((q : Prime) → q .p ≡ p
         → r ≡ equal (joinedLeft (sizes s) (of {q = q} (h .alpha)) (of (h .beta)) (mapThree of (three (h .values))) (mapThree of (three (h .delta)))
@@ -219,12 +219,19 @@ fn matrix_holds(p: u32, s: Sizes, h: Heard, o: Opened, index: [[u32; 4]; 3]) -> 
 }
 
 // Accept, or Fails with the check that failed first.
-pub fn verdict(p: u32, s: Sizes, x: &[u32], h: Heard, o: Opened, index: [[u32; 4]; 3]) -> Verdict
+pub fn verdict(
+    p: u32,
+    s: Sizes,
+    x: &[u32],
+    h: Transcript,
+    o: Opened,
+    index: [[u32; 4]; 3],
+) -> Verdict
     requires { ⌜ 1 < p ⌝ }
     requires { ⌜ all (sixSizeTests (sizes s)) ≡ true ⌝ }
     requires { ⌜ length (now x) ≡ s .x ⌝ }
     ensures { λ r. ⌜ ((q : Prime) → Known q p → Qualifies q
-        → verdictMeaning r ≡ checks.verdict (sizes s) (map (of {q = q}) (now (x .entry))) (mapHeard of (heard h)) (mapOpenings of (openings o index))) ⌝ }
+        → verdictMeaning r ≡ checks.verdict (sizes s) (map (of {q = q}) (now (x .entry))) (mapTranscript of (transcript h)) (mapOpenings of (openings o index))) ⌝ }
 {
     if !row_holds(p, s, h.sums, h.alpha, o.rowQuotient) {
         return Verdict::Fails(Check::Row);

@@ -40,7 +40,7 @@ module _ (q : Prime) (stage : ℕ) (s : Sizes) where
   alpha-turn witness mask quotient α =
       turn 1
       (wordRefusal q (α ∷ [])
-      ∷ challengeRefusal {q = q} 0 (s .R ∷ []) (of α ∷ [])
+      ∷ challengeRefusal {q = q} 0 (s .|R| ∷ []) (of α ∷ [])
       ∷ lengthRefusal (witness ∷ mask ∷ quotient ∷ []) (lengths s .witness ∷ lengths s .mask ∷ lengths s .rowQuotient ∷ [])
       ∷ [])
 
@@ -53,7 +53,7 @@ module _ (q : Prime) (stage : ℕ) (s : Sizes) where
   beta-turn remainder quotient β =
       turn 3
       (wordRefusal q (β ∷ [])
-      ∷ challengeRefusal {q = q} 1 (s .C ∷ []) (of β ∷ [])
+      ∷ challengeRefusal {q = q} 1 (s .|C| ∷ []) (of β ∷ [])
       ∷ lengthRefusal (remainder ∷ quotient ∷ []) (lengths s .lineRemainder ∷ lengths s .lineQuotient ∷ [])
       ∷ [])
 
@@ -67,7 +67,7 @@ module _ (q : Prime) (stage : ℕ) (s : Sizes) where
   gamma-turn quotient γ =
       turn 5
       (wordRefusal q (γ ∷ [])
-      ∷ challengeRefusal {q = q} 2 (largest (s .K) ∷ []) (of γ ∷ [])
+      ∷ challengeRefusal {q = q} 2 (largest (s .|K|) ∷ []) (of γ ∷ [])
       ∷ lengthRefusal (quotient ∷ []) (lengths s .joinedQuotient ∷ [])
       ∷ [])
 
@@ -78,6 +78,6 @@ module _ (q : Prime) (stage : ℕ) (s : Sizes) where
 pub words-fit : (q : Prime) (s : Sizes) (x : List ℕ) → openRefusal q s x ≡ none → length x ≤ maxSize
 unfolding openRefusal sizeRefusal listRefusal
 words-fit q s x e =
-    let rows = first-none (sizeRefusal (sixSizeTests s) ∷ listRefusal (eqb (length x) (s .X) ∷ []) ∷ wordRefusal q x ∷ []) e in
-    let same : length x ≡ s .X = eqb-true (length x) (s .X) (refuse-none 5 0 (eqb (length x) (s .X) ∷ []) (rows .1 .0) .0) in
-    omega (arith, size-bound (s .X) (allowed s (row-passes 4 0 (sixSizeTests s) (sym (rows .0))) .X-size))
+    let rows = first-none (sizeRefusal (sixSizeTests s) ∷ listRefusal (eqb (length x) (s .|X|) ∷ []) ∷ wordRefusal q x ∷ []) e in
+    let same : length x ≡ s .|X| = eqb-true (length x) (s .|X|) (refuse-none 5 0 (eqb (length x) (s .|X|) ∷ []) (rows .1 .0) .0) in
+    omega (arith, size-bound (s .|X|) (allowed s (row-passes 4 0 (sixSizeTests s) (sym (rows .0))) .X-size))

@@ -4,10 +4,10 @@ use Prim.Native.Nat.{ℕ, _+_}
 use lib.ListN.{take, drop, getD}
 use Rattle.domain.specs.Size.{maxSize}
 use Rattle.protocol.specs.Three.{Three, listed}
-use Rattle.protocol.specs.Checks.{Heard}
+use Rattle.protocol.specs.Checks.{Transcript}
 use Rattle.protocol.specs.Session as steps
 use Rattle.protocol.specs.Session.{Taken, Judged, Refused}
-use Rattle.protocol.specs.Meanings.{sizes, heard, verdictMeaning}
+use Rattle.protocol.specs.Meanings.{sizes, transcript, verdictMeaning}
 use Rattle.verifier.specs.declared.session.Session.{Session}
 use Rattle.verifier.specs.declared.session.Answer as declared-answer
 use Rattle.verifier.specs.declared.session.Answer.the-variants as answer
@@ -17,7 +17,7 @@ use Rattle.verifier.specs.declared.session.Stepped.{Stepped}
 use Rattle.verifier.specs.declared.session.Finished.{Finished}
 
 abbrev pub sessionMeaning : Session → steps.Session
-sessionMeaning s = record { stage = s .stage; sizes = sizes (s .sizes); x = s .x; heard = heard (s .heard) }
+sessionMeaning s = record { stage = s .stage; sizes = sizes (s .sizes); x = s .x; transcript = transcript (s .transcript) }
 
 abbrev pub answerMeaning : declared-answer.Answer → steps.Answer
 answerMeaning answer.Taken = Taken
@@ -33,23 +33,23 @@ steppedMeaning r = record { session = sessionMeaning (r .session); answer = answ
 abbrev pub finishedMeaning : Finished → steps.Stepped
 finishedMeaning r = record { session = sessionMeaning (r .session); answer = lastMeaning (r .answer) }
 
--- A session as 1,046 words: the stage and the six sizes, the 1,024 words of x, and what was heard.
+-- A session as 1,046 words: the stage and the six sizes, the 1,024 words of x, and the transcript.
 unfoldable pub openingWords : steps.Session → List ℕ
-openingWords s = s .stage ∷ s .sizes .R ∷ s .sizes .C ∷ s .sizes .X ∷ listed (s .sizes .K)
+openingWords s = s .stage ∷ s .sizes .|R| ∷ s .sizes .|C| ∷ s .sizes .|X| ∷ listed (s .sizes .|K|)
 
-unfoldable pub heardWords : Heard ℕ → List ℕ
-heardWords h =
+unfoldable pub transcriptWords : Transcript ℕ → List ℕ
+transcriptWords h =
     h .α ∷ (listed (h .sums) ++ (listed (h .η) ++ (h .β ∷ (listed (h .values) ++ (listed (h .δ) ++ (h .γ ∷ []))))))
 
 unfoldable pub sessionWords : steps.Session → List ℕ
-sessionWords s = openingWords s ++ (s .x ++ heardWords (s .heard))
+sessionWords s = openingWords s ++ (s .x ++ transcriptWords (s .transcript))
 
 -- three words from a place on
 unfoldable pub threeAt : List ℕ → ℕ → Three ℕ
 threeAt l at = record { a = getD l at 0; b = getD l (at + 1) 0; c = getD l (at + 2) 0 }
 
-unfoldable pub heardOf : List ℕ → Heard ℕ
-heardOf l =
+unfoldable pub transcriptOf : List ℕ → Transcript ℕ
+transcriptOf l =
     record {
       α = getD l 1031 0;
       sums = threeAt l 1032;
@@ -65,7 +65,7 @@ unfoldable pub sessionOf : List ℕ → steps.Session
 sessionOf l =
     record {
       stage = getD l 0 0;
-      sizes = record { R = getD l 1 0; C = getD l 2 0; X = getD l 3 0; K = threeAt l 4 };
+      sizes = record { |R| = getD l 1 0; |C| = getD l 2 0; |X| = getD l 3 0; |K| = threeAt l 4 };
       x = take maxSize (drop 7 l);
-      heard = heardOf l;
+      transcript = transcriptOf l;
     }

@@ -7,26 +7,26 @@ ghost use lib.ListN.{length, replicate};
 ghost use lib.Seq.{paste};
 ghost use Rattle.domain.specs.Size.{maxSize};
 ghost use Rattle.domain.specs.BabyBear.{babyBear};
-ghost use Rattle.protocol.specs.Session.{unopened, silence, onward, openStep, alphaStep, etaStep, betaStep, deltaStep, gammaStep, openingsStep};
+ghost use Rattle.protocol.specs.Session.{unopened, blank, onward, openStep, alphaStep, etaStep, betaStep, deltaStep, gammaStep, openingsStep};
 ghost use Rattle.protocol.specs.Session as steps;
-ghost use Rattle.protocol.specs.Meanings.{three, sizes, heard};
+ghost use Rattle.protocol.specs.Meanings.{three, sizes, transcript};
 ghost use Rattle.protocol.specs.Meanings as meanings;
-ghost use Rattle.verifier.specs.Session.{sessionMeaning, steppedMeaning, finishedMeaning, sessionOf, sessionWords, heardOf, heardWords, threeAt};
+ghost use Rattle.verifier.specs.Session.{sessionMeaning, steppedMeaning, finishedMeaning, sessionOf, sessionWords, transcriptOf, transcriptWords, threeAt};
 use crate::refusals;
 use field::MODULE_PRIME;
 use protocol::Fault;
-use protocol::Heard;
 use protocol::Opened;
 use protocol::Sizes;
+use protocol::Transcript;
 use protocol::Triple;
 use protocol::Verdict;
 
-// The steps taken, the sizes, the public words with zeros after them, and what was heard.
+// The steps taken, the sizes, the public words with zeros after them, and the transcript.
 pub struct Session {
     stage: u32,
     sizes: Sizes,
     x: [u32; 1024],
-    heard: Heard,
+    transcript: Transcript,
 }
 
 pub enum Answer {
@@ -49,19 +49,19 @@ pub struct Finished {
     pub answer: LastAnswer,
 }
 
-// A session as words: the stage, the six sizes, the words of x, and what was heard.
+// A session as words: the stage, the six sizes, the words of x, and the transcript.
 const SESSION_WORDS: usize = 1046;
 
 const X_START: usize = 7;
 
-const HEARD_START: usize = 1031;
+const TRANSCRIPT_START: usize = 1031;
 
-// Nothing heard yet.
-fn nothing() -> Heard
-    ensures { λ r. ⌜ heard r ≡ silence ⌝ }
+// A transcript before anything is heard.
+fn nothing() -> Transcript
+    ensures { λ r. ⌜ transcript r ≡ blank ⌝ }
 {
     let zeros = Triple { a: 0, b: 0, c: 0 };
-    Heard {
+    Transcript {
         alpha: 0,
         sums: zeros,
         eta: zeros,
@@ -110,24 +110,24 @@ fn triple_at(words: &[u32; SESSION_WORDS], at: usize) -> Triple
     }
 }
 
-// What was heard, from a session's words.
-fn heard_in(words: &[u32; SESSION_WORDS]) -> Heard
-    ensures { λ r. ⌜ heard r ≡ heardOf (now (words .entry)) ⌝ }
+// The transcript, from a session's words.
+fn transcript_in(words: &[u32; SESSION_WORDS]) -> Transcript
+    ensures { λ r. ⌜ transcript r ≡ transcriptOf (now (words .entry)) ⌝ }
 {
-    Heard {
-        alpha: words[HEARD_START],
-        sums: triple_at(words, HEARD_START + 1),
-        eta: triple_at(words, HEARD_START + 4),
-        beta: words[HEARD_START + 7],
-        values: triple_at(words, HEARD_START + 8),
-        delta: triple_at(words, HEARD_START + 11),
-        gamma: words[HEARD_START + 14],
+    Transcript {
+        alpha: words[TRANSCRIPT_START],
+        sums: triple_at(words, TRANSCRIPT_START + 1),
+        eta: triple_at(words, TRANSCRIPT_START + 4),
+        beta: words[TRANSCRIPT_START + 7],
+        values: triple_at(words, TRANSCRIPT_START + 8),
+        delta: triple_at(words, TRANSCRIPT_START + 11),
+        gamma: words[TRANSCRIPT_START + 14],
     }
 }
 
-// The words of what was heard.
-fn heard_words(h: Heard) -> [u32; SESSION_WORDS - HEARD_START]
-    ensures { λ r. ⌜ r ≡ heardWords (heard h) ⌝ }
+// The words of a transcript.
+fn transcript_words(h: Transcript) -> [u32; SESSION_WORDS - TRANSCRIPT_START]
+    ensures { λ r. ⌜ r ≡ transcriptWords (transcript h) ⌝ }
 {
     [
         h.alpha,
@@ -154,7 +154,7 @@ impl Session {
         ensures { λ r. ⌜ sessionMeaning r ≡ sessionOf (now (words .entry)) ⌝ }
     {
         let all = &words[..];
-        let x = padded(&all[X_START..HEARD_START]);
+        let x = padded(&all[X_START..TRANSCRIPT_START]);
         Session {
             stage: words[0],
             sizes: Sizes {
@@ -164,7 +164,7 @@ impl Session {
                 k: triple_at(words, 4),
             },
             x: x,
-            heard: heard_in(words),
+            transcript: transcript_in(words),
         }
     }
 
@@ -175,10 +175,10 @@ impl Session {
         let s = self.sizes;
         let first = [self.stage, s.r, s.c, s.x, s.k.a, s.k.b, s.k.c];
         let x = self.x;
-        let last = heard_words(self.heard);
+        let last = transcript_words(self.transcript);
         put_words(out, 0, &first);
         put_words(out, X_START, &x);
-        put_words(out, HEARD_START, &last);
+        put_words(out, TRANSCRIPT_START, &last);
     }
 
     // A session before it is opened.
@@ -194,7 +194,7 @@ impl Session {
                 k: Triple { a: 0, b: 0, c: 0 },
             },
             x: [0u32; 1024],
-            heard: nothing(),
+            transcript: nothing(),
         }
     }
 
@@ -209,14 +209,14 @@ impl Session {
         }
     }
 
-    // The session one step on, having heard h.
-    fn taken(self, stage: u32, h: Heard) -> Stepped
+    // The session one step on, with the transcript t.
+    fn taken(self, stage: u32, h: Transcript) -> Stepped
         requires { ⌜ stage ≡ suc (self .stage) ⌝ }
-        ensures { λ r. ⌜ steppedMeaning r ≡ onward (sessionMeaning self) (heard h) steps.Taken ⌝ }
+        ensures { λ r. ⌜ steppedMeaning r ≡ onward (sessionMeaning self) (transcript h) steps.Taken ⌝ }
     {
         let mut next = self;
         next.stage = stage;
-        next.heard = h;
+        next.transcript = h;
         Stepped {
             session: next,
             answer: Answer::Taken,
@@ -234,7 +234,7 @@ impl Session {
                     stage: 1,
                     sizes: s,
                     x: padded(x),
-                    heard: nothing(),
+                    transcript: nothing(),
                 };
                 Stepped {
                     session: opened,
@@ -259,7 +259,7 @@ impl Session {
         ) {
             Fault::Refused(number, position) => self.refused(number, position),
             Fault::Fine => {
-                let mut h = self.heard;
+                let mut h = self.transcript;
                 h.alpha = alpha;
                 self.taken(2, h)
             }
@@ -273,7 +273,7 @@ impl Session {
         match refusals::judge_eta(MODULE_PRIME, self.stage, self.sizes, sums, eta) {
             Fault::Refused(number, position) => self.refused(number, position),
             Fault::Fine => {
-                let mut h = self.heard;
+                let mut h = self.transcript;
                 h.sums = sums;
                 h.eta = eta;
                 self.taken(3, h)
@@ -295,7 +295,7 @@ impl Session {
         ) {
             Fault::Refused(number, position) => self.refused(number, position),
             Fault::Fine => {
-                let mut h = self.heard;
+                let mut h = self.transcript;
                 h.beta = beta;
                 self.taken(4, h)
             }
@@ -316,7 +316,7 @@ impl Session {
         ) {
             Fault::Refused(number, position) => self.refused(number, position),
             Fault::Fine => {
-                let mut h = self.heard;
+                let mut h = self.transcript;
                 h.values = values;
                 h.delta = delta;
                 self.taken(5, h)
@@ -331,7 +331,7 @@ impl Session {
         match refusals::judge_gamma(MODULE_PRIME, self.stage, self.sizes, quotient, gamma) {
             Fault::Refused(number, position) => self.refused(number, position),
             Fault::Fine => {
-                let mut h = self.heard;
+                let mut h = self.transcript;
                 h.gamma = gamma;
                 self.taken(6, h)
             }
@@ -354,7 +354,7 @@ impl Session {
                     MODULE_PRIME,
                     self.sizes,
                     &x[..n],
-                    self.heard,
+                    self.transcript,
                     o,
                     index,
                 );

@@ -23,8 +23,8 @@ valueAt q k entries which i = indexPart (entryIndex {q = q} k (entryWords entrie
 
 abbrev Inv-loop : tie.InvT-loop
 Inv-loop p gr gc which entries out₀ i₀ out i =
-    (i ≤ length out) × (length out ≡ length out₀) × ((q : Prime) → q .p ≡ p → (k : Circuit) → gr ≡ root {q = q} (k .R) .word
-    → gc ≡ root {q = q} (k .C) .word → Filled (words (tabulate (length out₀) (valueAt q k entries which))) out i)
+    (i ≤ length out) × (length out ≡ length out₀) × ((q : Prime) → q .p ≡ p → (k : Circuit) → gr ≡ root {q = q} (k .|R|) .word
+    → gc ≡ root {q = q} (k .|C|) .word → Filled (words (tabulate (length out₀) (valueAt q k entries which))) out i)
 
 abbrev μ-loop : tie.MeasureT-loop
 μ-loop p gr gc which entries out₀ i₀ out i = length out - i

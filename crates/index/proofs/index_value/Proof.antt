@@ -32,25 +32,25 @@ abbrev entry : tie.Start → Entry
 entry s = entryWords (s .args .entries .now) (s .args .i)
 
 -- the elements of row and column, and their product, as words
-row-made : (c : tie.After-raise) (q : Prime) → q .p ≡ start c .args .p → (k : Circuit) → start c .args .gr ≡ root {q = q} (k .R) .word
+row-made : (c : tie.After-raise) (q : Prime) → q .p ≡ start c .args .p → (k : Circuit) → start c .args .gr ≡ root {q = q} (k .|R|) .word
     → c .raise .result ≡ rowElement {q = q} k (entry (start c)) .word
 unfolding rowElement
 row-made c q same k er =
     let s = start c in
-    element-word q (k .R) (entry s .row) (s .args .gr) (c .raise .result) er
+    element-word q (k .|R|) (entry s .row) (s .args .gr) (c .raise .result) er
     (c .raise .ensures q same ∙ ap (λ n. power (of {q = q} (s .args .gr)) n .word) (c .before .word-or-zero .ensures))
 
 column-made : (c : tie.After-raise2) (q : Prime) → let s = start (at-row c) in
-    q .p ≡ s .args .p → (k : Circuit) → s .args .gc ≡ root {q = q} (k .C) .word
+    q .p ≡ s .args .p → (k : Circuit) → s .args .gc ≡ root {q = q} (k .|C|) .word
     → c .raise2 .result ≡ columnElement {q = q} k (entry s) .word
 unfolding columnElement
 column-made c q same k ec =
     let s = start (at-row c) in
-    element-word q (k .C) (entry s .column) (s .args .gc) (c .raise2 .result) ec
+    element-word q (k .|C|) (entry s .column) (s .args .gc) (c .raise2 .result) ec
     (c .raise2 .ensures q same ∙ ap (λ n. power (of {q = q} (s .args .gc)) n .word) (c .before .word-or-zero2 .ensures))
 
 product-made : (c : tie.After-multiply) (q : Prime) → let s = start (at-row (at-column c)) in
-    q .p ≡ s .args .p → (k : Circuit) → s .args .gr ≡ root {q = q} (k .R) .word → s .args .gc ≡ root {q = q} (k .C) .word
+    q .p ≡ s .args .p → (k : Circuit) → s .args .gr ≡ root {q = q} (k .|R|) .word → s .args .gc ≡ root {q = q} (k .|C|) .word
     → c .multiply .result ≡ (rowElement {q = q} k (entry s) ⊗ columnElement k (entry s)) .word
 product-made c q same k er ec =
     let l = at-column c in

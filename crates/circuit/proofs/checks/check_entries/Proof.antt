@@ -22,7 +22,7 @@ tests-count : (k : Circuit) (entries : List ℕ) → length (tests k entries) �
 tests-count k entries = omega (arith, length-entryTests k (entriesOf entries), length-entriesOf entries)
 
 abbrev Inv-loop : tie.InvT-loop
-Inv-loop r c start entries count i₀ i = (i ≤ count) × ((k : Circuit) → k .R ≡ r → k .C ≡ c → Passed 7 start (tests k entries) i)
+Inv-loop r c start entries count i₀ i = (i ≤ count) × ((k : Circuit) → k .|R| ≡ r → k .|C| ≡ c → Passed 7 start (tests k entries) i)
 
 abbrev μ-loop : tie.MeasureT-loop
 μ-loop r c start entries count i₀ i = count - i

@@ -35,7 +35,7 @@ module _ (k : Circuit) where
     in-parts matrices = sym (entries-in-parts k (s .args .ea .now) (s .args .eb .now) (s .args .ec .now) matrices _ _ refl refl)
 
   pass-a : (c : tie.Else1) {x : Option Refusal} → let s = start (c .before .before) in
-      k .R ≡ s .args .r → k .C ≡ s .args .c → Same s → x ≡ first (after-a s) → x ≡ entryRefusal k
+      k .|R| ≡ s .args .r → k .|C| ≡ s .args .c → Same s → x ≡ first (after-a s) → x ≡ entryRefusal k
   pass-a c er ec matrices y =
       let v = c .before .before in
       goes-on (v .check-entries .result) (v .check-entries .ensures k er ec) (after-a (start v))

@@ -19,7 +19,7 @@ words-within s = entry-words-within (s .args .entries .now) (s .args .i) (s .pre
 abbrev start : tie.After-entry-fits → tie.Start
 start c = c .before .before .before .before .before
 
-entry-answer : (c : tie.After-entry-fits) (k : Circuit) → k .R ≡ start c .args .r → k .C ≡ start c .args .c
+entry-answer : (c : tie.After-entry-fits) (k : Circuit) → k .|R| ≡ start c .args .r → k .|C| ≡ start c .args .c
     → fits k (entryWords (start c .args .entries .now) (start c .args .i)) ≡ c .entry-fits .result
 entry-answer c k er ec = fits-by k (entryWords (start c .args .entries .now) (start c .args .i)) er ec ∙ sym (c .entry-fits .ensures)
 

@@ -46,7 +46,7 @@ module _ (q : Prime) (k : Circuit) (s : tie.Start) where
   words = wordRefusal q (entryValues k ++ (s .args .z .now ++ (s .args .mask ∷ (s .args .m .now ++ s .args .challenges .now))))
 
   abbrev after-rows : List (Option Refusal)
-  after-rows = challengeRefusal {q = q} 0 (k .R ∷ k .C ∷ largest (sizesOf k .K) ∷ []) (map of (s .args .points .now)) ∷ []
+  after-rows = challengeRefusal {q = q} 0 (k .|R| ∷ k .|C| ∷ largest (sizesOf k .|K|) ∷ []) (map of (s .args .points .now)) ∷ []
 
   abbrev after-mask : List (Option Refusal)
   after-mask = assignmentRefusal {q = q} k (map of (s .args .z .now)) ∷ after-rows
@@ -60,8 +60,8 @@ module _ (q : Prime) (k : Circuit) (s : tie.Start) where
 -- k is the circuit that the call is given, over the field of q
 record Given (q : Prime) (k : Circuit) (s : tie.Start) : Type 0 where
   prime : q .p ≡ s .args .p
-  rows : k .R ≡ s .args .r
-  columns : k .C ≡ s .args .c
+  rows : k .|R| ≡ s .args .r
+  columns : k .|C| ≡ s .args .c
   matrices : k .matrices ≡ entryLists (s .args .ea .now) (s .args .eb .now) (s .args .ec .now)
 
 -- past the words, the entries, the mask and the rows
@@ -192,7 +192,7 @@ returns-5 : tie.Need-returns-5
 returns-5 c q Q e k er ec matrices =
     let l = c .before in
     let a = from-rows (l .before .before .before) .args in
-    let same : a .r ∷ a .c ∷ l .largest-size .result ∷ [] ≡ k .R ∷ k .C ∷ largest (sizesOf k .K) ∷ [] =
+    let same : a .r ∷ a .c ∷ l .largest-size .result ∷ [] ≡ k .|R| ∷ k .|C| ∷ largest (sizesOf k .|K|) ∷ [] =
     ap₂ _∷_ (sym er) (ap₂ _∷_ (sym ec) (ap (λ (n : ℕ). n ∷ []) (l .largest-size .ensures k matrices))) in
     pass-rows q Q k (l .before) (record { prime = e; rows = er; columns = ec; matrices = matrices })
     (last-answer (c .check-points .ensures q Q e ∙ ap (λ (ns : List ℕ). challengeRefusal {q = q} 0 ns (map of (a .points .now))) same))

@@ -9,7 +9,7 @@ use Rattle.field.specs.Element.{Elem, of, _⊗_, words}
 use Rattle.field.specs.Power.{_⊘_}
 use Rattle.field.proofs.Words.{of-result}
 use Rattle.domain.specs.Size.{sizeFor}
-use Rattle.domain.specs.Polynomial.{Poly, plus, scale}
+use Rattle.domain.specs.Polynomial.{Poly, _⊞_, _·_}
 use Rattle.protocol.specs.Messages.{matrixQuotient}
 use Rattle.protocol.specs.Calls.{entriesOf}
 use Rattle.domain.proofs.SizeLaws.{sized-positive, sized-fits, sized-next}
@@ -125,7 +125,7 @@ returns c q k M G H =
     let factor : of (at-multiply2 .multiply2 .result) ≡ of {q = q} (a .delta) ⊗
     (of (sizeFor (length (entriesOf (a .entries .now)))) ⊘ of (length (a .out .now) + 1)) =
     of-result _ (at-multiply2 .multiply2 .ensures q e) ∙ ap (λ x. of (a .delta) ⊗ x) share in
-    at-add-scaled .add-scaled .ensures q e ∙ ap words (ap (plus (map of (a .out .now))) (ap₂ scale factor quotient))
+    at-add-scaled .add-scaled .ensures q e ∙ ap words (ap (_⊞_ (map of (a .out .now))) (ap₂ _·_ factor quotient))
 
 pub add-matrix-spec : {M : Type 1} → statement M
 add-matrix-spec =

@@ -8,7 +8,7 @@ use native.Mathlib.Omega.{arith}
 use lib.ListN.{length, set, length-set}
 use Rattle.field.specs.Element.{Elem, of, 𝟘, _⊗_, _⊖_, words}
 use Rattle.field.proofs.Words.{of-result, of-results}
-use Rattle.domain.specs.Polynomial.{Poly, scale}
+use Rattle.domain.specs.Polynomial.{Poly, _·_}
 use Rattle.domain.proofs.Fill.{length-words}
 use Rattle.protocol.specs.Index.{Index, index}
 use Rattle.matrix_sumcheck.proofs.MatrixForms.{added, before-zeros, factors-form, denominator-made}
@@ -130,7 +130,7 @@ returns c q k M e rows columns e-row e-col e-rowcol =
     sym (length-words (i .rowcol)) ∙ ap length (sym e-rowcol) ∙ start .pre .1 .1 .1 .1 ∙ next in
     at-scale-in-place .scale-in-place .ensures q e
     ∙ ap words
-    (ap₂ scale (of-result _ (at-multiply2 .multiply2 .ensures q e))
+    (ap₂ _·_ (of-result _ (at-multiply2 .multiply2 .ensures q e))
     (four ∙ factors-form (n - 1) α β (i .row) (i .col) (i .rowcol) row-length col-length rowcol-length)
     ∙ denominator-made k M α β rows columns)
 

@@ -6,7 +6,7 @@ use native.Mathlib.Omega.{arith}
 use lib.ListN.{length}
 use Rattle.field.specs.Prime.{Prime}
 use Rattle.field.specs.Element.{Elem, of, words}
-use Rattle.domain.specs.Polynomial.{minus, times, quotient}
+use Rattle.domain.specs.Polynomial.{_⊟_, _⊠_, quotient}
 use Rattle.protocol.specs.Three.{MatrixName, at}
 use Rattle.protocol.specs.Circuit.{Circuit, sizesOf}
 use Rattle.protocol.specs.Messages.{numerator, denominator, ratio, matrixQuotient}
@@ -28,10 +28,10 @@ ready z p le a b r d = (omega arith, ((omega arith, omega arith), (omega arith, 
 ready-quotient : (z : ℕ) {p difference : ℕ} → 1 < p → z + 1 + z ≡ difference → (0 < p) × ((0 < z + 1) × (z ≡ difference - (z + 1)))
 ready-quotient z p d = (omega arith, (omega arith, omega arith))
 
-quotient-made : {q : Prime} (k : Circuit) (M : MatrixName) (α β : Elem q) {n : ℕ} → n ≡ at (sizesOf k .K) M
-    → quotient n (minus (numerator k α β M) (times (denominator k α β M) (ratio k α β M))) ≡ matrixQuotient k α β M
+quotient-made : {q : Prime} (k : Circuit) (M : MatrixName) (α β : Elem q) {n : ℕ} → n ≡ at (sizesOf k .|K|) M
+    → quotient n (_⊟_ (numerator k α β M) (_⊠_ (denominator k α β M) (ratio k α β M))) ≡ matrixQuotient k α β M
 unfolding matrixQuotient
-quotient-made k M α β e = ap (λ n. quotient n (minus (numerator k α β M) (times (denominator k α β M) (ratio k α β M)))) e
+quotient-made k M α β e = ap (λ n. quotient n (_⊟_ (numerator k α β M) (_⊠_ (denominator k α β M) (ratio k α β M)))) e
 
 add-n : tie.Need-add-n
 add-n c = search needs
@@ -204,8 +204,8 @@ returns c q k M G H =
     (ratio-call .ensures q k M G H) in
     let divided =
     back-list 2047 (twice-fits _ (size-fits _ size)) (difference-call .last .1 .1 .1 .1 .0) (difference-call .kept .1 .1 .1 .1 .0)
-    (minus (numerator k α β M) (times (denominator k α β M) (ratio k α β M)))
-    (difference-call .ensures q (G .known .value) ∙ ap words (ap₂ minus above (ap₂ times below ratios))) in
+    (_⊟_ (numerator k α β M) (_⊠_ (denominator k α β M) (ratio k α β M)))
+    (difference-call .ensures q (G .known .value) ∙ ap words (ap₂ _⊟_ above (ap₂ _⊠_ below ratios))) in
     at-quotient-into .quotient-into .ensures q (G .known .value)
     ∙ ap words (ap (quotient n) divided ∙ quotient-made k M α β (size ∙ sym (given-size G)))
 

@@ -9,7 +9,7 @@ use Rattle.field.specs.Element.{Elem, of, 𝟘, _⊗_, words}
 use Rattle.field.proofs.ElementLaws.{primeRing}
 use Rattle.field.proofs.Words.{of-result, of-results}
 use Rattle.domain.specs.Domain.{vanishing}
-use Rattle.domain.specs.Polynomial.{Poly, plus, scale}
+use Rattle.domain.specs.Polynomial.{Poly, _⊞_, _·_}
 use Rattle.domain.proofs.Fill.{length-words}
 use Rattle.protocol.specs.Index.{index}
 use Rattle.poly.proofs.WordLists.{of-zeros}
@@ -54,11 +54,11 @@ returns c q k M e rows columns index-words =
     (of-result _ (at-vanishing-value2 .vanishing-value2 .ensures q e)) in
     let zeros : map of (at-clear .clear .last .0) ≡ replicate n (𝟘 {q = q}) =
     ap (map of) (at-clear .clear .ensures) ∙ of-zeros n in
-    let long : length (scale (vanishing (a .r) α ⊗ vanishing (a .c) β) rowcolval) ≡ n =
+    let long : length (_·_ (vanishing (a .r) α ⊗ vanishing (a .c) β) rowcolval) ≡ n =
     length-scale (primeRing q) _ rowcolval ∙ sym (length-words rowcolval) ∙ ap length (sym index-words) ∙ start .pre .1 in
     at-add-scaled .add-scaled .ensures q e
     ∙ ap words
-    (ap₂ plus zeros (ap₂ scale factor (of-results rowcolval index-words)) ∙ zeros-plus n _ long ∙ numerator-made k M α β rows columns)
+    (ap₂ _⊞_ zeros (ap₂ _·_ factor (of-results rowcolval index-words)) ∙ zeros-plus n _ long ∙ numerator-made k M α β rows columns)
 
 pub numerator-into-spec : {M : Type 1} → statement M
 numerator-into-spec =

@@ -10,7 +10,7 @@ use Rattle.algebra.proofs.PolynomialLaws.{length-scale}
 use Rattle.field.specs.Prime.{Prime}
 use Rattle.field.specs.Element.{Elem, of, _⊗_, words}
 use Rattle.field.proofs.ElementLaws.{primeRing}
-use Rattle.domain.specs.Polynomial.{Poly, scale}
+use Rattle.domain.specs.Polynomial.{Poly, _·_}
 use Rattle.domain.proofs.Fill.{length-words}
 use Rattle.poly.proofs.Stores.{joined, joined-none, joined-all, joined-second, store-up}
 use Rattle.poly.proofs.Coefficients.{coefficient-scale}
@@ -21,7 +21,7 @@ use Rattle.matrix_sumcheck.proofs.matrix.scale_in_place.Tie as tie
 -- what the slice is to hold
 module _ (q : Prime) (k : ℕ) (f : List ℕ) where
   abbrev multiple : Poly q
-  multiple = scale (of k) (map of f)
+  multiple = _·_ (of k) (map of f)
 
   length-multiple : length (words multiple) ≡ length f
   length-multiple = length-words multiple ∙ length-scale (primeRing q) (of k) (map of f) ∙ length-map f of

@@ -4,7 +4,7 @@ use mathlib.Core.List.{map}
 use native.Mathlib.Omega.{arith}
 use Rattle.field.specs.Element.{of}
 use Rattle.field.proofs.Words.{of-results}
-use Rattle.domain.specs.Polynomial.{Poly, times}
+use Rattle.domain.specs.Polynomial.{Poly, _⊠_}
 use Rattle.prover.proofs.WitnessLaws.{minus-made}
 use Rattle.prover.proofs.rows.product_minus_into.Statement.{statement}
 use Rattle.prover.proofs.rows.product_minus_into.Tie as tie
@@ -24,7 +24,7 @@ same-length c = c .before .before .add-scaled .kept .1 .0 ∙ c .before .before 
 returns : tie.Need-returns
 returns c q e =
     let a = c .before .before .before .before .before .before .before .before .before .before .before .before .args in
-    let product : Poly q = times (map of (a .f .now)) (map of (a .g .now)) in
+    let product : Poly q = _⊠_ (map of (a .f .now)) (map of (a .g .now)) in
     let multiplied = c .before .before .before .before .before .before .multiply-into in
     minus-made q e product (map of (a .h .now)) (of-results product (multiplied .ensures q e)) refl (c .before .before .add-scaled .ensures q e)
 

@@ -5,7 +5,7 @@ use Prim.Native.Nat.{ℕ, _+_, _-_, _≤_, _<_}
 use native.Mathlib.Omega.{arith}
 use lib.ListN.{length}
 use Rattle.field.specs.Element.{of, words}
-use Rattle.domain.specs.Polynomial.{Poly, minus, times, quotient}
+use Rattle.domain.specs.Polynomial.{Poly, _⊟_, _⊠_, quotient}
 use Rattle.domain.proofs.SizeLaws.{size-positive, size-bound}
 use Rattle.poly.proofs.LentParts.{part-length, filled-within, filled-length, of-filled}
 use Rattle.prover.proofs.rows.product_quotient_into.Statement.{statement}
@@ -77,7 +77,7 @@ returns c q e =
     c .before .before .quotient-into .ensures q e
     ∙ ap (λ (l : Poly q). words (quotient (a .n) l))
     (of-filled _ _ (bound start) (call .last .1 .1 .1 .1 .0) (call .kept .1 .1 .1 .1 .0)
-    (minus (times (map of (a .f .now)) (map of (a .g .now))) (map of (a .h .now))) (call .ensures q e))
+    (_⊟_ (_⊠_ (map of (a .f .now)) (map of (a .g .now))) (map of (a .h .now))) (call .ensures q e))
 
 pub product-quotient-into-spec : {M : Type 1} → statement M
 product-quotient-into-spec =

@@ -40,10 +40,10 @@ trailer-word-requires-6 c κs = search needs
 returns : tie.Need-returns
 unfolding sizesRead
 returns c = λ i. record {
-  R = c .before .before .before .before .before .trailer-word .ensures i;
-  C = c .before .before .before .before .trailer-word2 .ensures i;
-  X = c .before .before .before .trailer-word3 .ensures i;
-  K = record { a = c .before .before .trailer-word4 .ensures i; b = c .before .trailer-word5 .ensures i; c = c .trailer-word6 .ensures i };
+  |R| = c .before .before .before .before .before .trailer-word .ensures i;
+  |C| = c .before .before .before .before .trailer-word2 .ensures i;
+  |X| = c .before .before .before .trailer-word3 .ensures i;
+  |K| = record { a = c .before .before .trailer-word4 .ensures i; b = c .before .trailer-word5 .ensures i; c = c .trailer-word6 .ensures i };
 }
 
 pub sizes-in-spec : {M : Type 1} → statement M

@@ -18,10 +18,10 @@ use Rattle.report.proofs.first_rounds.put_first.Tie as tie
 
 -- the words of w and h0 are within an array
 module _ {i : ProverInput} {k : ℕ} (free : Free i [] []) where
-  w-within : k ≡ i .circuit .C - i .circuit .X → k + 1 ≤ 1024
+  w-within : k ≡ i .circuit .|C| - i .circuit .|X| → k + 1 ≤ 1024
   w-within e = omega (arith, witness-most i free)
 
-  h-within : k ≡ i .circuit .R - 1 → k ≤ 1024
+  h-within : k ≡ i .circuit .|R| - 1 → k ≤ 1024
   h-within e = omega (arith, rows-most i free)
 
 less-requires : tie.Need-less-requires

@@ -18,7 +18,7 @@ use Rattle.report.proofs.first_rounds.put_third.Statement.{statement}
 use Rattle.report.proofs.first_rounds.put_third.Tie as tie
 
 -- the words of g1 are within an array
-g-within : {i : ProverInput} {ws points : List ℕ} {k : ℕ} → Free i ws points → k ≡ i .circuit .C - 1 → k ≤ 1024
+g-within : {i : ProverInput} {ws points : List ℕ} {k : ℕ} → Free i ws points → k ≡ i .circuit .|C| - 1 → k ≤ 1024
 g-within {i} free e = omega (arith, columns-most i free)
 
 less-requires : tie.Need-less-requires

@@ -18,7 +18,7 @@ use Rattle.report.proofs.matrix_rounds.put_fifth.Statement.{statement}
 use Rattle.report.proofs.matrix_rounds.put_fifth.Tie as tie
 
 -- |K| - 1 words are those due, and within an array
-module _ {i : ProverInput} {ws points : List ℕ} {k n : ℕ} (free : Free i ws points) (size : k ≡ largest (sizesOf (circuitOf (i .circuit)) .K))
+module _ {i : ProverInput} {ws points : List ℕ} {k n : ℕ} (free : Free i ws points) (size : k ≡ largest (sizesOf (circuitOf (i .circuit)) .|K|))
     (one-less : n ≡ k - 1) where
   joined : n ≡ due i .joinedQuotient
   unfolding lengths

@@ -20,7 +20,7 @@ use Rattle.report.proofs.matrix_rounds.put_fourth.Statement.{statement}
 use Rattle.report.proofs.matrix_rounds.put_fourth.Tie as tie
 
 -- |K_M| - 1 words are those due
-due-lengths : (i : ProverInput) {k : Three ℕ} {l m n : ℕ} → k ≡ sizesOf (circuitOf (i .circuit)) .K
+due-lengths : (i : ProverInput) {k : Three ℕ} {l m n : ℕ} → k ≡ sizesOf (circuitOf (i .circuit)) .|K|
     → l ≡ k .a - 1 → m ≡ k .b - 1 → n ≡ k .c - 1 → threeOf l m n ≡ due i .matrixRemainders
 unfolding lengths
 due-lengths i size a b c =

@@ -20,10 +20,10 @@ returns c =
     let a = c .before .before .before .before .before .before .args in
     λ t.
     record {
-      R = a .r;
-      C = a .c;
-      X = a .x;
-      K = record { a = c .before .before .size-of .ensures t; b = c .before .size-of2 .ensures t; c = c .size-of3 .ensures t };
+      |R| = a .r;
+      |C| = a .c;
+      |X| = a .x;
+      |K| = record { a = c .before .before .size-of .ensures t; b = c .before .size-of2 .ensures t; c = c .size-of3 .ensures t };
     }
 
 pub sizes-of-spec : {M : Type 1} → statement M

@@ -29,7 +29,7 @@ put-fourth-requires c κs =
     let d = a .drawn in
     let i : ProverInput = proverInput (a .r) (a .c) (a .x) (a .ea .now) (a .eb .now) (a .ec .now) (a .z .now) (a .mask) (a .m .now) in (
       fourth-free i {α = d .alpha} {η = three (d .eta)} {β = d .beta} {δ = three (d .delta)} {γ = d .gamma} (s .pre .0),
-      (ap (λ (t : Sizes). t .K) (c .before .sizes-of .ensures), omega (arith, s .pre .1)),
+      (ap (λ (t : Sizes). t .|K|) (c .before .sizes-of .ensures), omega (arith, s .pre .1)),
     )
 
 largest-requires : tie.Need-largest-requires
@@ -46,7 +46,7 @@ put-fifth-requires c κs =
     let f = at-put-fourth .put-fourth .ensures .1 in (
       fifth-free i {α = d .alpha} {η = three (d .eta)} {β = d .beta} {δ = three (d .delta)} {γ = d .gamma} (s .pre .0),
       (
-        c .before .largest .ensures ∙ ap (λ (t : Sizes). largest (t .K)) (at-sizes-of .sizes-of .ensures),
+        c .before .largest .ensures ∙ ap (λ (t : Sizes). largest (t .|K|)) (at-sizes-of .sizes-of .ensures),
         omega (arith, s .pre .1, printed-place f, printed-length f),
       ),
     )
@@ -64,8 +64,8 @@ put-last-requires c κs =
     let h = at-put-fifth .put-fifth .ensures in
     let F = fitting i (s .pre .0) in
     let k = at-sizes-of .sizes-of in
-    let columns : k .result .c ≡ a .c = ap (λ (t : Sizes). t .C) (k .ensures) in
-    let public : k .result .x ≡ a .x = ap (λ (t : Sizes). t .X) (k .ensures) in (
+    let columns : k .result .c ≡ a .c = ap (λ (t : Sizes). t .|C|) (k .ensures) in
+    let public : k .result .x ≡ a .x = ap (λ (t : Sizes). t .|X|) (k .ensures) in (
       (ap isSize columns ∙ C-fits F, ap isSize public ∙ X-fits F, omega (arith, columns, public, X-below F), F .z-length ∙ sym columns),
       omega (arith, s .pre .1, printed-place f, printed-length f, printed-place h, printed-length h),
     )

@@ -35,10 +35,10 @@ returns c =
     let at-from-words = at-messages-in .before in
     let start = at-from-words .before .before in
     let a = start .args in
-    let heard = ap₂ openings (at-messages-in .messages-in .ensures) (at-indexes-in .indexes-in .ensures) in
+    let transcript = ap₂ openings (at-messages-in .messages-in .ensures) (at-indexes-in .indexes-in .ensures) in
     c .give-verdict .ensures
     ∙ ap (λ s. lastAnswered s (a .session .now, a .verdict .now))
-    (at-openings .openings .ensures ∙ ap₂ (openingsStep babyBear) (at-from-words .from-words .ensures) heard)
+    (at-openings .openings .ensures ∙ ap₂ (openingsStep babyBear) (at-from-words .from-words .ensures) transcript)
 
 pub varuna-session-openings-spec : {M : Type 1} → statement M
 varuna-session-openings-spec =

@@ -54,7 +54,7 @@ sub-t16 : tie.Need-sub-t16
 sub-t16 c =
     let t = c .before .before .before .before in
     let s = sizes (t .before .before .args .s) in
-    omega (arith, c .before .largest .ensures, size-range (largest (s .K)) (largest-size s (sized t)))
+    omega (arith, c .before .largest .ensures, size-range (largest (s .|K|)) (largest-size s (sized t)))
 
 slice-aggregate-first-failed : tie.Need-slice-aggregate-first-failed
 slice-aggregate-first-failed c = search needs

@@ -2,8 +2,8 @@
 use mathlib.Core.List.{List}
 use mathlib.Core.Path.{_≡_, ap, ap₂, _∙_}
 use Prim.Native.Nat.{ℕ}
-use Rattle.protocol.specs.Checks.{Heard}
-use Rattle.protocol.specs.Meanings.{heard}
+use Rattle.protocol.specs.Checks.{Transcript}
+use Rattle.protocol.specs.Meanings.{transcript}
 use Rattle.protocol.specs.Session as steps
 use Rattle.protocol.specs.Three.{Three}
 use native.Mathlib.Omega.{arith}
@@ -43,8 +43,8 @@ element-copy-out-t20 c = search needs
 triple-at-requires : tie.Need-triple-at-requires
 triple-at-requires c κs = search needs
 
-heard-in-requires : tie.Need-heard-in-requires
-heard-in-requires c κs = search needs
+transcript-in-requires : tie.Need-transcript-in-requires
+transcript-in-requires c κs = search needs
 
 returns : tie.Need-returns
 unfolding sessionOf
@@ -54,14 +54,14 @@ returns c =
     let size : length words ≡ 1046 = omega arith in
     let x : padding .padded .result ≡ take maxSize (drop 7 words) =
     padding .padded .ensures ∙ padded-full maxSize (take maxSize (drop 7 words)) (length-take-le maxSize (drop 7 words) (simp length-drop (omega arith))) in
-    let session : Three ℕ → List ℕ → Heard ℕ → steps.Session = λ k x h.
+    let session : Three ℕ → List ℕ → Transcript ℕ → steps.Session = λ k x h.
     record {
       stage = getD words 0 0;
-      sizes = record { R = getD words 1 0; C = getD words 2 0; X = getD words 3 0; K = k };
+      sizes = record { |R| = getD words 1 0; |C| = getD words 2 0; |X| = getD words 3 0; |K| = k };
       x = x;
-      heard = h;
+      transcript = h;
     } in
-    ap (λ k. session k (padding .padded .result) (heard (c .heard-in .result))) (c .before .triple-at .ensures) ∙ ap₂ (session (threeAt words 4)) x (c .heard-in .ensures)
+    ap (λ k. session k (padding .padded .result) (transcript (c .transcript-in .result))) (c .before .triple-at .ensures) ∙ ap₂ (session (threeAt words 4)) x (c .transcript-in .ensures)
 
 pub from-words-spec : {M : Type 1} → statement M
 from-words-spec =
@@ -76,5 +76,5 @@ from-words-spec =
     element-copy-out-t17
     element-copy-out-t20
     triple-at-requires
-    heard-in-requires
+    transcript-in-requires
     returns)

@@ -14,8 +14,8 @@ use Rattle.verifier.proofs.session.Session.into_words.Tie as tie
 whole : (c : tie.Start) → length (c .args .self .x) ≡ maxSize
 whole c = sym (length-map (c .args .self .x) (λ w. w)) ∙ c .good .0 .1 .1 .1 .1 .0 .1 .0 .1
 
-heard-words-requires : tie.Need-heard-words-requires
-heard-words-requires c κs = search needs
+transcript-words-requires : tie.Need-transcript-words-requires
+transcript-words-requires c κs = search needs
 
 slice-aggregate-put-words : tie.Need-slice-aggregate-put-words
 slice-aggregate-put-words c = search needs
@@ -40,20 +40,20 @@ unfolding sessionWords openingWords
 returns c =
     let put-x = c .before .before .before in
     let put-opening = put-x .before .before .before in
-    let heard = put-opening .before .before .before in
-    let start = heard .before .before .before in
+    let transcript = put-opening .before .before .before in
+    let start = transcript .before .before .before in
     let s = sessionMeaning (start .args .self) in
     let size : length (start .args .out .now) ≡ 1046 = omega arith in
     let x-size = whole start in
-    three-put (openingWords s) (s .x) (heard .heard-words .result) (start .args .out .now) (omega arith) 1031 (omega arith) (put-opening .put-words .ensures)
+    three-put (openingWords s) (s .x) (transcript .transcript-words .result) (start .args .out .now) (omega arith) 1031 (omega arith) (put-opening .put-words .ensures)
     (put-x .put-words2 .ensures) (c .put-words3 .ensures)
-    ∙ ap (λ l. openingWords s ++ (s .x ++ l)) (heard .heard-words .ensures)
+    ∙ ap (λ l. openingWords s ++ (s .x ++ l)) (transcript .transcript-words .ensures)
 
 pub into-words-spec : {M : Type 1} → statement M
 into-words-spec =
     tie.close
     (tie.spec
-    heard-words-requires
+    transcript-words-requires
     slice-aggregate-put-words
     put-words-requires
     slice-aggregate-put-words-2

@@ -17,7 +17,7 @@ unfolding unopened
 returns c =
     ap
     {B = steps.Session}
-    (λ h. record { stage = 0; sizes = record { R = 0; C = 0; X = 0; K = each (λ M. 0) }; x = replicate maxSize 0; heard = h })
+    (λ h. record { stage = 0; sizes = record { |R| = 0; |C| = 0; |X| = 0; |K| = each (λ M. 0) }; x = replicate maxSize 0; transcript = h })
     (c .nothing .ensures)
 
 pub new-spec : {M : Type 1} → statement M

@@ -1,7 +1,7 @@
 -- `verifier::session::Session::open` meets its contract. Assumes nothing.
 use Prim.Native.Nat.{ℕ}
 use Rattle.domain.specs.BabyBear.{babyBear}
-use Rattle.protocol.specs.Checks.{Heard}
+use Rattle.protocol.specs.Checks.{Transcript}
 use Rattle.protocol.specs.Meanings.{faultRefusal, sizes}
 use Rattle.protocol.specs.Session as steps
 use Rattle.protocol.specs.Session.{Taken, openRefusal, openStep}
@@ -45,8 +45,8 @@ returns-2 : tie.Need-returns-2
 unfolding openStep
 returns-2 c =
     let j = c .before .before .before .before in
-    let opened : List ℕ → Heard ℕ → steps.Stepped = λ x h.
-    record { session = record { stage = 1; sizes = sizes (j .before .before .args .s); x = x; heard = h }; answer = Taken } in
+    let opened : List ℕ → Transcript ℕ → steps.Stepped = λ x h.
+    record { session = record { stage = 1; sizes = sizes (j .before .before .args .s); x = x; transcript = h }; answer = Taken } in
     rw (judged j ∙ ap faultRefusal (c .before .before .enum-told .given .1)) (ap₂ opened (c .before .padded .ensures) (c .nothing .ensures))
 
 pub open-spec : {M : Type 1} → statement M

@@ -5,7 +5,7 @@ use Rattle.domain.proofs.SizeLaws.{size-bound}
 use Rattle.domain.specs.BabyBear.{babyBear}
 use Rattle.domain.specs.Size.{maxSize}
 use Rattle.protocol.specs.Checks.{Verdict}
-use Rattle.protocol.specs.Meanings.{faultRefusal, sizes, heard, openings}
+use Rattle.protocol.specs.Meanings.{faultRefusal, sizes, transcript, openings}
 use Rattle.protocol.specs.Session as steps
 use Rattle.protocol.specs.Session.{Judged, openingsRefusal, openingsStep, verdictOf}
 use Rattle.verifier.proofs.Turns.{InTurn, openings-turn}
@@ -74,7 +74,7 @@ returns-2 c =
     let s = t .before .before .before .args .self in
     let next : 7 ≡ suc (s .stage) = omega (arith, turn t .stage-is) in
     let judging : ℕ → Verdict → steps.Stepped = λ n v.
-    record { session = record { stage = n; sizes = sizes (s .sizes); x = s .x; heard = heard (s .heard) }; answer = Judged v } in
+    record { session = record { stage = n; sizes = sizes (s .sizes); x = s .x; transcript = transcript (s .transcript) }; answer = Judged v } in
     rw (judged (t .before .before) ∙ ap faultRefusal (t .enum-told .given .1))
     (ap₂ judging next (c .verdict .ensures babyBear (record { is-module = refl; value = refl }) babyBear-qualifies))
 

@@ -1,8 +1,8 @@
--- `verifier::session::heard_in` meets its contract. Assumes nothing.
-use Rattle.verifier.specs.Session.{heardOf}
+-- `verifier::session::transcript_in` meets its contract. Assumes nothing.
+use Rattle.verifier.specs.Session.{transcriptOf}
 use borrow.Author.Needs.{needs}
-use Rattle.verifier.proofs.session.heard_in.Statement.{statement}
-use Rattle.verifier.proofs.session.heard_in.Tie as tie
+use Rattle.verifier.proofs.session.transcript_in.Statement.{statement}
+use Rattle.verifier.proofs.session.transcript_in.Tie as tie
 
 element-copy-out-t4 : tie.Need-element-copy-out-t4
 element-copy-out-t4 c = search needs
@@ -50,14 +50,14 @@ element-copy-out-t22 : tie.Need-element-copy-out-t22
 element-copy-out-t22 c = search needs
 
 returns : tie.Need-returns
-unfolding heardOf
+unfolding transcriptOf
 returns c =
     let at-γ = c .before in
     let at-β = at-γ .before .before .before in
     cc (at-γ .triple-at4 .ensures, at-γ .before .triple-at3 .ensures, at-β .triple-at2 .ensures, at-β .before .triple-at .ensures)
 
-pub heard-in-spec : {M : Type 1} → statement M
-heard-in-spec =
+pub transcript-in-spec : {M : Type 1} → statement M
+transcript-in-spec =
     tie.close
     (tie.spec
     element-copy-out-t4
