@@ -5,6 +5,7 @@ use mathlib.Core.List.{List, [], _∷_, map}
 use Prim.Native.Nat.{ℕ, _+_, _-_, _*_, _%_, _^_, _<_}
 use native.Mathlib.Nat.{mod-eq-of-lt, le-of-lt, lt-of-le-of-lt, mul-le-mul-left, mul-lt-mul-of-pos-right}
 use lib.Pow.{pow-pos, pow-add}
+use Rattle.algebra.specs.Counting.{All}
 use Rattle.field.specs.Prime.{Prime}
 use Rattle.field.specs.Element.{Elem, of, words, _⊕_, _⊗_, _⊖_, neg}
 use Rattle.field.proofs.ElementLaws.{of-word, of-add, of-mul, word-below}
@@ -14,6 +15,11 @@ module _ (q : Prime) where
   pub word-of : (n : ℕ) → n < q .p → of {q = q} n .word ≡ n
   unfolding of
   word-of n h = mod-eq-of-lt h
+
+  -- the same of a list
+  pub words-back : (ws : List ℕ) → All (λ w. w < q .p) ws → words (map (of {q = q}) ws) ≡ ws
+  words-back [] h = refl
+  words-back (w ∷ ws) h = ap₂ _∷_ (word-of w (h .0)) (words-back ws (h .1))
 
   pub word-add : (m n : ℕ) → (of {q = q} m ⊕ of n) .word ≡ (m + n) % q .p
   unfolding of

@@ -22,7 +22,7 @@ use Rattle.protocol.specs.Three.{MatrixName, A, B, C, at}
 use Rattle.protocol.specs.Circuit.{Entry, Circuit, sizesOf, largest, rowSum, Satisfied}
 use Rattle.protocol.specs.Refusals.{pairs, sizeTests, sizeRefusal, listRefusal, rises, fits, entryTestsAfter, entryTests, entryRefusal, maskRefusal, assignmentRefusal, challengeRefusal}
 use Rattle.protocol.specs.Admission.{Admitted, entryValues, countTests, assignmentTests, circuitRefusals, proverRefusal}
-use Rattle.protocol.specs.Job.{Job, jobWords, jobRefusal}
+use Rattle.protocol.specs.Job.{Job, challengeWords, jobRefusal}
 use Rattle.protocol.proofs.RefusalLaws.{first-none, refuse-none, and-true, wordRefusal-none}
 
 -- an entry stands within its matrix, and its value is a field word other than 0
@@ -149,7 +149,7 @@ pub record JobFits (q : Prime) (j : Job) : Type 0 where
   pub circuit-fits : WellFormed (q .p) (j .circuit)
   pub z-length : length (j .z) ≡ j .circuit .|C|
   pub m-length : length (j .m) ≡ 2 * j .circuit .|C|
-  pub words-fit : All (λ w. w < q .p) (jobWords q j)
+  pub words-fit : All (λ w. w < q .p) (j .z ++ (j .r ∷ (j .m ++ challengeWords j)))
   pub mask-sum : sumOver (j .circuit .|C|) (eval {q = q} (map of (j .m))) ≡ 𝟘
   pub satisfied : Satisfied {q = q} (j .circuit) (map of (j .z))
   pub α-outside : Outside {q = q} (j .circuit .|R|) (of (j .α))
@@ -168,15 +168,16 @@ job-fits q j free =
     let c : Circuit = j .circuit in
     let z : List (Elem q) = map of (j .z) in
     let lists : List Bool = countTests c ++ assignmentTests c (j .z) (j .m) in
+    let words : List ℕ = j .z ++ (j .r ∷ (j .m ++ challengeWords j)) in
     let domains : List ℕ = c .|R| ∷ c .|C| ∷ largest (sizesOf c .|K|) ∷ [] in
     let challenges : List (Elem q) = of (j .α) ∷ of (j .β) ∷ of (j .γ) ∷ [] in
     let rows =
     first-none
-    (circuitRefusals q c lists (jobWords q j)
+    (circuitRefusals q c lists words
     ++ (maskRefusal {q = q} c (map of (j .m)) ∷ assignmentRefusal c z ∷ challengeRefusal 0 domains challenges ∷ []))
     free in
     let listed = append-all (λ t. t ≡ true) (countTests c) (assignmentTests c (j .z) (j .m)) (refuse-none 5 0 lists (rows .1 .0)) in
-    let below = append-all (λ w. w < q .p) (entryValues c) (jobWords q j) (wordRefusal-none q (entryValues c ++ jobWords q j) (rows .1 .1 .0)) in
+    let below = append-all (λ w. w < q .p) (entryValues c) words (wordRefusal-none q (entryValues c ++ words) (rows .1 .1 .0)) in
     let mask = refuse-none 8 0 (equal {q = q} (sumOver (c .|C|) (eval (map of (j .m)))) 𝟘 ∷ []) (rows .1 .1 .1 .1 .0) in
     let test : ℕ → Bool = λ i. equal (rowSum c A z i ⊗ rowSum c B z i) (rowSum c C z i) in
     let holds = refuse-none 9 0 (tabulate (c .|R|) test) (rows .1 .1 .1 .1 .1 .0) in

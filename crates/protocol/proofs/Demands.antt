@@ -3,6 +3,7 @@ use Rattle.domain.specs.BabyBear.{babyBear}
 use Rattle.domain.proofs.Qualification.{babyBear-qualifies}
 use Rattle.protocol.specs.Demand2.{Demand2, Demand2Holds}
 use Rattle.protocol.specs.Demand3.{Setting, Demand3, Demand3Holds}
+use Rattle.protocol.proofs.CallsProve.{calls-give-proof, calls-accepted}
 use Rattle.protocol.proofs.Honest.{rules-kept, honest-accepted}
 use Rattle.protocol.proofs.IndexDecoding.{index-gives-back}
 use Rattle.protocol.proofs.JoinedCheck.{values-caught}
@@ -17,10 +18,12 @@ pub demand2 : Demand2Holds
 demand2 q Q =
     record {
       rules-kept = rules-kept q Q;
+      calls-give-proof = calls-give-proof q;
       index-gives-back = index-gives-back q Q;
       read-written = read-written q Q;
       written-read = written-read q Q;
       honest-accepted = honest-accepted q Q;
+      calls-accepted = calls-accepted q Q;
       verdict-means = verdict-means q;
     }
 
@@ -28,9 +31,9 @@ pub demand3 : Demand3Holds
 demand3 q Q S =
     record {
       row = row-means Q S;
-      line = λ m m-length α outside σ η. line-means Q S m m-length α σ η;
+      line = λ m m-length t outside o. line-means Q S m m-length t o;
       matrix = matrix-means Q S;
-      sums-caught = λ m m-length α outside σ. sums-caught S m α σ;
+      sums-caught = λ m m-length t outside. sums-caught S m t;
       values-caught = values-caught Q S;
     }
 

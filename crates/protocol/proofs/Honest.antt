@@ -1,37 +1,39 @@
 -- The honest messages of a job that is let through keep the rules of the table of messages, and the verifier's session accepts
 -- them at all allowed challenges. Assumes nothing.
-use mathlib.Core.Path.{_≡_, sym, ap, ap₂, _∙_, subst}
+use mathlib.Core.Path.{_≡_, refl, sym, ap, ap₂, _∙_, subst}
 use mathlib.Core.List.{List, [], _∷_, map}
-use Prim.Native.Nat.{suc}
+use Prim.Native.Nat.{ℕ, suc, _≤_}
 use lib.ListN.{length, length-map}
 use native.Mathlib.Nat.{le-of-eq}
 use Rattle.algebra.proofs.RingLaws.{zero-add}
 use Rattle.field.specs.Prime.{Prime}
-use Rattle.field.specs.Element.{Elem, of, _⊕_}
+use Rattle.field.specs.Element.{Elem, of, wordOf, words, _⊕_}
 use Rattle.field.proofs.ElementLaws.{primeRing}
 use Rattle.domain.specs.Domain.{sumOver}
 use Rattle.domain.specs.Polynomial.{Poly, eval, valuesOn}
 use Rattle.domain.specs.Qualifies.{Qualifies}
 use Rattle.domain.proofs.SizeLaws.{size-positive}
-use Rattle.protocol.specs.Three.{C, Three, mapThree}
+use Rattle.protocol.specs.Three.{A, B, C, Three, mapThree}
 use Rattle.protocol.specs.Circuit.{Circuit, sizesOf, Satisfied, publicPart, extension}
 use Rattle.protocol.specs.Index.{indexAt, index}
-use Rattle.protocol.specs.Checks.{Accept, weighted, lineLeft, matrixLeft, verdict}
-use Rattle.protocol.specs.Messages.{Messages, lengths, witness, assignment, sums, values, line, matrixRemainder, messages, openings}
+use Rattle.protocol.specs.Checks.{Accept, weighted, lineLeft, matrixLeft, joinedLeft, joinedRight, verdict}
+use Rattle.protocol.specs.Messages.{Messages, lengths, witness, assignment, image, sums, values, line, matrixRemainder, matrixQuotient, messages, openings}
 use Rattle.protocol.specs.Session.{Taken, Judged}
 use Rattle.protocol.specs.Job.{Job, proof, trueOpenings, honestConversation}
 use Rattle.protocol.specs.Demand2.{KeepsRules, RulesKept, HonestAccepted}
 use Rattle.protocol.proofs.AdmissionLaws.{WellFormed, JobFits, job-fits}
-use Rattle.protocol.proofs.Conversation.{Short, transcript, conversation-judged}
-use Rattle.protocol.proofs.JoinedRule.{length-joinedQuotient, joined-rule}
+use Rattle.protocol.proofs.TakenSteps.{Short}
+use Rattle.protocol.proofs.Conversation.{declared, transcript, conversation-judged}
+use Rattle.protocol.proofs.JoinedRule.{length-joinedQuotient, eval-joinedQuotient, joined-rule}
 use Rattle.protocol.proofs.LineCheck.{line-rule, length-lineRemainder, length-lineQuotient}
-use Rattle.protocol.proofs.MatrixCheck.{matrix-rule, length-matrixRemainder}
+use Rattle.protocol.proofs.MatrixCheck.{matrix-length, matrix-rule, length-matrixRemainder, length-matrixQuotient}
+use Rattle.protocol.proofs.MatrixPolynomials.{leftValue}
 use Rattle.protocol.proofs.MessagePolynomials.{eval-assignment, length-assignment}
 use Rattle.protocol.proofs.RowCheck.{row-rule, length-rowQuotient}
 use Rattle.protocol.proofs.Sums.{line-sum-parts}
 use Rattle.protocol.proofs.ThreeLaws.{at-each}
 use Rattle.protocol.proofs.VerdictLaws.{accepts}
-use Rattle.protocol.proofs.Witness.{length-witness, assignment-values}
+use Rattle.protocol.proofs.Witness.{length-witness, witness-rule, assignment-values}
 
 module _ {q : Prime} (Q : Qualifies q) (j : Job) (F : JobFits q j) where
   abbrev c : Circuit
@@ -64,6 +66,9 @@ module _ {q : Prime} (Q : Qualifies q) (j : Job) (F : JobFits q j) where
   abbrev η : Three (Elem q)
   η = mapThree of (j .η)
 
+  abbrev δ : Three (Elem q)
+  δ = mapThree of (j .δ)
+
   abbrev f : Poly q
   f = line c m ẑ α η
 
@@ -85,50 +90,66 @@ module _ {q : Prime} (Q : Qualifies q) (j : Job) (F : JobFits q j) where
   claim : sumOver (c .|C|) (λ y. lineLeft η (values c α y) (eval m y) (eval ẑ y)) ≡ weighted η (sums c ẑ α)
   claim = line-sum-parts c m ẑ α η ∙ ap (λ v. v ⊕ weighted η (sums c ẑ α)) (F .mask-sum) ∙ zero-add (primeRing q) _
 
-  keeps-rules : KeepsRules q c z α η β (proof q j)
-  unfolding proof messages values
+  keeps-rules : KeepsRules q c z (of (j .r)) m α η β δ (proof q j)
+  unfolding proof messages values sums matrixLeft
   keeps-rules =
       record {
         witness-length = length-witness Q c W z (of (j .r));
+        witness = witness-rule Q c W z (of (j .r));
+        assigns = assigns;
+        mask-length = m-length;
+        mask = refl;
+        mask-sum = F .mask-sum;
         rowQuotient-length = length-rowQuotient Q c W ẑ;
+        row = row-rule Q c W ẑ satisfied;
+        sums-true = λ M. at-each (λ M. image c ẑ M α) M;
         lineRemainder-length = length-lineRemainder Q c W m ẑ m-length ẑ-length α η;
         lineQuotient-length = length-lineQuotient Q c W m ẑ m-length ẑ-length α η;
-        matrixRemainder-length = λ M. ap length (at-each (matrixRemainder c α β) M) ∙ length-matrixRemainder Q c W α β (F .α-outside) (F .β-outside) M;
-        joinedQuotient-length = length-joinedQuotient Q c W α β (F .α-outside) (F .β-outside) (mapThree of (j .δ));
-        assigns = assigns;
-        row = row-rule Q c W ẑ satisfied;
         line = line-rule Q c W m ẑ m-length ẑ-length α η (weighted η (sums c ẑ α)) claim;
+        values-true = λ M. at-each (λ M. extension c M α β) M;
+        matrixRemainder-length = λ M. ap length (at-each (matrixRemainder c α β) M) ∙ length-matrixRemainder Q c W α β (F .α-outside) (F .β-outside) M;
+        quotients = matrixQuotient c α β;
+        matrixQuotient-length = λ M. length-matrixQuotient Q c W α β (F .α-outside) (F .β-outside) M ∙ matrix-length (sizesOf c) M;
         matrix = λ M y.
-            ap₂ (λ ω g. matrixLeft (sizesOf c) M α β ω (indexAt (index c M) y) y (eval g y))
+            ap₂ (λ ω g. leftValue c α β M ω (indexAt (index c M) y) y (eval g y))
             (at-each (λ M. extension c M α β) M) (at-each (matrixRemainder c α β) M)
             ∙ matrix-rule Q c W α β (F .α-outside) (F .β-outside) M y;
+        joinedQuotient-length = length-joinedQuotient Q c W α β (F .α-outside) (F .β-outside) δ;
+        joined = eval-joinedQuotient Q c W α β (F .α-outside) (F .β-outside) δ;
       }
 
-  abbrev p : Messages (Poly q) (Elem q)
-  p = proof q j
+  abbrev sent : Messages (Poly q) (Elem q)
+  sent = proof q j
 
-  short : Short (sizesOf c) p
+  words-length : (f : Poly q) (n : ℕ) → length f ≡ n → length (words f) ≤ n
+  words-length f n e = le-of-eq (length-map f wordOf ∙ e)
+
+  short : Short (sizesOf c) (declared q j F sent)
   short =
       let K = keeps-rules in
       record {
-        witness-short = le-of-eq (K .witness-length);
-        mask-short = le-of-eq (unfold proof messages in m-length);
-        rowQuotient-short = le-of-eq (K .rowQuotient-length);
-        lineRemainder-short = le-of-eq (K .lineRemainder-length);
-        lineQuotient-short = le-of-eq (K .lineQuotient-length);
-        matrixRemainder-short = λ M. le-of-eq (K .matrixRemainder-length M);
-        joinedQuotient-short = le-of-eq (K .joinedQuotient-length);
+        witness-short = words-length (sent .witness) _ (K .witness-length);
+        mask-short = words-length (sent .mask) _ (K .mask-length);
+        rowQuotient-short = words-length (sent .rowQuotient) _ (K .rowQuotient-length);
+        lineRemainder-short = words-length (sent .lineRemainder) _ (K .lineRemainder-length);
+        lineQuotient-short = words-length (sent .lineQuotient) _ (K .lineQuotient-length);
+        matrixRemainder-short = elim [
+          | A ↦ words-length (sent .matrixRemainders .a) _ (K .matrixRemainder-length A)
+          | B ↦ words-length (sent .matrixRemainders .b) _ (K .matrixRemainder-length B)
+          | C ↦ words-length (sent .matrixRemainders .c) _ (K .matrixRemainder-length C)
+        ];
+        joinedQuotient-short = words-length (sent .joinedQuotient) _ (K .joinedQuotient-length);
       }
 
   -- the verdict on the honest messages and their true openings
-  honest-verdict : verdict (sizesOf c) x (transcript q j F p short (trueOpenings q j p)) (trueOpenings q j p) ≡ Accept
-  unfolding proof messages trueOpenings openings
+  honest-verdict : verdict (sizesOf c) x (transcript q j F sent) (trueOpenings q j sent) ≡ Accept
+  unfolding proof messages trueOpenings openings values matrixLeft joinedLeft joinedRight
   honest-verdict =
-      accepts (sizesOf c) x (transcript q j F p short (trueOpenings q j p)) (trueOpenings q j p)
+      accepts (sizesOf c) x (transcript q j F sent) (trueOpenings q j sent)
       (row-rule Q c W ẑ satisfied α)
       (ap (lineLeft η (values c α β) (eval m β)) (sym (eval-assignment c (size-positive (c .|X|) (W .X-size)) x w β))
       ∙ line-rule Q c W m ẑ m-length ẑ-length α η (weighted η (sums c ẑ α)) claim β)
-      (joined-rule Q c W α β (F .α-outside) (F .β-outside) (mapThree of (j .δ)) (of (j .γ)) (F .γ-outside))
+      (joined-rule Q c W α β (F .α-outside) (F .β-outside) δ (of (j .γ)) (F .γ-outside))
 
 pub rules-kept : (q : Prime) → Qualifies q → RulesKept q
 rules-kept q Q j free = keeps-rules Q j (job-fits q j free)

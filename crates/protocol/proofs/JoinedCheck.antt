@@ -20,17 +20,17 @@ use Rattle.domain.specs.Polynomial.{Poly, eval, _·_, _⊠_}
 use Rattle.domain.specs.Qualifies.{Qualifies}
 use Rattle.domain.proofs.SizeLaws.{size-positive}
 use Rattle.domain.proofs.Division.{length-vanishingRatio}
-use Rattle.protocol.specs.Three.{MatrixName, Three, at, each, mapThree}
+use Rattle.protocol.specs.Three.{MatrixName, Three, at, each, sumMatrices}
 use Rattle.protocol.specs.Circuit.{Circuit, sizesOf, largest}
 use Rattle.protocol.specs.Index.{indexAt, index}
-use Rattle.protocol.specs.Checks.{matrixLeft, selector, joinedLeft, joinedRight}
+use Rattle.protocol.specs.Checks.{Transcript, Openings, matrixLeft, selector, joinedLeft, joinedRight}
 use Rattle.protocol.specs.Messages.{lengths}
 use Rattle.protocol.specs.Demand3.{Setting, ValuesCaught}
 use Rattle.protocol.proofs.AdmissionLaws.{WellFormed, admitted-well-formed}
 use Rattle.protocol.proofs.IndexPolynomials.{K-size}
 use Rattle.protocol.proofs.LinearCounting.{linear, linear-solutions}
 use Rattle.protocol.proofs.MatrixPolynomials.{sizeK, sizeK-positive, largest-size, within-largest}
-use Rattle.protocol.proofs.MatrixPolynomials.{matrixPoly, eval-matrixPoly, length-matrixPoly}
+use Rattle.protocol.proofs.MatrixPolynomials.{leftValue, matrixPoly, eval-matrixPoly, length-matrixPoly}
 use Rattle.protocol.proofs.ThreeLaws.{at-each}
 use Rattle.domain.proofs.ExactDivision.{vanishing-on, quotient-recovers}
 use Rattle.protocol.proofs.JoinedPolynomials.{sumMatrices-ext, sumPolys, eval-sumPolys, length-sumPolys}
@@ -78,13 +78,14 @@ module _ {q : Prime} (c : Circuit) (α β : Elem q) (ω : Three (Elem q)) (g : T
 
   -- the left side of the joined check at γ
   abbrev leftAt : Three (Elem q) → Elem q → Elem q
-  leftAt δ γ = joinedLeft (sizesOf c) α β ω δ (each (λ M. indexAt (index c M) γ)) γ (mapThree (λ f. eval f γ) g)
+  leftAt δ γ =
+      sumMatrices (λ M. at δ M ⊗ selector (sizesOf c) M γ ⊗ leftValue c α β M (at ω M) (indexAt (index c M) γ) γ (eval (at g M) γ))
 
   -- some h2 passes at enough points
   abbrev Passes : Three (Elem q) → Type 0
   Passes δ =
       (h2 : Poly q) × (length h2 ≡ lengths (sizesOf c) .joinedQuotient)
-      × MoreThan (2 * K - 2) (λ γ. Outside K γ × (leftAt δ γ ≡ joinedRight (sizesOf c) γ (eval h2 γ)))
+      × MoreThan (2 * K - 2) (λ γ. Outside K γ × (leftAt δ γ ≡ eval h2 γ ⊗ vanishing K γ))
 
   module _ (Q : Qualifies q) (g-lengths : (M : MatrixName) → length (at g M) ≡ at (lengths (sizesOf c) .matrixRemainders) M) where
     length-selected : (M : MatrixName) → suc (length (selected M)) ≡ sizeK c M + K
@@ -110,11 +111,10 @@ module _ {q : Prime} (c : Circuit) (α β : Elem q) (ω : Three (Elem q)) (g : T
           omega (arith, l)
 
       eval-joinedPoly : (γ : Elem q) → Outside K γ → eval (joinedPoly δ) γ ≡ leftAt δ γ
-      unfolding joinedLeft
       eval-joinedPoly γ outside = eval-sumPolys (joinedTerm δ) γ ∙ sumMatrices-ext _ _ term
         where
           term : (M : MatrixName) → eval (joinedTerm δ M) γ
-              ≡ at δ M ⊗ selector (sizesOf c) M γ ⊗ matrixLeft (sizesOf c) M α β (at ω M) (indexAt (index c M) γ) γ (eval (at g M) γ)
+              ≡ at δ M ⊗ selector (sizesOf c) M γ ⊗ leftValue c α β M (at ω M) (indexAt (index c M) γ) γ (eval (at g M) γ)
           term M =
               eval-scale R (at δ M) (selected M) γ
               ∙ ap (λ x. at δ M ⊗ x) (eval-selected M γ ∙ ap₂ _⊗_ (sym (selector-is Q c M γ outside)) (eval-matrixPoly c α β M (at ω M) (at g M) γ))
@@ -122,7 +122,7 @@ module _ {q : Prime} (c : Circuit) (α β : Elem q) (ω : Three (Elem q)) (g : T
 
       -- enough equal points: on K it is 0, which is a linear equation in δ
       joined-linear : Passes δ → (y : Elem q) → vanishing K y ≡ 𝟘 → linear 𝟘 (each (λ M. eval (selected M) y)) δ ≡ 𝟘
-      unfolding joinedRight lengths
+      unfolding lengths
       joined-linear (h2, h2-length, (l, distinct, equal, more)) y on =
           let positive : 0 < K = size-positive K (largest-size c) in
           let long : length (joinedPoly δ) ≡ 2 * K - 1 = length-joinedPoly in
@@ -149,10 +149,11 @@ module _ {q : Prime} (c : Circuit) (α β : Elem q) (ω : Three (Elem q)) (g : T
         on = sym (eval-cofactor Q c M κ) ∙ ap (λ v. eval (cofactor c M) κ ⊗ v) (vanishing-on Q (sizeK c M) (K-size c M) i below)
             ∙ mul-zero R _
 
-pub values-caught : {q : Prime} (Q : Qualifies q) (S : Setting q) (α β : Elem q) → Outside (S .circuit .|R|) α → Outside (S .circuit .|C|) β
-    → (ω : Three (Elem q)) (g : Three (Poly q)) → ((M : MatrixName) → length (at g M) ≡ at (lengths (sizesOf (S .circuit)) .matrixRemainders) M)
-    → ValuesCaught q S α β ω g
-values-caught {q} Q S α β α-outside β-outside ω g g-lengths M false =
+pub values-caught : {q : Prime} (Q : Qualifies q) (S : Setting q) (t : Transcript (Elem q)) → Outside (S .circuit .|R|) (t .α)
+    → Outside (S .circuit .|C|) (t .β) → (o : Openings (Elem q)) (g : Three (Poly q))
+    → ((M : MatrixName) → length (at g M) ≡ at (lengths (sizesOf (S .circuit)) .matrixRemainders) M) → ValuesCaught q S t o g
+unfolding matrixLeft joinedLeft joinedRight
+values-caught {q} Q S t α-outside β-outside o g g-lengths M false =
     elim (nonzero-or-zeros (sizeK c M) (λ i. eval (side c α β ω g M) (element (sizeK c M) i))) [
       | inl (i, below, other) ↦ few-pass c α β ω g Q g-lengths M i below other
       | inr zeros ↦
@@ -164,3 +165,12 @@ values-caught {q} Q S α β α-outside β-outside ω g g-lengths M false =
 
     W : WellFormed (q .p) c
     W = admitted-well-formed q c (S .admitted)
+
+    α : Elem q
+    α = t .α
+
+    β : Elem q
+    β = t .β
+
+    ω : Three (Elem q)
+    ω = t .values

@@ -14,13 +14,13 @@ use Rattle.field.proofs.ElementLaws.{primeRing}
 use Rattle.domain.specs.Domain.{Outside, vanishing}
 use Rattle.domain.specs.Polynomial.{Poly, eval, _·_}
 use Rattle.domain.specs.Qualifies.{Qualifies}
-use Rattle.protocol.specs.Three.{MatrixName, A, B, C, Three, at, each}
+use Rattle.protocol.specs.Three.{MatrixName, A, B, C, Three, at, sumMatrices}
 use Rattle.protocol.specs.Circuit.{Circuit, sizesOf, largest, extension}
 use Rattle.protocol.specs.Index.{indexAt, index}
-use Rattle.protocol.specs.Checks.{matrixLeft, matrixRight, selector, joinedLeft, joinedRight}
-use Rattle.protocol.specs.Messages.{lengths, values, matrixRemainder, matrixQuotient, joinedQuotient}
+use Rattle.protocol.specs.Checks.{matrixRight, selector}
+use Rattle.protocol.specs.Messages.{lengths, matrixRemainder, matrixQuotient, joinedQuotient}
 use Rattle.protocol.proofs.AdmissionLaws.{WellFormed}
-use Rattle.protocol.proofs.MatrixPolynomials.{sizeK, sizeK-positive}
+use Rattle.protocol.proofs.MatrixPolynomials.{sizeK, sizeK-positive, leftValue}
 use Rattle.protocol.proofs.JoinedPolynomials.{sumMatrices-ext, eval-sumPolys, length-sumPolys}
 use Rattle.protocol.proofs.JoinedPolynomials.{share, cofactor, eval-cofactor, selector-is}
 use Rattle.protocol.proofs.MatrixCheck.{matrix-length, matrix-rule, length-matrixQuotient}
@@ -50,11 +50,20 @@ module _ {q : Prime} (Q : Qualifies q) (c : Circuit) (W : WellFormed (q .p) c) (
       ) in
       omega (arith, length-sumPolys quotientTerm (sizesOf c .|K|) 0 l)
 
+  -- the value of the prover's h2
+  pub eval-joinedQuotient : (y : Elem q)
+      → eval (joinedQuotient c α β δ) y ≡ sumMatrices (λ M. at δ M ⊗ share c M ⊗ eval (matrixQuotient c α β M) y)
+  unfolding joinedQuotient
+  eval-joinedQuotient y =
+      eval-sumPolys quotientTerm y ∙ sumMatrices-ext _ _ (λ M. eval-scale R (at δ M ⊗ share c M) (matrixQuotient c α β M) y)
+
   -- the prover's g_M and h2 make the sides equal at every point outside K
   pub joined-rule : (γ : Elem q) → Outside K γ
-      → joinedLeft (sizesOf c) α β (values c α β) δ (each (λ M. indexAt (index c M) γ)) γ (each (λ M. eval (matrixRemainder c α β M) γ))
-      ≡ joinedRight (sizesOf c) γ (eval (joinedQuotient c α β δ) γ)
-  unfolding joinedLeft joinedRight joinedQuotient values
+      → sumMatrices (λ M.
+      at δ M ⊗ selector (sizesOf c) M γ
+      ⊗ leftValue c α β M (extension c M α β) (indexAt (index c M) γ) γ (eval (matrixRemainder c α β M) γ))
+      ≡ eval (joinedQuotient c α β δ) γ ⊗ vanishing K γ
+  unfolding joinedQuotient
   joined-rule γ outside =
       sumMatrices-ext _ _ term
       ∙ ring R (eval (quotientTerm A) γ ∷ eval (quotientTerm B) γ ∷ eval (quotientTerm C) γ ∷ vanishing K γ ∷ [])
@@ -63,7 +72,7 @@ module _ {q : Prime} (Q : Qualifies q) (c : Circuit) (W : WellFormed (q .p) c) (
     where
       term : (M : MatrixName)
           → at δ M ⊗ selector (sizesOf c) M γ
-          ⊗ matrixLeft (sizesOf c) M α β (extension c M α β) (indexAt (index c M) γ) γ (eval (matrixRemainder c α β M) γ)
+          ⊗ leftValue c α β M (extension c M α β) (indexAt (index c M) γ) γ (eval (matrixRemainder c α β M) γ)
           ≡ eval (quotientTerm M) γ ⊗ vanishing K γ
       term M = unfold matrixRight in
           ap₂ (λ s x. at δ M ⊗ s ⊗ x) (selector-is Q c M γ outside) (matrix-rule Q c W α β α-outside β-outside M γ)

@@ -14,6 +14,7 @@ pub mod IndexDecoding
 pub mod ThreeLaws
 pub mod Sums
 pub mod Witness
+pub mod TakenSteps
 pub mod Conversation
 pub mod MatrixPolynomials
 pub mod MatrixSum
@@ -22,5 +23,6 @@ pub mod JoinedPolynomials
 pub mod JoinedRule
 pub mod JoinedCheck
 pub mod Honest
+pub mod CallsProve
 pub mod Demands
 pub mod ProverForms

@@ -25,7 +25,7 @@ use Rattle.domain.proofs.DomainLaws.{outside-many, sumOver-ext}
 use Rattle.domain.proofs.Division.{divide, sum-of-remainder, division-recovers}
 use Rattle.protocol.specs.Three.{Three}
 use Rattle.protocol.specs.Circuit.{Circuit, sizesOf}
-use Rattle.protocol.specs.Checks.{weighted, assignmentValue, lineLeft, lineRight}
+use Rattle.protocol.specs.Checks.{Transcript, Openings, weighted, assignmentValue, lineLeft, lineRight}
 use Rattle.protocol.specs.Messages.{lengths, assignment, values, line, lineRemainder, lineQuotient}
 use Rattle.protocol.specs.Demand3.{Setting, LineMeans}
 use Rattle.protocol.proofs.AdmissionLaws.{WellFormed, admitted-well-formed}
@@ -129,20 +129,20 @@ module _ {q : Prime} (Q : Qualifies q) (c : Circuit) (W : WellFormed (q .p) c) (
 
 pub line-means :
     {q : Prime} → Qualifies q → (S : Setting q) (m : Poly q) → length m ≡ lengths (sizesOf (S .circuit)) .mask
-    → (α : Elem q) (σ η : Three (Elem q)) → LineMeans q S m α σ η
-line-means {q} Q S m m-length α σ η =
+    → (t : Transcript (Elem q)) (o : Openings (Elem q)) → LineMeans q S m t o
+line-means {q} Q S m m-length t o =
     record {
       complete = λ claim. (
         (lineRemainder c f, lineQuotient c f),
         (length-lineRemainder Q c W m ẑ m-length ẑ-length α η, length-lineQuotient Q c W m ẑ m-length ẑ-length α η),
         (let (l, distinct, outside, more) = outside-many Q (c .|C|) (W .C-size) (2 * c .|C| - 1) room in
-            (l, distinct, all-map (λ y o. (o, left-value y ∙ rule claim y)) l outside, more)),
+            (l, distinct, all-map (λ y allowed. (allowed, left-value y ∙ rule claim y)) l outside, more)),
       );
       sound = λ (g1, h1) (fits, fits′) many. claims g1 (found g1 h1 fits fits′ many .1);
       unique = λ (g1, h1) (g2, h2) (fits, fits′) (fits₂, fits₂′) many many₂.
           (let r = found g1 h1 fits fits′ many in
-          let t = found g2 h2 fits₂ fits₂′ many₂ in
-          ap₂ (λ g h. (g, h)) (ap tail (sym (r .1) ∙ t .1)) (sym (r .0) ∙ t .0));
+          let r₂ = found g2 h2 fits₂ fits₂′ many₂ in
+          ap₂ (λ g h. (g, h)) (ap tail (sym (r .1) ∙ r₂ .1)) (sym (r .0) ∙ r₂ .0));
       everywhere = λ (g1, h1) (fits, fits′) many y outside.
           (let r = found g1 h1 fits fits′ many in
           left-value y ∙ rule (claims g1 (r .1)) y
@@ -157,6 +157,15 @@ line-means {q} Q S m m-length α σ η =
 
     ẑ : Poly q
     ẑ = assignment c (S .x) (S .w)
+
+    α : Elem q
+    α = t .α
+
+    σ : Three (Elem q)
+    σ = t .sums
+
+    η : Three (Elem q)
+    η = t .η
 
     ẑ-length : length ẑ ≡ suc (c .|C|)
     ẑ-length = length-assignment Q c W (S .x) (S .w) (S .w-length)

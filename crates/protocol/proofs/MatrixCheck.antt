@@ -28,7 +28,7 @@ use Rattle.domain.proofs.Division.{vanishing-divides}
 use Rattle.protocol.specs.Three.{MatrixName, C, at}
 use Rattle.protocol.specs.Circuit.{Circuit, Sizes, sizesOf, largest, extension}
 use Rattle.protocol.specs.Index.{indexAt, index}
-use Rattle.protocol.specs.Checks.{matrixLeft, matrixRight}
+use Rattle.protocol.specs.Checks.{Transcript, matrixLeft, matrixRight}
 use Rattle.protocol.specs.Messages.{lengths, numerator, denominator, ratio, matrixRemainder, matrixQuotient}
 use Rattle.protocol.specs.Demand3.{Setting, MatrixMeans}
 use Rattle.protocol.proofs.AdmissionLaws.{WellFormed, admitted-well-formed}
@@ -37,7 +37,7 @@ use Rattle.protocol.proofs.ThreeLaws.{at-each}
 use Rattle.protocol.proofs.MessagePolynomials.{eval-minus}
 use Rattle.domain.proofs.ExactDivision.{vanishing-on, quotient-recovers, constant-of-sum}
 use Rattle.protocol.proofs.MatrixPolynomials.{sizeK, sizeK-positive, largest-size, within-largest}
-use Rattle.protocol.proofs.MatrixPolynomials.{matrixPoly, eval-matrixPoly, length-matrixPoly}
+use Rattle.protocol.proofs.MatrixPolynomials.{leftValue, matrixPoly, eval-matrixPoly, length-matrixPoly}
 use Rattle.protocol.proofs.MatrixSum.{denominator-not-zero, sum-of-ratios}
 
 -- the length of g_M and of h_M
@@ -137,7 +137,7 @@ module _ {q : Prime} (Q : Qualifies q) (c : Circuit) (W : WellFormed (q .p) c) (
 
   -- the prover's g_M and h_M make the sides equal at every point
   pub matrix-rule : (y : Elem q)
-      → matrixLeft (sizesOf c) M α β value (indexAt (index c M) y) y (eval (matrixRemainder c α β M) y)
+      → leftValue c α β M value (indexAt (index c M) y) y (eval (matrixRemainder c α β M) y)
       ≡ matrixRight (sizesOf c) M y (eval (matrixQuotient c α β M) y)
   unfolding matrixRight
   matrix-rule y = sym (eval-matrixPoly c α β M value (matrixRemainder c α β M) y)
@@ -146,7 +146,7 @@ module _ {q : Prime} (Q : Qualifies q) (c : Circuit) (W : WellFormed (q .p) c) (
 
   module _ (ω : Elem q) where
     abbrev Equal : Poly q → Poly q → Elem q → Type 0
-    Equal g h y = matrixLeft (sizesOf c) M α β ω (indexAt (index c M) y) y (eval g y) ≡ matrixRight (sizesOf c) M y (eval h y)
+    Equal g h y = leftValue c α β M ω (indexAt (index c M) y) y (eval g y) ≡ matrixRight (sizesOf c) M y (eval h y)
 
     abbrev Allowed : Elem q → Type 0
     Allowed = Outside (largest (sizesOf c .|K|))
@@ -191,9 +191,10 @@ module _ {q : Prime} (Q : Qualifies q) (c : Circuit) (W : WellFormed (q .p) c) (
         (omega (arith, large-enough q Q, size-bound k (K-size c M), size-bound K (largest-size c))) in
         (l, distinct, all-map (λ y o. (o, rw true-value (matrix-rule y))) l outside, more)
 
-pub matrix-means : {q : Prime} (Q : Qualifies q) (S : Setting q) (M : MatrixName) (α β ω : Elem q)
-    → Outside (S .circuit .|R|) α → Outside (S .circuit .|C|) β → MatrixMeans q S M α β ω
-matrix-means {q} Q S M α β ω α-outside β-outside =
+pub matrix-means : {q : Prime} (Q : Qualifies q) (S : Setting q) (M : MatrixName) (t : Transcript (Elem q))
+    → Outside (S .circuit .|R|) (t .α) → Outside (S .circuit .|C|) (t .β) → MatrixMeans q S M t
+unfolding matrixLeft
+matrix-means {q} Q S M t α-outside β-outside =
     record {
       complete = λ true-value. (
         (matrixRemainder c α β M, matrixQuotient c α β M),
@@ -212,3 +213,12 @@ matrix-means {q} Q S M α β ω α-outside β-outside =
 
     W : WellFormed (q .p) c
     W = admitted-well-formed q c (S .admitted)
+
+    α : Elem q
+    α = t .α
+
+    β : Elem q
+    β = t .β
+
+    ω : Elem q
+    ω = at (t .values) M

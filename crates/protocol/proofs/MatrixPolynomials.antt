@@ -20,7 +20,7 @@ use Rattle.domain.proofs.Interpolation.{length-interpolate}
 use Rattle.protocol.specs.Three.{MatrixName, A, B, C, at}
 use Rattle.protocol.specs.Circuit.{Entry, Circuit, sizesOf, largest}
 use Rattle.protocol.specs.Index.{Index, indexAt, rowElement, columnElement, placed, index}
-use Rattle.protocol.specs.Checks.{numeratorValue, denominatorValue, matrixLeft}
+use Rattle.protocol.specs.Checks.{numeratorValue, denominatorValue}
 use Rattle.protocol.specs.Messages.{numerator, denominator}
 use Rattle.protocol.proofs.IndexPolynomials.{K-size}
 use Rattle.protocol.proofs.MessagePolynomials.{eval-minus}
@@ -110,13 +110,17 @@ module _ {q : Prime} (c : Circuit) (α β : Elem q) (M : MatrixName) where
         length-placed c M 𝟙 (λ e. rowElement {q = q} c e ⊗ columnElement c e),
       )
 
+  -- the left side of M's rule at y, from ω, the index polynomials' values and g's value there: what `matrixLeft` says of a transcript
+  abbrev pub leftValue : Elem q → Index (Elem q) → Elem q → Elem q → Elem q
+  leftValue ω v y g = numeratorValue (sizesOf c) α β v ⊖ denominatorValue (sizesOf c) α β v ⊗ (y ⊗ g ⊕ ω ⊘ of k)
+
   -- a_M - b_M (Y g + ω/|K_M|)
   unfoldable pub matrixPoly : Elem q → Poly q → Poly q
   matrixPoly ω g = _⊟_ a (_⊠_ b (ω ⊘ of k ∷ g))
 
   pub eval-matrixPoly : (ω : Elem q) (g : Poly q) (y : Elem q)
-      → eval (matrixPoly ω g) y ≡ matrixLeft (sizesOf c) M α β ω (indexAt (index c M) y) y (eval g y)
-  unfolding matrixPoly matrixLeft
+      → eval (matrixPoly ω g) y ≡ leftValue ω (indexAt (index c M) y) y (eval g y)
+  unfolding matrixPoly
   eval-matrixPoly ω g y =
       eval-minus a (_⊠_ b (ω ⊘ of k ∷ g)) y
       ∙ ap₂ _⊖_ (eval-numerator y) (eval-mul R b (ω ⊘ of k ∷ g) y ∙ ap₂ _⊗_ (eval-denominator y) (add-comm _ _))

@@ -1,5 +1,5 @@
 -- What it means that nothing is refused: every row, and every test of a row, passes. Assumes nothing.
-use mathlib.Core.Path.{_≡_, refl}
+use mathlib.Core.Path.{_≡_, refl, ap₂}
 use mathlib.Core.Bool.{Bool, true, false, _&&_}
 use mathlib.Core.List.{List, [], _∷_, map}
 use mathlib.Core.Option.{Option, none, some}
@@ -10,6 +10,7 @@ use borrow.Author.Tests.{ltb-true, lt-ltb, le-leb}
 use Rattle.algebra.specs.Counting.{All}
 use Rattle.field.specs.Prime.{Prime}
 use Rattle.protocol.specs.Refusals.{Refusal, first, refuse, pairs, wordRefusal, lengthRefusal}
+use Rattle.protocol.specs.Session.{all}
 
 some-not-none : {T : Type 0} {x : T} → some x ≡ none → ⊥
 some-not-none e = let z : _≡_ {A = ℕ} 0 1 = cc in omega arith
@@ -39,12 +40,21 @@ pub and-true : (a b : Bool) → (a && b) ≡ true → (a ≡ true) × (b ≡ tru
 and-true true b e = (refl, e)
 and-true false b e = let z : _≡_ {A = ℕ} 0 1 = cc in absurd (omega arith)
 
+-- all tests of a list pass
+pub all-true : (tests : List Bool) → All (λ t. t ≡ true) tests → all tests ≡ true
+all-true [] h = refl
+all-true (t ∷ l) h = ap₂ _&&_ (h .0) (all-true l (h .1))
+
+pub true-all : (tests : List Bool) → all tests ≡ true → All (λ t. t ≡ true) tests
+true-all [] e = tt
+true-all (t ∷ l) e = let (head, rest) = and-true t (all l) e in (head, true-all l rest)
+
 -- 6: no word is p or more
-words-below : (q : Prime) (ws : List ℕ) → All (λ t. t ≡ true) (map (λ w. ltb w (q .p)) ws) → All (λ w. w < q .p) ws
+pub words-below : (q : Prime) (ws : List ℕ) → All (λ t. t ≡ true) (map (λ w. ltb w (q .p)) ws) → All (λ w. w < q .p) ws
 words-below q [] h = tt
 words-below q (w ∷ ws) h = (ltb-true w (q .p) (h .0), words-below q ws (h .1))
 
-below-words : (q : Prime) (ws : List ℕ) → All (λ w. w < q .p) ws → All (λ t. t ≡ true) (map (λ w. ltb w (q .p)) ws)
+pub below-words : (q : Prime) (ws : List ℕ) → All (λ w. w < q .p) ws → All (λ t. t ≡ true) (map (λ w. ltb w (q .p)) ws)
 below-words q [] h = tt
 below-words q (w ∷ ws) h = (lt-ltb w (q .p) (h .0), below-words q ws (h .1))
 

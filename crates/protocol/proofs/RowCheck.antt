@@ -21,7 +21,7 @@ use Rattle.domain.proofs.Division.{vanishing-divides}
 use Rattle.domain.proofs.ExactDivision.{vanishing-on, quotient-recovers}
 use Rattle.protocol.specs.Three.{A, B, C}
 use Rattle.protocol.specs.Circuit.{Circuit, sizesOf, rowSum, Satisfied}
-use Rattle.protocol.specs.Checks.{rowLeft, rowRight}
+use Rattle.protocol.specs.Checks.{Transcript, Openings, rowLeft, rowRight}
 use Rattle.protocol.specs.Messages.{lengths, assignment, rowQuotient, sums}
 use Rattle.protocol.specs.Demand3.{Setting, RowMeans}
 use Rattle.protocol.proofs.AdmissionLaws.{WellFormed, admitted-well-formed}
@@ -75,14 +75,14 @@ module _ {q : Prime} (Q : Qualifies q) (c : Circuit) (W : WellFormed (q .p) c) (
       (sym (left-on-rows i l) ∙ divided (element (c .|R|) i)
       ∙ ap (λ v. eval h0 (element (c .|R|) i) ⊗ v) (vanishing-on Q (c .|R|) (W .R-size) i l) ∙ mul-zero (primeRing q) _)
 
-pub row-means : {q : Prime} → Qualifies q → (S : Setting q) → RowMeans q S
-row-means {q} Q S =
+pub row-means : {q : Prime} → Qualifies q → (S : Setting q) (t : Transcript (Elem q)) (o : Openings (Elem q)) → RowMeans q S t o
+row-means {q} Q S t o =
     record {
       complete = λ satisfied. (
         rowQuotient c ẑ,
         length-rowQuotient Q c W ẑ,
         (let (l, distinct, outside, more) = outside-many Q (c .|R|) (W .R-size) (2 * c .|R| - 2) room in
-            (l, distinct, all-map (λ y o. (o, row-rule Q c W ẑ satisfied y)) l outside, more)),
+            (l, distinct, all-map (λ y allowed. (allowed, row-rule Q c W ẑ satisfied y)) l outside, more)),
       );
       sound = λ h0 fits many. divided-satisfied Q c W ẑ h0 (recovered Q c W ẑ h0 fits many .1);
       unique = λ h0 k0 fits fits′ many many′. sym (recovered Q c W ẑ h0 fits many .0) ∙ recovered Q c W ẑ k0 fits′ many′ .0;

@@ -16,7 +16,7 @@ use Prim.Native.Nat.{_*_}
 use native.Mathlib.Nat.{le-refl}
 use Rattle.protocol.specs.Three.{MatrixName, A, B, C, Three, at, each}
 use Rattle.protocol.specs.Circuit.{Circuit, extension}
-use Rattle.protocol.specs.Checks.{weighted, lineLeft}
+use Rattle.protocol.specs.Checks.{Transcript, weighted, lineLeft}
 use Rattle.protocol.specs.Messages.{assignment, image, sums, values}
 use Rattle.protocol.specs.Demand3.{Setting, SumsCaught}
 use Rattle.protocol.proofs.LinearCounting.{linear, linear-solutions}
@@ -61,10 +61,10 @@ module _ {q : Prime} (c : Circuit) (m ẑ : Poly q) (α : Elem q) (σ : Three (E
       from (:1 ⊙ (m :+ (a :* u :+ b :* v :+ c :* w) := a :* x :+ b :* y :+ c :* z)) ∷ [])
       (sym (line-sum-parts c m ẑ α η) ∙ claim, tt) tt
 
-pub sums-caught : {q : Prime} (S : Setting q) (m : Poly q) (α : Elem q) (σ : Three (Elem q)) → SumsCaught q S m α σ
-sums-caught {q} S m α σ M false =
+pub sums-caught : {q : Prime} (S : Setting q) (m : Poly q) (t : Transcript (Elem q)) → SumsCaught q S m t
+sums-caught {q} S m t M false =
     let c : Circuit = S .circuit in
     let ẑ : Poly q = assignment c (S .x) (S .w) in
-    at-most-mono (q .p * q .p) (q .p * q .p) (le-refl (q .p * q .p)) (line-claim-linear c m ẑ α σ)
-    (linear-solutions (sumOver (c .|C|) (eval m)) (sumErrors c m ẑ α σ) M
-    (λ e. false (sym (sub-zero→eq (primeRing q) _ _ (sym (at-each (λ M. image c ẑ M α ⊖ at σ M) M) ∙ e)))))
+    at-most-mono (q .p * q .p) (q .p * q .p) (le-refl (q .p * q .p)) (line-claim-linear c m ẑ (t .α) (t .sums))
+    (linear-solutions (sumOver (c .|C|) (eval m)) (sumErrors c m ẑ (t .α) (t .sums)) M
+    (λ e. false (sym (sub-zero→eq (primeRing q) _ _ (sym (at-each (λ M. image c ẑ M (t .α) ⊖ at (t .sums) M) M) ∙ e)))))

@@ -11,7 +11,7 @@ use Rattle.algebra.proofs.PolynomialLaws.{eval-add, eval-scale, length-add, len
 use Rattle.algebra.proofs.RingLaws.{eq→sub-zero}
 use Rattle.algebra.proofs.Solver.{_:+_, _:-_, _:*_, :-_, :0, :1, _:=_, _⊙_, _from_, ring-by}
 use Rattle.field.specs.Prime.{Prime}
-use Rattle.field.specs.Element.{Elem, 𝟘, _⊕_, _⊗_}
+use Rattle.field.specs.Element.{Elem, 𝟘, _⊕_, _⊗_, _⊖_}
 use Rattle.field.proofs.ElementLaws.{primeRing}
 use Rattle.domain.specs.Domain.{element, vanishing}
 use Rattle.domain.specs.Polynomial.{Poly, eval, _⊟_, _·_, quotient, interpolate, valuesOn}
@@ -90,6 +90,14 @@ module _ {q : Prime} (Q : Qualifies q) (c : Circuit) (W : WellFormed (q .p) c) (
         sym (eval-minus zPoly xPoly y) ∙ vanishing-divides Q (c .|X|) (W .X-size) (_⊟_ zPoly xPoly) difference-on-X y,
         (eval-vanishingRatio (c .|X|) (c .|C|) (W .X-size) (W .C-size) (W .X-within) y, tt),
       ) tt
+
+  pub witness-rule : (y : Elem q)
+      → eval (witness c z r) y ⊗ vanishing (c .|X|) y ≡ eval zPoly y ⊖ eval (publicPoly c (publicPart c z)) y ⊕ r ⊗ vanishing (c .|C|) y
+  unfolding publicPoly assignmentValue sizesOf
+  witness-rule y =
+      ring-by R (eval (witness c z r) y ∷ vanishing (c .|X|) y ∷ eval zPoly y ∷ eval xPoly y ∷ r ∷ vanishing (c .|C|) y ∷ [])
+      (λ w v z x r u. w :* v := z :- x :+ r :* u from (:1 ⊙ (w :* v :+ x := z :+ r :* u)) ∷ [])
+      (sym (eval-assignment c X-positive (publicPart c z) (witness c z r) y) ∙ eval-ẑ y, tt) tt
 
   pub assignment-values : length z ≡ c .|C| → valuesOn (c .|C|) ẑ ≡ z
   assignment-values z-length =
