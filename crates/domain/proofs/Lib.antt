@@ -1,8 +1,9 @@
+pub mod OrderTest
+pub mod GeneratorLaws
 pub mod Qualification
 pub mod ListLaws
 pub mod SizeLaws
 pub mod SizeDigits
-pub mod RootTable
 pub mod DomainLaws
 pub mod Membership
 pub mod Interpolation

@@ -1,5 +1,5 @@
 -- The module's prime, p = 2,013,265,921 = 15 × 2^27 + 1 with generator 31 (document 01, "Field and domains"), known as BabyBear.
--- Only here does its value stand. Assumes nothing.
+-- In the definitions its value stands only here, and in the crates' code only in `MODULE_PRIME` of crate `field`. Assumes nothing.
 use Prim.Native.Nat.{ℕ, _%_, _<_}
 use mathlib.Core.Path.{_≡_}
 use lib.Dec.{lit<}

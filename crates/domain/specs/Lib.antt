@@ -3,5 +3,6 @@ pub mod Domain
 pub mod Polynomial
 pub mod Qualifies
 pub mod BabyBear
+pub mod GeneratorTable
 pub mod Known
 pub mod Computes

@@ -16,7 +16,7 @@ ghost use Rattle.domain.specs.Known.{Known};
 
 pub const MAX_SIZE: u32 = 1024;
 
-// The roots g_n of the module's prime for n = 1, 2, 4, .., 1,024.
+// The generators g_n of the module's prime for n = 1, 2, 4, .., 1,024: `generatorTable` of the definitions.
 const ROOTS: [u32; 11] = [
     1,
     2013265920,
