@@ -13,10 +13,12 @@ use Rattle.protocol.specs.declared.Check as declared-check
 use Rattle.protocol.specs.declared.Check.the-variants as check
 use Rattle.protocol.specs.declared.Verdict as declared-verdict
 use Rattle.protocol.specs.declared.Verdict.the-variants as verdict
-use Rattle.protocol.specs.Three.{Three}
+use Rattle.protocol.specs.declared.lengths.Lengths.{Lengths}
+use Rattle.protocol.specs.Three.{Three, each}
 use Rattle.protocol.specs.Circuit.{Sizes}
 use Rattle.protocol.specs.Index.{Index}
 use Rattle.protocol.specs.Checks.{Transcript, Openings, Check, Row, Line, Matrix, Verdict, Accept, Fails}
+use Rattle.protocol.specs.Messages.{Messages}
 use Rattle.protocol.specs.Refusals.{Refusal}
 
 abbrev pub faultRefusal : Fault → Option Refusal
@@ -39,6 +41,21 @@ transcript h =
       values = three (h .values);
       δ = three (h .delta);
       γ = h .gamma;
+    }
+
+-- the lengths of the messages; the σ and ω are one word each
+abbrev pub messageLengths : Lengths → Messages ℕ ℕ
+messageLengths l =
+    record {
+      witness = l .witness;
+      mask = l .mask;
+      rowQuotient = l .rowQuotient;
+      sums = each (λ M. 1);
+      lineRemainder = l .lineRemainder;
+      lineQuotient = l .lineQuotient;
+      values = each (λ M. 1);
+      matrixRemainders = record { a = l .matrixRemainders .a; b = l .matrixRemainders .b; c = l .matrixRemainders .c };
+      joinedQuotient = l .joinedQuotient;
     }
 
 -- the four openings of one matrix's index polynomials

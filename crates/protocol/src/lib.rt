@@ -1,5 +1,6 @@
 // Varuna as document 01 fixes it: definitions, statements and theorems. Declared here are the types that the crates of code share;
 // specs/Meanings.antt says what their values mean. The modules have the code that more than one crate needs.
+pub mod lengths;
 pub mod scans;
 pub mod six_sizes;
 
@@ -24,7 +25,7 @@ pub struct Sizes {
     pub k: Triple,
 }
 
-// What the verifier hears before the openings: challenges, claimed sums and claimed matrix values.
+// The transcript, which the verifier hears before the openings: challenges, claimed sums and claimed matrix values.
 pub struct Transcript {
     pub alpha: u32,
     pub sums: Triple,
