@@ -1,8 +1,11 @@
--- Demands 2 and 3, proved: for every prime that qualifies, and so for the module's prime. Assumes nothing.
+-- Demands 2 and 3, and what is known where a verdict is answered, proved: for every prime that qualifies, and so for the module's
+-- prime. Assumes nothing.
+use Rattle.field.specs.Prime.{Prime}
 use Rattle.domain.specs.BabyBear.{babyBear}
 use Rattle.domain.proofs.Qualification.{babyBear-qualifies}
 use Rattle.protocol.specs.Demand2.{Demand2, Demand2Holds}
 use Rattle.protocol.specs.Demand3.{Setting, Demand3, Demand3Holds}
+use Rattle.protocol.specs.Verdicts.{Verdicts}
 use Rattle.protocol.proofs.CallsProve.{calls-give-proof, calls-accepted}
 use Rattle.protocol.proofs.Honest.{rules-kept, honest-accepted}
 use Rattle.protocol.proofs.IndexDecoding.{index-gives-back}
@@ -11,6 +14,7 @@ use Rattle.protocol.proofs.LineCheck.{line-means}
 use Rattle.protocol.proofs.MatrixCheck.{matrix-means}
 use Rattle.protocol.proofs.RecordLaws.{read-written, written-read}
 use Rattle.protocol.proofs.RowCheck.{row-means}
+use Rattle.protocol.proofs.Sessions.{verdicts-allowed, steps-pass, only-steps-pass}
 use Rattle.protocol.proofs.Sums.{sums-caught}
 use Rattle.protocol.proofs.VerdictLaws.{verdict-means}
 
@@ -37,9 +41,16 @@ demand3 q Q S =
       values-caught = values-caught Q S;
     }
 
+-- a verdict only at allowed challenges
+pub verdicts : (q : Prime) → Verdicts q
+verdicts q = record { verdicts-allowed = verdicts-allowed q; steps-pass = steps-pass q; only-steps-pass = only-steps-pass q }
+
 -- for the prime of domain/specs/BabyBear.antt
 pub module-demand2 : Demand2 babyBear
 module-demand2 = demand2 babyBear babyBear-qualifies
 
 pub module-demand3 : (S : Setting babyBear) → Demand3 babyBear S
 module-demand3 = demand3 babyBear babyBear-qualifies
+
+pub module-verdicts : Verdicts babyBear
+module-verdicts = verdicts babyBear

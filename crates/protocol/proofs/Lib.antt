@@ -15,6 +15,7 @@ pub mod ThreeLaws
 pub mod Sums
 pub mod Witness
 pub mod TakenSteps
+pub mod Sessions
 pub mod Conversation
 pub mod MatrixPolynomials
 pub mod MatrixSum

@@ -10,7 +10,7 @@ use lib.ListN.{length, take, drop, replicate}
 use lib.Seq.{take-at, drop-at}
 use borrow.Author.Tests.{eq-eqb}
 use Rattle.algebra.specs.Counting.{All}
-use Rattle.algebra.proofs.Counting.{all-append, append-all}
+use Rattle.algebra.proofs.Counting.{append-all}
 use Rattle.field.specs.Prime.{Prime}
 use Rattle.field.specs.Element.{of}
 use Rattle.domain.specs.Size.{maxSize}
@@ -28,7 +28,7 @@ use Rattle.protocol.proofs.RefusalLaws.{none-first, none-refuse, all-tr
 unless-none : (o : Option Refusal) (s : Session) (next : Stepped) → o ≡ none → unless o s next ≡ next
 unless-none o s next e = ap (λ o. unless o s next) e
 
-zeros-pass : (n : ℕ) → All (λ t. t ≡ true) (map (λ w. eqb w 0) (replicate n 0))
+pub zeros-pass : (n : ℕ) → All (λ t. t ≡ true) (map (λ w. eqb w 0) (replicate n 0))
 zeros-pass zero = tt
 zeros-pass (suc n) = (eq-eqb 0 0 refl, zeros-pass n)
 
@@ -53,17 +53,10 @@ pub record HeardWords (q : Prime) (t : Transcript ℕ) : Type 0 where
 pub heard-words : (q : Prime) (t : Transcript ℕ) → All (λ w. w < q .p) (listTranscript t) → HeardWords q t
 heard-words q t below =
     let Low : ℕ → Type 0 = λ w. w < q .p in
-    let σ = append-all Low (listed (t .sums)) (listed (t .η) ++ (t .β ∷ (listed (t .values) ++ (listed (t .δ) ++ (t .γ ∷ []))))) (below .1) in
-    let η = append-all Low (listed (t .η)) (t .β ∷ (listed (t .values) ++ (listed (t .δ) ++ (t .γ ∷ [])))) (σ .1) in
-    let ω = append-all Low (listed (t .values)) (listed (t .δ) ++ (t .γ ∷ [])) (η .1 .1) in
-    let δ = append-all Low (listed (t .δ)) (t .γ ∷ []) (ω .1) in
-    record {
-      α-below = below .0;
-      η-below = all-append Low (listed (t .sums)) (listed (t .η)) (σ .0) (η .0);
-      β-below = η .1 .0;
-      δ-below = all-append Low (listed (t .values)) (listed (t .δ)) (ω .0) (δ .0);
-      γ-below = δ .1 .0;
-    }
+    let afterη : List ℕ = t .β ∷ (listed (t .values) ++ (listed (t .δ) ++ (t .γ ∷ []))) in
+    let η = append-all Low (listed (t .sums) ++ listed (t .η)) afterη (below .1) in
+    let δ = append-all Low (listed (t .values) ++ listed (t .δ)) (t .γ ∷ []) (η .1 .1) in
+    record { α-below = below .0; η-below = η .0; β-below = η .1 .0; δ-below = δ .0; γ-below = δ .1 .0 }
 
 -- declared lengths within the table; of the σ and ω there are none
 pub record Short (s : Sizes) (declared : Messages ℕ ℕ) : Type 0 where
