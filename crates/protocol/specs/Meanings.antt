@@ -1,4 +1,5 @@
 -- What the values of the declared types mean, in document 01's numbers and values. Assumes nothing.
+use mathlib.Core.Bool.{Bool, true, false}
 use mathlib.Core.List.{List, []}
 use mathlib.Core.Option.{Option, none, some}
 use Prim.Native.Nat.{ℕ}
@@ -24,6 +25,11 @@ use Rattle.protocol.specs.Refusals.{Refusal}
 abbrev pub faultRefusal : Fault → Option Refusal
 faultRefusal fault.Fine = none
 faultRefusal (fault.Refused number position) = some (record { number = number; position = position })
+
+-- nothing is refused
+abbrev pub isFine : Fault → Bool
+isFine fault.Fine = true
+isFine (fault.Refused number position) = false
 
 abbrev pub three : Triple → Three ℕ
 three t = record { a = t .a; b = t .b; c = t .c }

@@ -1,5 +1,8 @@
 // Varuna as document 01 fixes it: definitions, statements and theorems. Declared here are the types that the crates of code share;
 // specs/Meanings.antt says what their values mean. The modules have the code that more than one crate needs.
+ghost use mathlib.Core.Path.{_≡_};
+ghost use Rattle.protocol.specs.Meanings.{isFine};
+
 pub mod lengths;
 pub mod scans;
 pub mod six_sizes;
@@ -8,6 +11,16 @@ pub mod six_sizes;
 pub enum Fault {
     Fine,
     Refused(u32, usize),
+}
+
+// Nothing is refused. A function that judges returns at the first answer that is not fine.
+pub fn is_fine(fault: Fault) -> bool
+    ensures { λ r. ⌜ r ≡ isFine fault ⌝ }
+{
+    match fault {
+        Fault::Fine => true,
+        Fault::Refused(_, _) => false,
+    }
 }
 
 // One word for each of the matrices A, B, C.

@@ -7,9 +7,9 @@ use native.Mathlib.Nat.{zero-add}
 use lib.ListN.{length, take, drop, getD, take-append-drop, drop-of-length-le}
 use lib.Seq.{drop-cons, drop-length, drop-drop, getD-drop, take-at, drop-at, take-length, paste, length-paste, take-paste}
 use Rattle.domain.specs.Size.{maxSize}
-use Rattle.protocol.specs.Checks.{Transcript}
 use Rattle.protocol.specs.Session as steps
-use Rattle.verifier.specs.Session.{openingWords, transcriptWords, sessionWords, threeAt, transcriptOf, sessionOf}
+use Rattle.protocol.specs.Checks.{Transcript, listTranscript}
+use Rattle.verifier.specs.Session.{openingWords, sessionWords, threeAt, transcriptOf, sessionOf}
 
 -- n words from a place on
 abbrev wordsFrom : ℕ → ℕ → List ℕ → List ℕ
@@ -24,14 +24,14 @@ from-place (suc n) at l fits =
 
 -- the words of the session with these words
 pub words-of-session : (l : List ℕ) → length l ≡ 1046 → sessionWords (sessionOf l) ≡ l
-unfolding openingWords transcriptWords sessionWords threeAt transcriptOf sessionOf
+unfolding openingWords sessionWords threeAt transcriptOf sessionOf
 words-of-session l size =
     let opening : drop 0 l ≡ openingWords (sessionOf l) ++ drop 7 l = from-place 7 0 l (omega arith) in
-    let transcript : drop 1031 l ≡ transcriptWords (transcriptOf l) ++ drop 1046 l = from-place 15 1031 l (omega arith) in
+    let transcript : drop 1031 l ≡ listTranscript (transcriptOf l) ++ drop 1046 l = from-place 15 1031 l (omega arith) in
     let end : drop 1046 l ≡ [] = ap (λ k. drop k l) (sym size) ∙ drop-length l in
-    let rest : drop maxSize (drop 7 l) ≡ transcriptWords (transcriptOf l) =
-    drop-drop maxSize 7 l ∙ transcript ∙ ap (λ k. transcriptWords (transcriptOf l) ++ k) end ∙ append-nil _ in
-    let middle : take maxSize (drop 7 l) ++ transcriptWords (transcriptOf l) ≡ drop 7 l =
+    let rest : drop maxSize (drop 7 l) ≡ listTranscript (transcriptOf l) =
+    drop-drop maxSize 7 l ∙ transcript ∙ ap (λ k. listTranscript (transcriptOf l) ++ k) end ∙ append-nil _ in
+    let middle : take maxSize (drop 7 l) ++ listTranscript (transcriptOf l) ≡ drop 7 l =
     ap (λ k. take maxSize (drop 7 l) ++ k) (sym rest) ∙ take-append-drop maxSize (drop 7 l) in
     ap (λ k. openingWords (sessionOf l) ++ k) middle ∙ sym opening
 
@@ -54,14 +54,14 @@ transcript-same f g same =
 
 -- the session with the words of a session
 pub session-of-words : (s : steps.Session) → length (s .x) ≡ maxSize → sessionOf (sessionWords s) ≡ s
-unfolding openingWords transcriptWords sessionWords threeAt transcriptOf sessionOf
+unfolding openingWords sessionWords threeAt transcriptOf sessionOf
 session-of-words s size =
     let words = sessionWords s in
-    let after : drop 1031 words ≡ transcriptWords (s .transcript) = drop-at (s .x) (transcriptWords (s .transcript)) maxSize size in
-    let word : (n : ℕ) → getD words (1031 + n) 0 ≡ getD (transcriptWords (s .transcript)) n 0 = λ n.
+    let after : drop 1031 words ≡ listTranscript (s .transcript) = drop-at (s .x) (listTranscript (s .transcript)) maxSize size in
+    let word : (n : ℕ) → getD words (1031 + n) 0 ≡ getD (listTranscript (s .transcript)) n 0 = λ n.
     sym (getD-drop 1031 words n 0) ∙ ap (λ l. getD l n 0) after in
     ap₂ (λ x h. record { stage = s .stage; sizes = s .sizes; x = x; transcript = h })
-    (take-at (s .x) (transcriptWords (s .transcript)) maxSize size) (transcript-same (λ n. getD words (1031 + n) 0) (λ n. getD (transcriptWords (s .transcript)) n 0) word)
+    (take-at (s .x) (listTranscript (s .transcript)) maxSize size) (transcript-same (λ n. getD words (1031 + n) 0) (λ n. getD (listTranscript (s .transcript)) n 0) word)
 
 -- three lists put into a list one after the other
 module _ (a b c out : List ℕ) (whole : length a + length b + length c ≡ length out) where

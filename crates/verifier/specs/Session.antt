@@ -4,7 +4,7 @@ use Prim.Native.Nat.{ℕ, _+_}
 use lib.ListN.{take, drop, getD}
 use Rattle.domain.specs.Size.{maxSize}
 use Rattle.protocol.specs.Three.{Three, listed}
-use Rattle.protocol.specs.Checks.{Transcript}
+use Rattle.protocol.specs.Checks.{Transcript, listTranscript}
 use Rattle.protocol.specs.Session as steps
 use Rattle.protocol.specs.Session.{Taken, Judged, Refused}
 use Rattle.protocol.specs.Meanings.{sizes, transcript, verdictMeaning}
@@ -37,12 +37,8 @@ finishedMeaning r = record { session = sessionMeaning (r .session); answer = las
 unfoldable pub openingWords : steps.Session → List ℕ
 openingWords s = s .stage ∷ s .sizes .|R| ∷ s .sizes .|C| ∷ s .sizes .|X| ∷ listed (s .sizes .|K|)
 
-unfoldable pub transcriptWords : Transcript ℕ → List ℕ
-transcriptWords h =
-    h .α ∷ (listed (h .sums) ++ (listed (h .η) ++ (h .β ∷ (listed (h .values) ++ (listed (h .δ) ++ (h .γ ∷ []))))))
-
 unfoldable pub sessionWords : steps.Session → List ℕ
-sessionWords s = openingWords s ++ (s .x ++ transcriptWords (s .transcript))
+sessionWords s = openingWords s ++ (s .x ++ listTranscript (s .transcript))
 
 -- three words from a place on
 unfoldable pub threeAt : List ℕ → ℕ → Three ℕ

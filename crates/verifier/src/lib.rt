@@ -1,3 +1,4 @@
 // The verifier: what refuses each step, with the modulus p as a parameter, and the public session.
-pub mod refusals;
+mod holdings;
+mod refusals;
 pub mod session;

@@ -1,35 +1,32 @@
-// What refuses each step of the session, in the order of the table: no step is in turn unless the sizes are allowed.
+// What refuses each step of the session, in the order of the table. A step stops at its first refusal, and none is in turn unless the
+// sizes are allowed.
 ghost use mathlib.Core.Path.{_≡_};
 ghost use mathlib.Core.Bool.{true};
 ghost use mathlib.Core.List.{[], _∷_, map};
 ghost use Prim.Native.Nat.{_<_};
 ghost use lib.Dec.{ltb};
+ghost use lib.ListN.{length};
 ghost use Rattle.field.specs.Prime.{Prime};
 ghost use Rattle.field.specs.Element.{of};
-ghost use Rattle.domain.specs.Size.{isSize};
+ghost use Rattle.domain.specs.Size.{isSize, maxSize};
 ghost use Rattle.domain.specs.Qualifies.{Qualifies};
 ghost use Rattle.protocol.specs.Index.{listIndex};
-ghost use Rattle.protocol.specs.Refusals.{first, refuse, challengeRefusal};
+ghost use Rattle.protocol.specs.Checks.{listOpenings};
+ghost use Rattle.protocol.specs.Refusals.{first, refuse, turnRefusal, wordRefusal, challengeRefusal};
 ghost use Rattle.protocol.specs.Session.{inTurn, openRefusal, alphaRefusal, etaRefusal, betaRefusal, deltaRefusal, gammaRefusal, openingsRefusal};
-ghost use Rattle.protocol.specs.Meanings.{faultRefusal, three, sizes, indexWords, openings};
+ghost use Rattle.protocol.specs.Meanings.{faultRefusal, three, sizes, transcript, indexWords, openings};
+use crate::holdings::left_by_steps;
 use protocol::Fault;
 use protocol::Opened;
 use protocol::Sizes;
+use protocol::Transcript;
 use protocol::Triple;
+use protocol::is_fine;
+use protocol::lengths::message_lengths;
 use protocol::scans::first_failed;
 use protocol::scans::judge_words;
 use protocol::six_sizes::judge_sizes;
 use protocol::six_sizes::largest;
-
-// The first of two refusals.
-fn first_of(a: Fault, b: Fault) -> Fault
-    ensures { λ r. ⌜ faultRefusal r ≡ first (faultRefusal a ∷ faultRefusal b ∷ []) ⌝ }
-{
-    match a {
-        Fault::Fine => b,
-        Fault::Refused(_, _) => a,
-    }
-}
 
 // The step after the first n is in turn.
 fn in_turn(n: u32, stage: u32, s: Sizes) -> bool
@@ -38,31 +35,48 @@ fn in_turn(n: u32, stage: u32, s: Sizes) -> bool
     if stage != n {
         return false;
     }
-    match judge_sizes(4, 0, s) {
-        Fault::Fine => true,
-        Fault::Refused(_, _) => false,
+    is_fine(judge_sizes(4, 0, s))
+}
+
+// 1: the step after the first n is out of turn.
+fn judge_turn(n: u32, stage: u32, s: Sizes) -> Fault
+    ensures { λ r. ⌜ faultRefusal r ≡ turnRefusal (inTurn n stage (sizes s)) ⌝ }
+{
+    if in_turn(n, stage, s) {
+        Fault::Fine
+    } else {
+        Fault::Refused(1, 0)
     }
 }
 
-// 10: the challenge y lies in the domain of size n.
+// 6 and 10: the challenge y is no field word, or lies in the domain of size n.
 fn judge_challenge(p: u32, position: usize, n: u32, y: u32) -> Fault
     requires { ⌜ 1 < p ⌝ }
-    requires { ⌜ position < 16 ⌝ }
     requires { ⌜ isSize n ≡ true ⌝ }
-    ensures { λ r. ⌜ ((q : Prime) → Qualifies q → q .p ≡ p → faultRefusal r ≡ challengeRefusal {q = q} position (n ∷ []) (of y ∷ [])) ⌝ }
+    ensures { λ r. ⌜ ((q : Prime) → Qualifies q → q .p ≡ p
+        → faultRefusal r ≡ first (wordRefusal q (y ∷ []) ∷ challengeRefusal {q = q} position (n ∷ []) (of y ∷ []) ∷ [])) ⌝ }
 {
-    let tests = [!domain::is_inside(p, n, y)];
-    first_failed(10, position, &tests)
+    if p <= y {
+        return Fault::Refused(6, 0);
+    }
+    if domain::is_inside(p, n, y) {
+        Fault::Refused(10, position)
+    } else {
+        Fault::Fine
+    }
 }
 
 pub fn judge_open(p: u32, s: Sizes, x: &[u32]) -> Fault
     ensures { λ r. ⌜ ((q : Prime) → q .p ≡ p → faultRefusal r ≡ openRefusal q (sizes s) (now (x .entry))) ⌝ }
 {
     let size = judge_sizes(4, 0, s);
-    let tests = [x.len() == s.x as usize];
-    let list = first_failed(5, 0, &tests);
-    let word = judge_words(p, 0, x);
-    first_of(size, first_of(list, word))
+    if !is_fine(size) {
+        return size;
+    }
+    if x.len() != s.x as usize {
+        return Fault::Refused(5, 0);
+    }
+    judge_words(p, 0, x)
 }
 
 pub fn judge_alpha(
@@ -77,26 +91,29 @@ pub fn judge_alpha(
     requires { ⌜ 1 < p ⌝ }
     ensures { λ r. ⌜ ((q : Prime) → Qualifies q → q .p ≡ p → faultRefusal r ≡ alphaRefusal q stage (sizes s) witness mask quotient alpha) ⌝ }
 {
-    if !in_turn(1, stage, s) {
-        return Fault::Refused(1, 0);
+    let turn = judge_turn(1, stage, s);
+    if !is_fine(turn) {
+        return turn;
     }
-    let words = [alpha];
-    let word = judge_words(p, 0, &words);
     let challenge = judge_challenge(p, 0, s.r, alpha);
+    if !is_fine(challenge) {
+        return challenge;
+    }
+    let most = message_lengths(s);
     let tests = [
-        witness <= s.c - s.x + 1,
-        mask <= 2 * s.c,
-        quotient <= s.r - 1,
+        witness as usize <= most.witness,
+        mask as usize <= most.mask,
+        quotient as usize <= most.rowQuotient,
     ];
-    let length = first_failed(11, 0, &tests);
-    first_of(word, first_of(challenge, length))
+    first_failed(11, 0, &tests)
 }
 
 pub fn judge_eta(p: u32, stage: u32, s: Sizes, sums: Triple, eta: Triple) -> Fault
     ensures { λ r. ⌜ ((q : Prime) → q .p ≡ p → faultRefusal r ≡ etaRefusal q stage (sizes s) (three sums) (three eta)) ⌝ }
 {
-    if !in_turn(2, stage, s) {
-        return Fault::Refused(1, 0);
+    let turn = judge_turn(2, stage, s);
+    if !is_fine(turn) {
+        return turn;
     }
     let words = [sums.a, sums.b, sums.c, eta.a, eta.b, eta.c];
     judge_words(p, 0, &words)
@@ -106,15 +123,20 @@ pub fn judge_beta(p: u32, stage: u32, s: Sizes, remainder: u32, quotient: u32, b
     requires { ⌜ 1 < p ⌝ }
     ensures { λ r. ⌜ ((q : Prime) → Qualifies q → q .p ≡ p → faultRefusal r ≡ betaRefusal q stage (sizes s) remainder quotient beta) ⌝ }
 {
-    if !in_turn(3, stage, s) {
-        return Fault::Refused(1, 0);
+    let turn = judge_turn(3, stage, s);
+    if !is_fine(turn) {
+        return turn;
     }
-    let words = [beta];
-    let word = judge_words(p, 0, &words);
     let challenge = judge_challenge(p, 1, s.c, beta);
-    let tests = [remainder <= s.c - 1, quotient <= s.c];
-    let length = first_failed(11, 0, &tests);
-    first_of(word, first_of(challenge, length))
+    if !is_fine(challenge) {
+        return challenge;
+    }
+    let most = message_lengths(s);
+    let tests = [
+        remainder as usize <= most.lineRemainder,
+        quotient as usize <= most.lineQuotient,
+    ];
+    first_failed(11, 0, &tests)
 }
 
 pub fn judge_delta(
@@ -127,35 +149,38 @@ pub fn judge_delta(
 ) -> Fault
     ensures { λ r. ⌜ ((q : Prime) → q .p ≡ p → faultRefusal r ≡ deltaRefusal q stage (sizes s) (three values) (three remainders) (three delta)) ⌝ }
 {
-    if !in_turn(4, stage, s) {
-        return Fault::Refused(1, 0);
+    let turn = judge_turn(4, stage, s);
+    if !is_fine(turn) {
+        return turn;
     }
     let words = [values.a, values.b, values.c, delta.a, delta.b, delta.c];
     let word = judge_words(p, 0, &words);
-    let k = s.k;
+    if !is_fine(word) {
+        return word;
+    }
+    let most = message_lengths(s).matrixRemainders;
     let tests = [
-        remainders.a <= k.a - 1,
-        remainders.b <= k.b - 1,
-        remainders.c <= k.c - 1,
+        remainders.a as usize <= most.a,
+        remainders.b as usize <= most.b,
+        remainders.c as usize <= most.c,
     ];
-    let length = first_failed(11, 0, &tests);
-    first_of(word, length)
+    first_failed(11, 0, &tests)
 }
 
 pub fn judge_gamma(p: u32, stage: u32, s: Sizes, quotient: u32, gamma: u32) -> Fault
     requires { ⌜ 1 < p ⌝ }
     ensures { λ r. ⌜ ((q : Prime) → Qualifies q → q .p ≡ p → faultRefusal r ≡ gammaRefusal q stage (sizes s) quotient gamma) ⌝ }
 {
-    if !in_turn(5, stage, s) {
-        return Fault::Refused(1, 0);
+    let turn = judge_turn(5, stage, s);
+    if !is_fine(turn) {
+        return turn;
     }
-    let words = [gamma];
-    let word = judge_words(p, 0, &words);
-    let n = largest(s.k);
-    let challenge = judge_challenge(p, 2, n, gamma);
-    let tests = [quotient <= n - 1];
-    let length = first_failed(11, 0, &tests);
-    first_of(word, first_of(challenge, length))
+    let challenge = judge_challenge(p, 2, largest(s.k), gamma);
+    if !is_fine(challenge) {
+        return challenge;
+    }
+    let tests = [quotient as usize <= message_lengths(s).joinedQuotient];
+    first_failed(11, 0, &tests)
 }
 
 // 6, for the four openings of one matrix's index polynomials.
@@ -167,12 +192,10 @@ fn judge_index(p: u32, position: usize, index: [u32; 4]) -> Fault
     judge_words(p, position, &words)
 }
 
-pub fn judge_openings(p: u32, stage: u32, s: Sizes, o: Opened, index: [[u32; 4]; 3]) -> Fault
-    ensures { λ r. ⌜ ((q : Prime) → q .p ≡ p → faultRefusal r ≡ openingsRefusal q stage (sizes s) (openings o index)) ⌝ }
+// 6, for the 21 openings.
+fn judge_opened(p: u32, o: Opened, index: [[u32; 4]; 3]) -> Fault
+    ensures { λ r. ⌜ ((q : Prime) → q .p ≡ p → faultRefusal r ≡ wordRefusal q (listOpenings (openings o index))) ⌝ }
 {
-    if !in_turn(6, stage, s) {
-        return Fault::Refused(1, 0);
-    }
     let g = o.matrixRemainders;
     let words = [
         o.witness,
@@ -186,8 +209,41 @@ pub fn judge_openings(p: u32, stage: u32, s: Sizes, o: Opened, index: [[u32; 4];
         g.c,
     ];
     let messages = judge_words(p, 0, &words);
+    if !is_fine(messages) {
+        return messages;
+    }
     let a = judge_index(p, 9, index[0]);
+    if !is_fine(a) {
+        return a;
+    }
     let b = judge_index(p, 13, index[1]);
-    let c = judge_index(p, 17, index[2]);
-    first_of(messages, first_of(a, first_of(b, c)))
+    if !is_fine(b) {
+        return b;
+    }
+    judge_index(p, 17, index[2])
+}
+
+// The verdict is given only on what steps leave: x is the session's, and t its transcript.
+pub fn judge_openings(
+    p: u32,
+    stage: u32,
+    s: Sizes,
+    x: &[u32],
+    t: Transcript,
+    o: Opened,
+    index: [[u32; 4]; 3],
+) -> Fault
+    requires { ⌜ 1 < p ⌝ }
+    requires { ⌜ length (now x) ≡ maxSize ⌝ }
+    ensures { λ r. ⌜ ((q : Prime) → Qualifies q → q .p ≡ p
+        → faultRefusal r
+        ≡ openingsRefusal q (record { stage = stage; sizes = sizes s; x = now (x .entry); transcript = transcript t }) (openings o index)) ⌝ }
+{
+    if !in_turn(6, stage, s) {
+        return Fault::Refused(1, 0);
+    }
+    if !left_by_steps(p, s, x, t) {
+        return Fault::Refused(1, 0);
+    }
+    judge_opened(p, o, index)
 }

@@ -1,5 +1,5 @@
 // The verifier's session. Each of the seven steps takes the session and gives back the next one with its answer, or the same one where
-// the step is refused.
+// the step is refused. After the verdict every step but opening is out of turn.
 ghost use mathlib.Core.Path.{_≡_};
 ghost use mathlib.Core.List.{_++_};
 ghost use Prim.Native.Nat.{suc, _+_, _-_, _≤_};
@@ -11,7 +11,8 @@ ghost use Rattle.protocol.specs.Session.{unopened, blank, onward, openStep, alp
 ghost use Rattle.protocol.specs.Session as steps;
 ghost use Rattle.protocol.specs.Meanings.{three, sizes, transcript};
 ghost use Rattle.protocol.specs.Meanings as meanings;
-ghost use Rattle.verifier.specs.Session.{sessionMeaning, steppedMeaning, finishedMeaning, sessionOf, sessionWords, transcriptOf, transcriptWords, threeAt};
+ghost use Rattle.verifier.specs.Session.{sessionMeaning, steppedMeaning, finishedMeaning, sessionOf, sessionWords, transcriptOf, threeAt};
+use crate::holdings::transcript_words;
 use crate::refusals;
 use field::MODULE_PRIME;
 use protocol::Fault;
@@ -57,7 +58,7 @@ const X_START: usize = 7;
 const TRANSCRIPT_START: usize = 1031;
 
 // A transcript before anything is heard.
-fn nothing() -> Transcript
+fn nothing_heard() -> Transcript
     ensures { λ r. ⌜ transcript r ≡ blank ⌝ }
 {
     let zeros = Triple { a: 0, b: 0, c: 0 };
@@ -125,29 +126,6 @@ fn transcript_in(words: &[u32; SESSION_WORDS]) -> Transcript
     }
 }
 
-// The words of a transcript.
-fn transcript_words(h: Transcript) -> [u32; SESSION_WORDS - TRANSCRIPT_START]
-    ensures { λ r. ⌜ r ≡ transcriptWords (transcript h) ⌝ }
-{
-    [
-        h.alpha,
-        h.sums.a,
-        h.sums.b,
-        h.sums.c,
-        h.eta.a,
-        h.eta.b,
-        h.eta.c,
-        h.beta,
-        h.values.a,
-        h.values.b,
-        h.values.c,
-        h.delta.a,
-        h.delta.b,
-        h.delta.c,
-        h.gamma,
-    ]
-}
-
 impl Session {
     // The session with these words, also one that no step made.
     pub fn from_words(words: &[u32; SESSION_WORDS]) -> Session
@@ -194,7 +172,7 @@ impl Session {
                 k: Triple { a: 0, b: 0, c: 0 },
             },
             x: [0u32; 1024],
-            transcript: nothing(),
+            transcript: nothing_heard(),
         }
     }
 
@@ -210,13 +188,13 @@ impl Session {
     }
 
     // The session one step on, with the transcript t.
-    fn taken(self, stage: u32, h: Transcript) -> Stepped
+    fn taken(self, stage: u32, t: Transcript) -> Stepped
         requires { ⌜ stage ≡ suc (self .stage) ⌝ }
-        ensures { λ r. ⌜ steppedMeaning r ≡ onward (sessionMeaning self) (transcript h) steps.Taken ⌝ }
+        ensures { λ r. ⌜ steppedMeaning r ≡ onward (sessionMeaning self) (transcript t) steps.Taken ⌝ }
     {
         let mut next = self;
         next.stage = stage;
-        next.transcript = h;
+        next.transcript = t;
         Stepped {
             session: next,
             answer: Answer::Taken,
@@ -234,7 +212,7 @@ impl Session {
                     stage: 1,
                     sizes: s,
                     x: padded(x),
-                    transcript: nothing(),
+                    transcript: nothing_heard(),
                 };
                 Stepped {
                     session: opened,
@@ -259,9 +237,9 @@ impl Session {
         ) {
             Fault::Refused(number, position) => self.refused(number, position),
             Fault::Fine => {
-                let mut h = self.transcript;
-                h.alpha = alpha;
-                self.taken(2, h)
+                let mut t = self.transcript;
+                t.alpha = alpha;
+                self.taken(2, t)
             }
         }
     }
@@ -273,10 +251,10 @@ impl Session {
         match refusals::judge_eta(MODULE_PRIME, self.stage, self.sizes, sums, eta) {
             Fault::Refused(number, position) => self.refused(number, position),
             Fault::Fine => {
-                let mut h = self.transcript;
-                h.sums = sums;
-                h.eta = eta;
-                self.taken(3, h)
+                let mut t = self.transcript;
+                t.sums = sums;
+                t.eta = eta;
+                self.taken(3, t)
             }
         }
     }
@@ -295,9 +273,9 @@ impl Session {
         ) {
             Fault::Refused(number, position) => self.refused(number, position),
             Fault::Fine => {
-                let mut h = self.transcript;
-                h.beta = beta;
-                self.taken(4, h)
+                let mut t = self.transcript;
+                t.beta = beta;
+                self.taken(4, t)
             }
         }
     }
@@ -316,10 +294,10 @@ impl Session {
         ) {
             Fault::Refused(number, position) => self.refused(number, position),
             Fault::Fine => {
-                let mut h = self.transcript;
-                h.values = values;
-                h.delta = delta;
-                self.taken(5, h)
+                let mut t = self.transcript;
+                t.values = values;
+                t.delta = delta;
+                self.taken(5, t)
             }
         }
     }
@@ -331,24 +309,32 @@ impl Session {
         match refusals::judge_gamma(MODULE_PRIME, self.stage, self.sizes, quotient, gamma) {
             Fault::Refused(number, position) => self.refused(number, position),
             Fault::Fine => {
-                let mut h = self.transcript;
-                h.gamma = gamma;
-                self.taken(6, h)
+                let mut t = self.transcript;
+                t.gamma = gamma;
+                self.taken(6, t)
             }
         }
     }
 
-    // The 21 openings, and the verdict; after it every step is out of turn.
+    // The 21 openings, and the verdict; after it every step but opening is out of turn.
     pub fn openings(self, o: Opened, index: [[u32; 4]; 3]) -> Finished
         ensures { λ r. ⌜ finishedMeaning r ≡ openingsStep babyBear (sessionMeaning self) (meanings.openings o index) ⌝ }
     {
-        match refusals::judge_openings(MODULE_PRIME, self.stage, self.sizes, o, index) {
+        let x = self.x;
+        match refusals::judge_openings(
+            MODULE_PRIME,
+            self.stage,
+            self.sizes,
+            &x,
+            self.transcript,
+            o,
+            index,
+        ) {
             Fault::Refused(number, position) => Finished {
                 session: self,
                 answer: LastAnswer::Refused(number, position),
             },
             Fault::Fine => {
-                let x = self.x;
                 let n = self.sizes.x as usize;
                 let verdict = verdict::verdict(
                     MODULE_PRIME,
