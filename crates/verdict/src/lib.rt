@@ -1,19 +1,20 @@
 // The three checks and the verdict. Any words are taken: a word of p or more stands for its remainder. No loop runs over R, C or K.
+// A check's contract is for every x, and for all openings of the index polynomials, where the check reads none.
 ghost use mathlib.Core.Path.{_≡_};
 ghost use mathlib.Core.Bool.{true};
-ghost use mathlib.Core.List.{map};
-ghost use Prim.Native.Nat.{_<_};
+ghost use mathlib.Core.List.{List, map};
+ghost use Prim.Native.Nat.{ℕ, _<_};
 ghost use lib.ListN.{length};
 ghost use Rattle.field.specs.Prime.{Prime};
-ghost use Rattle.field.specs.Element.{of, _⊗_, equal};
+ghost use Rattle.field.specs.Element.{Elem, of, _⊗_};
 ghost use Rattle.domain.specs.Size.{isSize};
 ghost use Rattle.domain.specs.Polynomial.{eval, interpolate};
 ghost use Rattle.domain.specs.Qualifies.{Qualifies};
 ghost use Rattle.domain.specs.Known.{Known};
 ghost use Rattle.protocol.specs.Three.{MatrixName, at, mapThree};
 ghost use Rattle.protocol.specs.Index.{mapIndex};
-ghost use Rattle.protocol.specs.Checks.{mapTranscript, mapOpenings, rowLeft, rowRight, weighted, assignmentValue, lineLeft, lineRight};
-ghost use Rattle.protocol.specs.Checks.{numeratorValue, denominatorValue, matrixLeft, joinedLeft, joinedRight};
+ghost use Rattle.protocol.specs.Checks.{mapTranscript, mapOpenings, weighted, assignmentValue, lineRight};
+ghost use Rattle.protocol.specs.Checks.{numeratorValue, denominatorValue, matrixLeft, Row, Line, Matrix, passes};
 ghost use Rattle.protocol.specs.Checks as checks;
 ghost use Rattle.protocol.specs.Refusals.{sixSizeTests};
 ghost use Rattle.protocol.specs.Session.{all};
@@ -27,13 +28,14 @@ use protocol::Verdict;
 use protocol::six_sizes::largest;
 
 // Row: σ_A σ_B - σ_C = h0(α) v_R(α).
-fn row_holds(p: u32, s: Sizes, sums: Triple, alpha: u32, quotient: u32) -> bool
+fn row_holds(p: u32, s: Sizes, t: Transcript, o: Opened) -> bool
     requires { ⌜ 1 < p ⌝ }
-    ensures { λ r. ⌜ ((q : Prime) → q .p ≡ p
-        → r ≡ equal (rowLeft (mapThree (of {q = q}) (three sums))) (rowRight (sizes s) (of alpha) (of quotient))) ⌝ }
+    ensures { λ r. ⌜ ((q : Prime) → q .p ≡ p → (x : List (Elem q)) (index : List (List ℕ))
+        → r ≡ passes (sizes s) x (mapTranscript of (transcript t)) (mapOpenings of (openings o index)) Row) ⌝ }
 {
+    let sums = t.sums;
     let left = field::subtract(p, field::multiply(p, sums.a, sums.b), sums.c);
-    let right = field::multiply(p, quotient, domain::vanishing_value(p, s.r, alpha));
+    let right = field::multiply(p, o.rowQuotient, domain::vanishing_value(p, s.r, t.alpha));
     left == right
 }
 
@@ -93,22 +95,19 @@ fn line_right(p: u32, s: Sizes, beta: u32, sum: u32, remainder: u32, quotient: u
 }
 
 // Line: m(β) + (Σ η_M ω_M) ẑ(β) = h1(β) v_C(β) + β g1(β) + σ/|C|.
-fn line_holds(p: u32, s: Sizes, x: &[u32], h: Transcript, o: Opened) -> bool
+fn line_holds(p: u32, s: Sizes, x: &[u32], t: Transcript, o: Opened) -> bool
     requires { ⌜ 1 < p ⌝ }
     requires { ⌜ isSize (s .x) ≡ true ⌝ }
     requires { ⌜ length (now x) ≡ s .x ⌝ }
-    ensures { λ r. ⌜ ((q : Prime) → Known q p → Qualifies q
-        → r ≡ equal (lineLeft (mapThree (of {q = q}) (three (h .eta))) (mapThree of (three (h .values))) (of (o .mask))
-        (assignmentValue (sizes s) (map of (now (x .entry))) (of (h .beta)) (of (o .witness))))
-        (lineRight (sizes s) (of (h .beta)) (weighted (mapThree of (three (h .eta))) (mapThree of (three (h .sums))))
-        (of (o .lineRemainder)) (of (o .lineQuotient)))) ⌝ }
+    ensures { λ r. ⌜ ((q : Prime) → Known q p → Qualifies q → (index : List (List ℕ))
+        → r ≡ passes (sizes s) (map (of {q = q}) (now (x .entry))) (mapTranscript of (transcript t)) (mapOpenings of (openings o index)) Line) ⌝ }
 {
-    let eta = h.eta;
-    let values = weighted_sum(p, eta, h.values);
-    let sum = weighted_sum(p, eta, h.sums);
-    let z = assignment_value(p, s, x, h.beta, o.witness);
+    let eta = t.eta;
+    let values = weighted_sum(p, eta, t.values);
+    let sum = weighted_sum(p, eta, t.sums);
+    let z = assignment_value(p, s, x, t.beta, o.witness);
     let left = field::add(p, o.mask, field::multiply(p, values, z));
-    left == line_right(p, s, h.beta, sum, o.lineRemainder, o.lineQuotient)
+    left == line_right(p, s, t.beta, sum, o.lineRemainder, o.lineQuotient)
 }
 
 // a_M = v_R(α) v_C(β) rowcolval_M.
@@ -136,25 +135,24 @@ fn denominator_value(p: u32, s: Sizes, alpha: u32, beta: u32, index: [u32; 4]) -
     field::multiply(p, field::multiply(p, s.r, s.c), both)
 }
 
-// a_M - b_M (γ g_M + ω_M/|K_M|), with |K_M| = size.
+// a_M - b_M (γ g_M + ω_M/|K_M|), with |K_M| = size and ω_M = value.
 fn matrix_left(
     p: u32,
     s: Sizes,
-    h: Transcript,
+    t: Transcript,
     size: u32,
     value: u32,
     index: [u32; 4],
     remainder: u32,
 ) -> u32
     requires { ⌜ 1 < p ⌝ }
-    ensures { λ r. ⌜ ((q : Prime) → q .p ≡ p → (M : MatrixName) → at (sizes s .|K|) M ≡ size
-        → r ≡ (matrixLeft (sizes s) M (of {q = q} (h .alpha)) (of (h .beta)) (of value) (mapIndex of (indexWords index)) (of (h .gamma))
-        (of remainder)) .word) ⌝ }
+    ensures { λ r. ⌜ ((q : Prime) → q .p ≡ p → (M : MatrixName) → at (sizes s .|K|) M ≡ size → at (three (t .values)) M ≡ value
+        → r ≡ (matrixLeft (sizes s) (mapTranscript (of {q = q}) (transcript t)) M (mapIndex of (indexWords index)) (of remainder)) .word) ⌝ }
 {
-    let numerator = numerator_value(p, s, h.alpha, h.beta, index);
-    let denominator = denominator_value(p, s, h.alpha, h.beta, index);
+    let numerator = numerator_value(p, s, t.alpha, t.beta, index);
+    let denominator = denominator_value(p, s, t.alpha, t.beta, index);
     let mean = field::multiply(p, value, field::invert(p, size));
-    let ratio = field::add(p, field::multiply(p, h.gamma, remainder), mean);
+    let ratio = field::add(p, field::multiply(p, t.gamma, remainder), mean);
     field::subtract(p, numerator, field::multiply(p, denominator, ratio))
 }
 
@@ -170,11 +168,11 @@ fn selector(p: u32, s: Sizes, size: u32, gamma: u32) -> u32
     field::multiply(p, dividend, field::invert(p, divisor))
 }
 
-// δ_M s_M (a_M - b_M (γ g_M + ω_M/|K_M|)), with |K_M| = size.
+// δ_M s_M (a_M - b_M (γ g_M + ω_M/|K_M|)), with |K_M| = size, δ_M = delta and ω_M = value.
 fn matrix_term(
     p: u32,
     s: Sizes,
-    h: Transcript,
+    t: Transcript,
     size: u32,
     delta: u32,
     value: u32,
@@ -182,38 +180,36 @@ fn matrix_term(
     remainder: u32,
 ) -> u32
     requires { ⌜ 1 < p ⌝ }
-    ensures { λ r. ⌜ ((q : Prime) → q .p ≡ p → (M : MatrixName) → at (sizes s .|K|) M ≡ size
-        → r ≡ (of {q = q} delta ⊗ checks.selector (sizes s) M (of (h .gamma))
-        ⊗ matrixLeft (sizes s) M (of (h .alpha)) (of (h .beta)) (of value) (mapIndex of (indexWords index)) (of (h .gamma)) (of remainder)) .word) ⌝ }
+    ensures { λ r. ⌜ ((q : Prime) → q .p ≡ p → (M : MatrixName) → at (sizes s .|K|) M ≡ size → at (three (t .values)) M ≡ value
+        → r ≡ (of {q = q} delta ⊗ checks.selector (sizes s) M (of (t .gamma))
+        ⊗ matrixLeft (sizes s) (mapTranscript of (transcript t)) M (mapIndex of (indexWords index)) (of remainder)) .word) ⌝ }
 {
-    let weight = field::multiply(p, delta, selector(p, s, size, h.gamma));
+    let weight = field::multiply(p, delta, selector(p, s, size, t.gamma));
     field::multiply(
         p,
         weight,
-        matrix_left(p, s, h, size, value, index, remainder),
+        matrix_left(p, s, t, size, value, index, remainder),
     )
 }
 
 // Matrix: Σ δ_M s_M (a_M - b_M (γ g_M + ω_M/|K_M|)) = h2(γ) v_K(γ).
-fn matrix_holds(p: u32, s: Sizes, h: Transcript, o: Opened, index: [[u32; 4]; 3]) -> bool
+fn matrix_holds(p: u32, s: Sizes, t: Transcript, o: Opened, index: [[u32; 4]; 3]) -> bool
     requires { ⌜ 1 < p ⌝ }
-    ensures { λ r. ⌜ ((q : Prime) → q .p ≡ p
-        → r ≡ equal (joinedLeft (sizes s) (of {q = q} (h .alpha)) (of (h .beta)) (mapThree of (three (h .values))) (mapThree of (three (h .delta)))
-        (mapThree (mapIndex of) (openings o index .index)) (of (h .gamma)) (mapThree of (three (o .matrixRemainders))))
-        (joinedRight (sizes s) (of (h .gamma)) (of (o .joinedQuotient)))) ⌝ }
+    ensures { λ r. ⌜ ((q : Prime) → q .p ≡ p → (x : List (Elem q))
+        → r ≡ passes (sizes s) x (mapTranscript of (transcript t)) (mapOpenings of (openings o index)) Matrix) ⌝ }
 {
     let k = s.k;
-    let delta = h.delta;
-    let value = h.values;
+    let delta = t.delta;
+    let value = t.values;
     let remainder = o.matrixRemainders;
-    let a = matrix_term(p, s, h, k.a, delta.a, value.a, index[0], remainder.a);
-    let b = matrix_term(p, s, h, k.b, delta.b, value.b, index[1], remainder.b);
-    let c = matrix_term(p, s, h, k.c, delta.c, value.c, index[2], remainder.c);
+    let a = matrix_term(p, s, t, k.a, delta.a, value.a, index[0], remainder.a);
+    let b = matrix_term(p, s, t, k.b, delta.b, value.b, index[1], remainder.b);
+    let c = matrix_term(p, s, t, k.c, delta.c, value.c, index[2], remainder.c);
     let left = field::add(p, field::add(p, a, b), c);
     let right = field::multiply(
         p,
         o.joinedQuotient,
-        domain::vanishing_value(p, largest(k), h.gamma),
+        domain::vanishing_value(p, largest(k), t.gamma),
     );
     left == right
 }
@@ -223,7 +219,7 @@ pub fn verdict(
     p: u32,
     s: Sizes,
     x: &[u32],
-    h: Transcript,
+    t: Transcript,
     o: Opened,
     index: [[u32; 4]; 3],
 ) -> Verdict
@@ -231,15 +227,15 @@ pub fn verdict(
     requires { ⌜ all (sixSizeTests (sizes s)) ≡ true ⌝ }
     requires { ⌜ length (now x) ≡ s .x ⌝ }
     ensures { λ r. ⌜ ((q : Prime) → Known q p → Qualifies q
-        → verdictMeaning r ≡ checks.verdict (sizes s) (map (of {q = q}) (now (x .entry))) (mapTranscript of (transcript h)) (mapOpenings of (openings o index))) ⌝ }
+        → verdictMeaning r ≡ checks.verdict (sizes s) (map (of {q = q}) (now (x .entry))) (mapTranscript of (transcript t)) (mapOpenings of (openings o index))) ⌝ }
 {
-    if !row_holds(p, s, h.sums, h.alpha, o.rowQuotient) {
+    if !row_holds(p, s, t, o) {
         return Verdict::Fails(Check::Row);
     }
-    if !line_holds(p, s, x, h, o) {
+    if !line_holds(p, s, x, t, o) {
         return Verdict::Fails(Check::Line);
     }
-    if !matrix_holds(p, s, h, o, index) {
+    if !matrix_holds(p, s, t, o, index) {
         return Verdict::Fails(Check::Matrix);
     }
     Verdict::Accept

@@ -1,9 +1,8 @@
 -- `verdict::line_holds` meets its contract. Assumes nothing.
 use Rattle.field.proofs.Words.{of-result}
-use Rattle.field.specs.Element.{Elem, of, _⊗_}
-use Rattle.protocol.specs.Checks.{weighted, assignmentValue, lineLeft}
-use Rattle.protocol.specs.Meanings.{three, sizes}
-use Rattle.protocol.specs.Three.{Three, mapThree}
+use Rattle.field.specs.Element.{of, _⊗_}
+use Rattle.protocol.specs.Checks.{mapTranscript, weighted, assignmentValue, lineLeft}
+use Rattle.protocol.specs.Meanings.{sizes, transcript}
 use borrow.Author.Needs.{needs}
 use mathlib.Core.List.{map}
 use Rattle.verdict.proofs.line_holds.Statement.{statement}
@@ -29,15 +28,15 @@ line-right-requires c κs = search needs
 
 returns : tie.Need-returns
 unfolding lineLeft
-returns c q K Q =
+returns c q K Q index =
     let a = c .before .before .before .before .before .before .before .before .args in
-    let η : Three (Elem q) = mapThree of (three (a .h .eta)) in
+    let t = mapTranscript (of {q = q}) (transcript (a .t)) in
     let values = c .before .before .before .before .before .weighted-sum in
-    let values-is = of-result (weighted η (mapThree of (three (a .h .values)))) (values .ensures q (K .value)) in
+    let values-is = of-result (weighted (t .η) (t .values)) (values .ensures q (K .value)) in
     let sum = c .before .before .before .before .weighted-sum2 in
-    let sum-is = of-result (weighted η (mapThree of (three (a .h .sums)))) (sum .ensures q (K .value)) in
+    let sum-is = of-result (weighted (t .η) (t .sums)) (sum .ensures q (K .value)) in
     let z = c .before .before .before .assignment-value in
-    let z-is = of-result (assignmentValue (sizes (a .s)) (map of (a .x .now)) (of {q = q} (a .h .beta)) (of (a .o .witness))) (z .ensures q K Q) in
+    let z-is = of-result (assignmentValue (sizes (a .s)) (map of (a .x .now)) (t .β) (of (a .o .witness))) (z .ensures q K Q) in
     let product = c .before .before .multiply in
     let product-is = of-result (of {q = q} (values .result) ⊗ of (z .result)) (product .ensures q (K .value)) in
     let left = c .before .add in

@@ -2,9 +2,8 @@
 use Rattle.domain.specs.Domain.{vanishing}
 use Rattle.field.proofs.Words.{of-result}
 use Rattle.field.specs.Element.{Elem, of, _⊕_, _⊗_}
-use Rattle.protocol.specs.Checks.{selector, matrixLeft, joinedLeft, joinedRight}
-use Rattle.protocol.specs.Index.{mapIndex}
-use Rattle.protocol.specs.Meanings.{three, sizes, openings}
+use Rattle.protocol.specs.Checks.{mapTranscript, mapOpenings, selector, matrixLeft, joinedLeft, joinedRight}
+use Rattle.protocol.specs.Meanings.{sizes, transcript, openings}
 use Rattle.protocol.specs.Three.{MatrixName, A, B, C, at}
 use borrow.Author.Needs.{needs}
 use mathlib.Core.Path.{refl}
@@ -46,21 +45,19 @@ multiply-requires c κs = search needs
 
 returns : tie.Need-returns
 unfolding joinedLeft joinedRight
-returns c q e =
+returns c q e x =
     let a = c .before .before .before .before .before .before .before .before .before .before .before .before .before .before .before .args in
     let s = sizes (a .s) in
-    let h = a .h in
-    let γ : Elem q = of (h .gamma) in
+    let t = mapTranscript (of {q = q}) (transcript (a .t)) in
+    let o = mapOpenings (of {q = q}) (openings (a .o) (a .t5)) in
     let term : MatrixName → Elem q = λ M.
-    of (at (three (h .delta)) M) ⊗ selector s M γ
-    ⊗ matrixLeft s M (of (h .alpha)) (of (h .beta)) (of (at (three (h .values)) M)) (mapIndex of (at (openings (a .o) (a .t5) .index) M)) γ
-    (of (at (three (a .o .matrixRemainders)) M)) in
+    at (t .δ) M ⊗ selector s M (t .γ) ⊗ matrixLeft s t M (at (o .index) M) (at (o .matrixRemainders) M) in
     let first = c .before .before .before .before .before .before .before .before .before .matrix-term in
-    let first-is = of-result (term A) (first .ensures q e A refl) in
+    let first-is = of-result (term A) (first .ensures q e A refl refl) in
     let second = c .before .before .before .before .before .before .before .matrix-term2 in
-    let second-is = of-result (term B) (second .ensures q e B refl) in
+    let second-is = of-result (term B) (second .ensures q e B refl refl) in
     let third = c .before .before .before .before .before .matrix-term3 in
-    let third-is = of-result (term C) (third .ensures q e C refl) in
+    let third-is = of-result (term C) (third .ensures q e C refl refl) in
     let two = c .before .before .before .before .add in
     let two-is = of-result (of (first .result) ⊕ of (second .result)) (two .ensures q e) in
     let left = c .before .before .before .add2 in
@@ -68,7 +65,7 @@ returns c q e =
     let n = c .before .before .largest in
     let n-is = n .ensures in
     let vanish = c .before .vanishing-value in
-    let vanish-is = of-result (vanishing (n .result) γ) (vanish .ensures q e) in
+    let vanish-is = of-result (vanishing (n .result) (t .γ)) (vanish .ensures q e) in
     let right = c .multiply in
     let right-is = right .ensures q e in
     cc

@@ -1,9 +1,9 @@
 -- `verdict::matrix_term` meets its contract. Assumes nothing.
 use Rattle.field.proofs.Words.{of-result}
-use Rattle.field.specs.Element.{Elem, of, _⊗_}
-use Rattle.protocol.specs.Checks.{selector, matrixLeft}
+use Rattle.field.specs.Element.{of, _⊗_}
+use Rattle.protocol.specs.Checks.{mapTranscript, selector, matrixLeft}
 use Rattle.protocol.specs.Index.{mapIndex}
-use Rattle.protocol.specs.Meanings.{sizes, indexWords}
+use Rattle.protocol.specs.Meanings.{sizes, transcript, indexWords}
 use borrow.Author.Needs.{needs}
 use Rattle.verdict.proofs.matrix_term.Statement.{statement}
 use Rattle.verdict.proofs.matrix_term.Tie as tie
@@ -21,17 +21,17 @@ multiply-requires-2 : tie.Need-multiply-requires-2
 multiply-requires-2 c κs = search needs
 
 returns : tie.Need-returns
-returns c q e M k =
+returns c q e M k v =
     let a = c .before .before .before .before .args in
     let s = sizes (a .s) in
-    let γ : Elem q = of (a .h .gamma) in
+    let t = mapTranscript (of {q = q}) (transcript (a .t)) in
     let index = mapIndex (of {q = q}) (indexWords (a .index)) in
     let share = c .before .before .before .selector in
-    let share-is = of-result (selector s M γ) (share .ensures q e M k) in
+    let share-is = of-result (selector s M (t .γ)) (share .ensures q e M k) in
     let weight = c .before .before .multiply in
     let weight-is = of-result (of {q = q} (a .delta) ⊗ of (share .result)) (weight .ensures q e) in
     let left = c .before .matrix-left in
-    let left-is = of-result (matrixLeft s M (of (a .h .alpha)) (of (a .h .beta)) (of (a .value)) index γ (of (a .remainder))) (left .ensures q e M k) in
+    let left-is = of-result (matrixLeft s t M index (of (a .remainder))) (left .ensures q e M k v) in
     let term = c .multiply2 in
     let term-is = term .ensures q e in
     cc

@@ -21,14 +21,14 @@ multiply-requires-2 c κs = search needs
 
 returns : tie.Need-returns
 unfolding rowLeft rowRight
-returns c q e =
-    let a = c .before .before .before .before .args in
+returns c q e x index =
+    let a = c .before .before .before .before .before .args in
     let product = c .before .before .before .multiply in
-    let product-is = of-result (of {q = q} (a .sums .a) ⊗ of (a .sums .b)) (product .ensures q e) in
+    let product-is = of-result (of {q = q} (a .t .sums .a) ⊗ of (a .t .sums .b)) (product .ensures q e) in
     let left = c .before .before .subtract in
     let left-is = left .ensures q e in
     let vanish = c .before .vanishing-value in
-    let vanish-is = of-result (vanishing (a .s .r) (of {q = q} (a .alpha))) (vanish .ensures q e) in
+    let vanish-is = of-result (vanishing (a .s .r) (of {q = q} (a .t .alpha))) (vanish .ensures q e) in
     let right = c .multiply2 in
     let right-is = right .ensures q e in
     cc

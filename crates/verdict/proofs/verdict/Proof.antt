@@ -1,20 +1,30 @@
--- `verdict::verdict` meets its contract. Assumes nothing.
+-- `verdict::verdict` meets its contract. Where a check reads no x, or no openings of index polynomials, [] stands for them. Assumes
+-- nothing.
 use Rattle.algebra.proofs.Choice.{pick-true, pick-false}
 use Rattle.protocol.specs.Checks.{verdict}
 use Rattle.protocol.specs.Meanings.{sizes}
 use Rattle.verdict.proofs.AllowedSizes.{allowed}
 use borrow.Author.Needs.{needs}
 use borrow.Author.Tests.{not-true, not-false}
-use mathlib.Core.Path.{sym, _∙_}
+use mathlib.Core.Bool.{Bool, true, false, not}
+use mathlib.Core.List.{[]}
+use mathlib.Core.Path.{_≡_, sym, _∙_}
 use Rattle.verdict.proofs.verdict.Statement.{statement}
 use Rattle.verdict.proofs.verdict.Tie as tie
+
+-- a test that was found to fail, or to pass
+fails : {found test : Bool} → found ≡ test → not found ≡ true → test ≡ false
+fails e n = sym e ∙ not-true _ n
+
+holds : {found test : Bool} → found ≡ test → not found ≡ false → test ≡ true
+holds e n = sym e ∙ not-false _ n
 
 row-holds-requires : tie.Need-row-holds-requires
 row-holds-requires c κs = search needs
 
 returns : tie.Need-returns
 unfolding verdict
-returns c q K Q = sym (pick-false _ _ (sym (c .before .row-holds .ensures q (K .value)) ∙ not-true _ (c .if1 .taken)))
+returns c q K Q = sym (pick-false _ _ (fails (c .before .row-holds .ensures q (K .value) [] []) (c .if1 .taken)))
 
 line-holds-requires : tie.Need-line-holds-requires
 line-holds-requires c κs = let start = c .before .before .before in (search needs, (allowed (sizes (start .args .s)) (start .pre .1 .0) .X-size, search needs))
@@ -22,10 +32,10 @@ line-holds-requires c κs = let start = c .before .before .before in (search nee
 returns-2 : tie.Need-returns-2
 unfolding verdict
 returns-2 c q K Q =
+    let row = c .before .before in
     sym
-    (pick-true _ _
-    (sym (c .before .before .before .row-holds .ensures q (K .value)) ∙ not-false _ (c .before .before .if1 .left))
-    ∙ pick-false _ _ (sym (c .before .line-holds .ensures q K Q) ∙ not-true _ (c .if2 .taken)))
+    (pick-true _ _ (holds (row .before .row-holds .ensures q (K .value) [] []) (row .if1 .left))
+    ∙ pick-false _ _ (fails (c .before .line-holds .ensures q K Q []) (c .if2 .taken)))
 
 matrix-holds-requires : tie.Need-matrix-holds-requires
 matrix-holds-requires c κs = search needs
@@ -33,20 +43,22 @@ matrix-holds-requires c κs = search needs
 returns-3 : tie.Need-returns-3
 unfolding verdict
 returns-3 c q K Q =
+    let line = c .before .before in
+    let row = line .before .before in
     sym
-    (pick-true _ _
-    (sym (c .before .before .before .before .before .row-holds .ensures q (K .value)) ∙ not-false _ (c .before .before .before .before .if1 .left))
-    ∙ pick-true _ _ (sym (c .before .before .before .line-holds .ensures q K Q) ∙ not-false _ (c .before .before .if2 .left))
-    ∙ pick-false _ _ (sym (c .before .matrix-holds .ensures q (K .value)) ∙ not-true _ (c .if3 .taken)))
+    (pick-true _ _ (holds (row .before .row-holds .ensures q (K .value) [] []) (row .if1 .left))
+    ∙ pick-true _ _ (holds (line .before .line-holds .ensures q K Q []) (line .if2 .left))
+    ∙ pick-false _ _ (fails (c .before .matrix-holds .ensures q (K .value) []) (c .if3 .taken)))
 
 returns-4 : tie.Need-returns-4
 unfolding verdict
 returns-4 c q K Q =
+    let line = c .before .before in
+    let row = line .before .before in
     sym
-    (pick-true _ _
-    (sym (c .before .before .before .before .before .row-holds .ensures q (K .value)) ∙ not-false _ (c .before .before .before .before .if1 .left))
-    ∙ pick-true _ _ (sym (c .before .before .before .line-holds .ensures q K Q) ∙ not-false _ (c .before .before .if2 .left))
-    ∙ pick-true _ _ (sym (c .before .matrix-holds .ensures q (K .value)) ∙ not-false _ (c .if3 .left)))
+    (pick-true _ _ (holds (row .before .row-holds .ensures q (K .value) [] []) (row .if1 .left))
+    ∙ pick-true _ _ (holds (line .before .line-holds .ensures q K Q []) (line .if2 .left))
+    ∙ pick-true _ _ (holds (c .before .matrix-holds .ensures q (K .value) []) (c .if3 .left)))
 
 pub verdict-spec : {M : Type 1} → statement M
 verdict-spec =
