@@ -1,6 +1,6 @@
 -- What the six tests of the sizes say. Assumes nothing.
 use mathlib.Core.Path.{_≡_}
-use mathlib.Core.Bool.{true, _&&_}
+use mathlib.Core.Bool.{true}
 use Prim.Native.Nat.{ℕ, _≤_, _<_, max}
 use lib.Dec.{leb, eqb}
 use borrow.Author.Tests.{leb-true}
@@ -10,7 +10,7 @@ use Rattle.protocol.specs.Three.{MatrixName, A, B, C, at}
 use Rattle.protocol.specs.Circuit.{Sizes, largest}
 use Rattle.protocol.specs.Refusals.{sizeTests, sixSizeTests}
 use Rattle.protocol.specs.Session.{all, inTurn}
-use Rattle.protocol.proofs.RefusalLaws.{and-true}
+use Rattle.protocol.proofs.RefusalLaws.{and-true, true-all}
 
 pub record Allowed (s : Sizes) : Type 0 where
   pub R-size : isSize (s .|R|) ≡ true
@@ -22,18 +22,13 @@ pub record Allowed (s : Sizes) : Type 0 where
 pub allowed : (s : Sizes) → all (sixSizeTests s) ≡ true → Allowed s
 unfolding sixSizeTests sizeTests
 allowed s e =
-    let (r, e1) = and-true (isSize (s .|R|)) _ e in
-    let (c, e2) = and-true (isSize (s .|C|)) _ e1 in
-    let (x, e3) = and-true (isSize (s .|X|) && leb (s .|X|) (s .|C|)) _ e2 in
-    let (xs, xc) = and-true (isSize (s .|X|)) _ x in
-    let (a, e4) = and-true (isSize (s .|K| .a)) _ e3 in
-    let (b, e5) = and-true (isSize (s .|K| .b)) _ e4 in
-    let (d, e6) = and-true (isSize (s .|K| .c)) _ e5 in
+    let (r, (c, (x, (a, (b, (d, _)))))) = true-all (sixSizeTests s) e in
+    let (size, within) = and-true (isSize (s .|X|)) (leb (s .|X|) (s .|C|)) x in
     record {
       R-size = r;
       C-size = c;
-      X-size = xs;
-      X-within = leb-true (s .|X|) (s .|C|) xc;
+      X-size = size;
+      X-within = leb-true (s .|X|) (s .|C|) within;
       K-size = elim [ A ↦ a | B ↦ b | C ↦ d ];
     }
 
