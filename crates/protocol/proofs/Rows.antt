@@ -81,6 +81,11 @@ first-append (none ∷ l) m = first-append l m
 first-append (some r ∷ l) m = refl
 
 -- the rows before the last, taken together
+pub first-front : (l m : List (Option Refusal)) → first (first l ∷ m) ≡ first (l ++ m)
+first-front [] m = refl
+first-front (none ∷ l) m = first-front l m
+first-front (some r ∷ l) m = refl
+
 pub first-before-last : (l : List (Option Refusal)) (o : Option Refusal) → first (l ++ (o ∷ [])) ≡ first (first l ∷ o ∷ [])
 first-before-last l o = first-append l (o ∷ []) ∙ ap (λ u. first (first l ∷ u ∷ [])) (first-only o)
 

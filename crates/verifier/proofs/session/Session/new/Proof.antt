@@ -9,8 +9,8 @@ use mathlib.Core.Path.{ap}
 use Rattle.verifier.proofs.session.Session.new.Statement.{statement}
 use Rattle.verifier.proofs.session.Session.new.Tie as tie
 
-nothing-requires : tie.Need-nothing-requires
-nothing-requires c κs = search needs
+nothing-heard-requires : tie.Need-nothing-heard-requires
+nothing-heard-requires c κs = search needs
 
 returns : tie.Need-returns
 unfolding unopened
@@ -18,7 +18,7 @@ returns c =
     ap
     {B = steps.Session}
     (λ h. record { stage = 0; sizes = record { |R| = 0; |C| = 0; |X| = 0; |K| = each (λ M. 0) }; x = replicate maxSize 0; transcript = h })
-    (c .nothing .ensures)
+    (c .nothing-heard .ensures)
 
 pub new-spec : {M : Type 1} → statement M
-new-spec = tie.close (tie.spec nothing-requires returns)
+new-spec = tie.close (tie.spec nothing-heard-requires returns)

@@ -34,8 +34,8 @@ padded-requires c κs =
     let a = j .before .before .args in
     words-fit babyBear (sizes (a .s)) (a .x .now) (judged j ∙ ap faultRefusal (c .enum-told .given .1))
 
-nothing-requires : tie.Need-nothing-requires
-nothing-requires c κs = search needs
+nothing-heard-requires : tie.Need-nothing-heard-requires
+nothing-heard-requires c κs = search needs
 
 returns : tie.Need-returns
 unfolding openStep
@@ -47,7 +47,7 @@ returns-2 c =
     let j = c .before .before .before .before in
     let opened : List ℕ → Transcript ℕ → steps.Stepped = λ x h.
     record { session = record { stage = 1; sizes = sizes (j .before .before .args .s); x = x; transcript = h }; answer = Taken } in
-    rw (judged j ∙ ap faultRefusal (c .before .before .enum-told .given .1)) (ap₂ opened (c .before .padded .ensures) (c .nothing .ensures))
+    rw (judged j ∙ ap faultRefusal (c .before .before .enum-told .given .1)) (ap₂ opened (c .before .padded .ensures) (c .nothing-heard .ensures))
 
 pub open-spec : {M : Type 1} → statement M
 open-spec =
@@ -58,6 +58,6 @@ open-spec =
     refused-requires
     enum-told
     padded-requires
-    nothing-requires
+    nothing-heard-requires
     returns
     returns-2)

@@ -1,0 +1,71 @@
+use borrow.Author.Needs.{needs}
+use Rattle.verifier.proofs.refusals.judge_gamma.Statement.{statement}
+use Rattle.verifier.proofs.refusals.judge_gamma.Tie as tie
+use Rattle.verifier.proofs.refusals.judge_gamma.Reads as reads
+use Rattle.verifier.proofs.refusals.judge_gamma.Lts as lts
+use Rattle.protocol.proofs.is_fine.Reads as is-fine-reads
+use Rattle.protocol.proofs.lengths.message_lengths.Reads as message-lengths-reads
+use Rattle.protocol.proofs.scans.first_failed.Reads as first-failed-reads
+use Rattle.protocol.proofs.six_sizes.largest.Reads as largest-reads
+use Rattle.verifier.proofs.refusals.judge_challenge.Reads as judge-challenge-reads
+use Rattle.verifier.proofs.refusals.judge_turn.Reads as judge-turn-reads
+
+-- src/refusals.rt:174:9
+judge-turn-requires : tie.Need-judge-turn-requires
+judge-turn-requires c κs = search needs
+
+-- src/refusals.rt:175:9
+is-fine-requires : tie.Need-is-fine-requires
+is-fine-requires c κs = search needs
+
+-- src/refusals.rt:176:9
+returns : tie.Need-returns
+returns c = ?
+
+-- src/refusals.rt:178:43
+largest-requires : tie.Need-largest-requires
+largest-requires c κs = search needs
+
+-- src/refusals.rt:178:9
+judge-challenge-requires : tie.Need-judge-challenge-requires
+judge-challenge-requires c κs = ?
+
+-- src/refusals.rt:179:9
+is-fine-requires-2 : tie.Need-is-fine-requires-2
+is-fine-requires-2 c κs = search needs
+
+-- src/refusals.rt:180:9
+returns-2 : tie.Need-returns-2
+returns-2 c = ?
+
+-- src/refusals.rt:182:39
+message-lengths-requires : tie.Need-message-lengths-requires
+message-lengths-requires c κs = search needs
+
+-- src/refusals.rt:183:25
+slice-aggregate-first-failed : tie.Need-slice-aggregate-first-failed
+slice-aggregate-first-failed c = search needs
+
+-- src/refusals.rt:183:5
+first-failed-requires : tie.Need-first-failed-requires
+first-failed-requires c κs = search needs
+
+-- src/refusals.rt:170:1
+returns-3 : tie.Need-returns-3
+returns-3 c = ?
+
+pub judge-gamma-spec : {M : Type 1} → statement M
+judge-gamma-spec =
+    tie.close
+    (tie.spec
+    judge-turn-requires
+    is-fine-requires
+    returns
+    largest-requires
+    judge-challenge-requires
+    is-fine-requires-2
+    returns-2
+    message-lengths-requires
+    slice-aggregate-first-failed
+    first-failed-requires
+    returns-3)
