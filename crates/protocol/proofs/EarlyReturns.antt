@@ -2,7 +2,7 @@
 -- that is only asked whether it is fine. Assumes nothing.
 use mathlib.Core.Path.{_≡_, refl, sym, ap, _∙_}
 use mathlib.Core.Bool.{Bool, true, false}
-use mathlib.Core.List.{List, [], _∷_}
+use mathlib.Core.List.{List, [], _∷_, _++_}
 use mathlib.Core.Option.{Option, none, some}
 use Prim.Native.Nat.{ℕ, suc}
 use native.Mathlib.Omega.{arith}
@@ -12,7 +12,7 @@ use Rattle.protocol.specs.Meanings.{faultRefusal, isFine}
 use Rattle.protocol.specs.Refusals.{Refusal, first, refuse}
 use Rattle.protocol.specs.Session.{all}
 use Rattle.protocol.proofs.RefusalLaws.{refuse-none, all-true}
-use Rattle.protocol.proofs.Rows.{first-only}
+use Rattle.protocol.proofs.Rows.{first-only, first-front}
 
 -- an answer that refuses is the first refusal; after one that does not, the first is among the others
 module _ (f : Fault) {o : Option Refusal} (says : faultRefusal f ≡ o) where
@@ -32,6 +32,14 @@ module _ (f : Fault) {o : Option Refusal} (says : faultRefusal f ≡ o) where
 
   pub goes-on : (l : List (Option Refusal)) {x : Option Refusal} → isFine f ≡ true → x ≡ first l → x ≡ first (o ∷ l)
   goes-on l fine e = e ∙ ap (λ o. first (o ∷ l)) (sym (fine-none fine))
+
+-- the same for an answer on several rows
+module _ (f : Fault) (front : List (Option Refusal)) (says : faultRefusal f ≡ first front) where
+  pub stops-among : (l : List (Option Refusal)) → isFine f ≡ false → faultRefusal f ≡ first (front ++ l)
+  stops-among l stop = stops f says l stop ∙ first-front front l
+
+  pub goes-past : (l : List (Option Refusal)) {x : Option Refusal} → isFine f ≡ true → x ≡ first l → x ≡ first (front ++ l)
+  goes-past l fine e = goes-on f says l fine e ∙ first-front front l
 
 -- the last answer of several
 pub last-answer : {x o : Option Refusal} → x ≡ o → x ≡ first (o ∷ [])

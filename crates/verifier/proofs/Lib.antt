@@ -1,4 +1,4 @@
-pub mod FirstLaws
 pub mod Padding
 pub mod SessionWords
+pub mod StepTurns
 pub mod Turns

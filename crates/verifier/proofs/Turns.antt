@@ -1,7 +1,7 @@
 -- What it means for the code that nothing refuses a step: it is in turn, with sizes that are allowed; and public words fit the
 -- session. Assumes nothing.
-use mathlib.Core.Path.{_≡_, sym}
-use mathlib.Core.Bool.{true}
+use mathlib.Core.Path.{_≡_}
+use mathlib.Core.Bool.{Bool, true, _&&_}
 use mathlib.Core.List.{List, [], _∷_, _++_}
 use mathlib.Core.Option.{Option, none}
 use Prim.Native.Nat.{ℕ, _≤_}
@@ -18,22 +18,14 @@ use Rattle.protocol.specs.Circuit.{Sizes, largest}
 use Rattle.protocol.specs.Checks.{Openings, listOpenings}
 use Rattle.protocol.specs.Messages.{lengths}
 use Rattle.protocol.specs.Refusals.{Refusal, first, sixSizeTests, turnRefusal, sizeRefusal, listRefusal, wordRefusal, challengeRefusal, lengthRefusal}
-use Rattle.protocol.specs.Session.{all, inTurn, openRefusal, alphaRefusal, etaRefusal, betaRefusal, deltaRefusal, gammaRefusal, openingsRefusal}
-use Rattle.protocol.proofs.RefusalLaws.{first-none, refuse-none, and-true}
-use Rattle.verifier.proofs.FirstLaws.{row-passes}
+use Rattle.protocol.specs.Session.{Session, inTurn, leftBySteps, openRefusal, alphaRefusal, etaRefusal, betaRefusal, deltaRefusal, gammaRefusal, openingsRefusal}
+use Rattle.protocol.proofs.RefusalLaws.{first-none, refuse-none, and-true, all-true}
+use Rattle.protocol.proofs.Sessions.{InTurn, in-turn, turn-passes}
 use Rattle.verdict.proofs.AllowedSizes.{allowed}
-
-pub record InTurn (n stage : ℕ) (s : Sizes) : Type 0 where
-  pub stage-is : stage ≡ n
-  pub sizes-allowed : all (sixSizeTests s) ≡ true
 
 module _ (q : Prime) (stage : ℕ) (s : Sizes) where
   turn : (n : ℕ) (rows : List (Option Refusal)) → first (turnRefusal (inTurn n stage s) ∷ rows) ≡ none → InTurn n stage s
-  unfolding turnRefusal inTurn
-  turn n rows e =
-      let passed : inTurn n stage s ≡ true = refuse-none 1 0 (inTurn n stage s ∷ []) (first-none (turnRefusal (inTurn n stage s) ∷ rows) e .0) .0 in
-      let (same, sized) = and-true (eqb stage n) (all (sixSizeTests s)) passed in
-      record { stage-is = eqb-true stage n same; sizes-allowed = sized }
+  turn n rows e = turn-passes n stage s (first-none (turnRefusal (inTurn n stage s) ∷ rows) e .0)
 
   pub alpha-turn : (witness mask quotient α : ℕ) → alphaRefusal q stage s witness mask quotient α ≡ none → InTurn 1 stage s
   unfolding alphaRefusal
@@ -71,13 +63,17 @@ module _ (q : Prime) (stage : ℕ) (s : Sizes) where
       ∷ lengthRefusal (quotient ∷ []) (lengths s .joinedQuotient ∷ [])
       ∷ [])
 
-  pub openings-turn : (o : Openings ℕ) → openingsRefusal q stage s o ≡ none → InTurn 6 stage s
-  unfolding openingsRefusal
-  openings-turn o = turn 6 (wordRefusal q (listOpenings o) ∷ [])
+-- the last step, whose turn has one test more
+pub openings-turn : (q : Prime) (s : Session) (o : Openings ℕ) → openingsRefusal q s o ≡ none → InTurn 6 (s .stage) (s .sizes)
+unfolding openingsRefusal turnRefusal
+openings-turn q s o e =
+    let test : Bool = inTurn 6 (s .stage) (s .sizes) && leftBySteps q s in
+    let passed : test ≡ true = refuse-none 1 0 (test ∷ []) (first-none (turnRefusal test ∷ wordRefusal q (listOpenings o) ∷ []) e .0) .0 in
+    in-turn 6 (s .stage) (s .sizes) (and-true (inTurn 6 (s .stage) (s .sizes)) (leftBySteps q s) passed .0)
 
 pub words-fit : (q : Prime) (s : Sizes) (x : List ℕ) → openRefusal q s x ≡ none → length x ≤ maxSize
 unfolding openRefusal sizeRefusal listRefusal
 words-fit q s x e =
     let rows = first-none (sizeRefusal (sixSizeTests s) ∷ listRefusal (eqb (length x) (s .|X|) ∷ []) ∷ wordRefusal q x ∷ []) e in
     let same : length x ≡ s .|X| = eqb-true (length x) (s .|X|) (refuse-none 5 0 (eqb (length x) (s .|X|) ∷ []) (rows .1 .0) .0) in
-    omega (arith, size-bound (s .|X|) (allowed s (row-passes 4 0 (sixSizeTests s) (sym (rows .0))) .X-size))
+    omega (arith, size-bound (s .|X|) (allowed s (all-true (sixSizeTests s) (refuse-none 4 0 (sixSizeTests s) (rows .0))) .X-size))

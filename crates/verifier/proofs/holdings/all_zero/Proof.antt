@@ -63,7 +63,9 @@ loop-again c =
 returns-2 : tie.Need-returns-2 Inv-loop μ-loop
 returns-2 c =
     let l = c .before in
-    sym (l .loop .inv .1 ∙ ap zeros (drop-of-length-le (l .before .args .words .now) (omega arith)))
+    let ws : List ℕ = l .before .args .words .now in
+    let done : length ws ≤ l .loop .i = omega arith in
+    sym (l .loop .inv .1 ∙ ap zeros (drop-of-length-le ws done))
 
 pub all-zero-spec : {M : Type 1} → statement M
 all-zero-spec =

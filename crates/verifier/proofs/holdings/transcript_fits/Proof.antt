@@ -1,6 +1,6 @@
 -- `verifier::holdings::transcript_fits` meets its contract: its tests in the order of the definition. Assumes nothing.
-use mathlib.Core.Path.{_≡_, refl, sym, ap, ap₂, _∙_}
-use mathlib.Core.Bool.{Bool, true, false, not, _&&_}
+use mathlib.Core.Path.{_≡_, sym, ap, ap₂, _∙_}
+use mathlib.Core.Bool.{Bool, true, not, _&&_, and-true}
 use mathlib.Core.List.{map}
 use lib.Dec.{ltb}
 use borrow.Author.Needs.{needs}
@@ -8,6 +8,7 @@ use borrow.Author.Tests.{not-true, not-false}
 use Rattle.field.specs.Prime.{Prime}
 use Rattle.field.specs.Element.{of}
 use Rattle.domain.specs.Domain.{inside}
+use Rattle.domain.specs.Size.{isSize}
 use Rattle.domain.specs.Qualifies.{Qualifies}
 use Rattle.protocol.specs.Circuit.{largest}
 use Rattle.protocol.specs.Checks.{listTranscript}
@@ -16,10 +17,6 @@ use Rattle.protocol.specs.Session.{all, allBelow, transcriptFits}
 use Rattle.verdict.proofs.AllowedSizes.{Allowed, allowed, largest-size}
 use Rattle.verifier.proofs.holdings.transcript_fits.Statement.{statement}
 use Rattle.verifier.proofs.holdings.transcript_fits.Tie as tie
-
-and-true-right : (b : Bool) → b ≡ (b && true)
-and-true-right true = refl
-and-true-right false = refl
 
 sized : (s : tie.Start) → Allowed (sizes (s .args .s))
 sized s = allowed (sizes (s .args .s)) (s .pre .1)
@@ -95,11 +92,18 @@ largest-requires : tie.Need-largest-requires
 largest-requires c κs = search needs
 
 is-inside-requires-3 : tie.Need-is-inside-requires-3
-is-inside-requires-3 c κs = ?
+is-inside-requires-3 c κs =
+    let s = c .before .before .before .before .before .before .before .before .before in
+    (search needs, ap isSize (c .largest .ensures) ∙ largest-size (sizes (s .args .s)) (sized s))
 
 returns-4 : tie.Need-returns-4
 unfolding transcriptFits
-returns-4 c q Q e = ?
+returns-4 c q Q e =
+    let β = c .before .before in
+    let α = β .before .before in
+    let s = α .before .before .before .before .before .before in
+    ap not (c .is-inside3 .ensures q Q e ∙ ap (λ n. inside {q = q} n (of (s .args .t .gamma))) (c .before .largest .ensures))
+    ∙ sym (and-true _) ∙ past-β q β Q e ∙ past-α q α Q e ∙ past-words q (α .before .before) e
 
 pub transcript-fits-spec : {M : Type 1} → statement M
 transcript-fits-spec =

@@ -1,53 +1,97 @@
+-- `verifier::refusals::judge_alpha` meets its contract: the turn, the challenge, the declared lengths. Assumes nothing.
+use mathlib.Core.Path.{_≡_, sym, ap, _∙_}
+use mathlib.Core.Bool.{true}
+use mathlib.Core.List.{List, [], _∷_, _++_}
+use mathlib.Core.Option.{Option}
+use Prim.Native.Nat.{ℕ}
 use borrow.Author.Needs.{needs}
+use borrow.Author.Tests.{not-true, not-false}
+use Rattle.field.specs.Prime.{Prime}
+use Rattle.field.specs.Element.{of}
+use Rattle.protocol.specs.Meanings.{sizes, isFine}
+use Rattle.protocol.specs.Messages.{Messages, lengths}
+use Rattle.protocol.specs.Refusals.{Refusal, first, wordRefusal, challengeRefusal, lengthRefusal}
+use Rattle.protocol.specs.Session.{alphaRefusal}
+use Rattle.protocol.proofs.EarlyReturns.{stops, goes-on, stops-among, goes-past, last-answer}
+use Rattle.verdict.proofs.AllowedSizes.{Allowed}
+use Rattle.verifier.proofs.StepTurns.{turn-allowed}
 use Rattle.verifier.proofs.refusals.judge_alpha.Statement.{statement}
 use Rattle.verifier.proofs.refusals.judge_alpha.Tie as tie
-use Rattle.verifier.proofs.refusals.judge_alpha.Reads as reads
-use Rattle.verifier.proofs.refusals.judge_alpha.Lts as lts
-use Rattle.protocol.proofs.is_fine.Reads as is-fine-reads
-use Rattle.protocol.proofs.lengths.message_lengths.Reads as message-lengths-reads
-use Rattle.protocol.proofs.scans.first_failed.Reads as first-failed-reads
-use Rattle.verifier.proofs.refusals.judge_challenge.Reads as judge-challenge-reads
-use Rattle.verifier.proofs.refusals.judge_turn.Reads as judge-turn-reads
 
--- src/refusals.rt:94:9
+-- the rows of the challenge, and of the lengths by a table
+module _ (s : tie.Start) where
+  abbrev challenge : Prime → List (Option Refusal)
+  challenge q = wordRefusal q (s .args .alpha ∷ []) ∷ challengeRefusal {q = q} 0 (s .args .s .r ∷ []) (of (s .args .alpha) ∷ []) ∷ []
+
+  abbrev most : Messages ℕ ℕ → Option Refusal
+  most l = let a = s .args in lengthRefusal (a .witness ∷ a .mask ∷ a .quotient ∷ []) (l .witness ∷ l .mask ∷ l .rowQuotient ∷ [])
+
+  abbrev lengths-row : List (Option Refusal)
+  lengths-row = most (lengths (sizes (s .args .s))) ∷ []
+
+fine : (c : tie.Else1) → isFine (c .before .before .judge-turn .result) ≡ true
+fine c = sym (c .before .is-fine .ensures) ∙ not-false _ (c .if1 .left)
+
+sized : (c : tie.Else1) → Allowed (sizes (c .before .before .before .args .s))
+sized c =
+    let j = c .before .before in
+    let a = j .before .args in
+    turn-allowed 1 (a .stage) (sizes (a .s)) (j .judge-turn .result) (j .judge-turn .ensures) (fine c)
+
+-- past the turn
+past-turn : (q : Prime) (c : tie.Else1) {x : Option Refusal} → let s = c .before .before .before in let a = s .args in
+    x ≡ first (challenge s q ++ lengths-row s) → x ≡ alphaRefusal q (a .stage) (sizes (a .s)) (a .witness) (a .mask) (a .quotient) (a .alpha)
+unfolding alphaRefusal
+past-turn q c =
+    let j = c .before .before in
+    goes-on (j .judge-turn .result) (j .judge-turn .ensures) (challenge (j .before) q ++ lengths-row (j .before)) (fine c)
+
 judge-turn-requires : tie.Need-judge-turn-requires
 judge-turn-requires c κs = search needs
 
--- src/refusals.rt:95:9
 is-fine-requires : tie.Need-is-fine-requires
 is-fine-requires c κs = search needs
 
--- src/refusals.rt:96:9
 returns : tie.Need-returns
-returns c = ?
+unfolding alphaRefusal
+returns c q Q e =
+    let j = c .before .before in
+    stops (j .judge-turn .result) (j .judge-turn .ensures) (challenge (j .before) q ++ lengths-row (j .before))
+    (sym (c .before .is-fine .ensures) ∙ not-true _ (c .if1 .taken))
 
--- src/refusals.rt:98:9
 judge-challenge-requires : tie.Need-judge-challenge-requires
-judge-challenge-requires c κs = ?
+judge-challenge-requires c κs = (search needs, sized c .R-size)
 
--- src/refusals.rt:99:9
 is-fine-requires-2 : tie.Need-is-fine-requires-2
 is-fine-requires-2 c κs = search needs
 
--- src/refusals.rt:100:9
 returns-2 : tie.Need-returns-2
-returns-2 c = ?
+returns-2 c q Q e =
+    let k = c .before .before in
+    let s = k .before .before .before .before in
+    past-turn q (k .before)
+    (stops-among (k .judge-challenge .result) (challenge s q) (k .judge-challenge .ensures q Q e) (lengths-row s)
+    (sym (c .before .is-fine2 .ensures) ∙ not-true _ (c .if2 .taken)))
 
--- src/refusals.rt:102:9
 message-lengths-requires : tie.Need-message-lengths-requires
 message-lengths-requires c κs = search needs
 
--- src/refusals.rt:108:25
 slice-aggregate-first-failed : tie.Need-slice-aggregate-first-failed
 slice-aggregate-first-failed c = search needs
 
--- src/refusals.rt:108:5
 first-failed-requires : tie.Need-first-failed-requires
 first-failed-requires c κs = search needs
 
--- src/refusals.rt:82:1
 returns-3 : tie.Need-returns-3
-returns-3 c = ?
+unfolding lengthRefusal
+returns-3 c q Q e =
+    let l = c .before .before .before .before .before in
+    let d = l .before in
+    let k = d .before .before in
+    let s = k .before .before .before .before in
+    past-turn q (k .before)
+    (goes-past (k .judge-challenge .result) (challenge s q) (k .judge-challenge .ensures q Q e) (lengths-row s) (sym (d .before .is-fine2 .ensures) ∙ not-false _ (d .if2 .left))
+    (last-answer (c .first-failed .ensures ∙ ap (most s) (l .message-lengths .ensures))))
 
 pub judge-alpha-spec : {M : Type 1} → statement M
 judge-alpha-spec =

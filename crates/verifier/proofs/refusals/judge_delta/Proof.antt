@@ -1,69 +1,100 @@
+-- `verifier::refusals::judge_delta` meets its contract: the turn, the words, the declared lengths. Assumes nothing.
+use mathlib.Core.Path.{_≡_, sym, ap, _∙_}
+use mathlib.Core.List.{List, [], _∷_, _++_}
+use mathlib.Core.Option.{Option}
+use Prim.Native.Nat.{ℕ}
 use borrow.Author.Needs.{needs}
+use borrow.Author.Tests.{not-true, not-false}
+use Rattle.field.specs.Prime.{Prime}
+use Rattle.protocol.specs.Meanings.{sizes, three}
+use Rattle.protocol.specs.Messages.{Messages, lengths}
+use Rattle.protocol.specs.Refusals.{Refusal, first, wordRefusal, lengthRefusal}
+use Rattle.protocol.specs.Session.{deltaRefusal}
+use Rattle.protocol.specs.Three.{listed}
+use Rattle.protocol.proofs.EarlyReturns.{stops, goes-on, last-answer}
+use Rattle.protocol.proofs.Rows.{word-row}
 use Rattle.verifier.proofs.refusals.judge_delta.Statement.{statement}
 use Rattle.verifier.proofs.refusals.judge_delta.Tie as tie
-use Rattle.verifier.proofs.refusals.judge_delta.Reads as reads
-use Rattle.verifier.proofs.refusals.judge_delta.Lts as lts
-use Rattle.protocol.proofs.is_fine.Reads as is-fine-reads
-use Rattle.protocol.proofs.lengths.message_lengths.Reads as message-lengths-reads
-use Rattle.protocol.proofs.scans.first_failed.Reads as first-failed-reads
-use Rattle.protocol.proofs.scans.judge_words.Reads as judge-words-reads
-use Rattle.verifier.proofs.refusals.judge_turn.Reads as judge-turn-reads
 
--- src/refusals.rt:152:9
+-- the words, and the rows of the lengths by a table, and after the turn
+module _ (s : tie.Start) where
+  abbrev ws : List ℕ
+  ws = listed (three (s .args .values)) ++ listed (three (s .args .delta))
+
+  abbrev most : Messages ℕ ℕ → Option Refusal
+  most l = lengthRefusal (listed (three (s .args .remainders))) (listed (l .matrixRemainders))
+
+  abbrev lengths-row : List (Option Refusal)
+  lengths-row = most (lengths (sizes (s .args .s))) ∷ []
+
+  abbrev rest : Prime → List (Option Refusal)
+  rest q = wordRefusal q ws ∷ lengths-row
+
+-- past the turn
+past-turn : (q : Prime) (c : tie.Else1) {x : Option Refusal} → let s = c .before .before .before in let a = s .args in
+    x ≡ first (rest s q) → x ≡ deltaRefusal q (a .stage) (sizes (a .s)) (three (a .values)) (three (a .remainders)) (three (a .delta))
+unfolding deltaRefusal
+past-turn q c =
+    let j = c .before .before in
+    goes-on (j .judge-turn .result) (j .judge-turn .ensures) (rest (j .before) q) (sym (c .before .is-fine .ensures) ∙ not-false _ (c .if1 .left))
+
 judge-turn-requires : tie.Need-judge-turn-requires
 judge-turn-requires c κs = search needs
 
--- src/refusals.rt:153:9
 is-fine-requires : tie.Need-is-fine-requires
 is-fine-requires c κs = search needs
 
--- src/refusals.rt:154:9
 returns : tie.Need-returns
-returns c = ?
+unfolding deltaRefusal
+returns c q e =
+    let j = c .before .before in
+    stops (j .judge-turn .result) (j .judge-turn .ensures) (rest (j .before) q) (sym (c .before .is-fine .ensures) ∙ not-true _ (c .if1 .taken))
 
--- src/refusals.rt:157:34
 slice-aggregate-judge-words : tie.Need-slice-aggregate-judge-words
 slice-aggregate-judge-words c = search needs
 
--- src/refusals.rt:157:9
 judge-words-requires : tie.Need-judge-words-requires
 judge-words-requires c κs = search needs
 
--- src/refusals.rt:158:9
 is-fine-requires-2 : tie.Need-is-fine-requires-2
 is-fine-requires-2 c κs = search needs
 
--- src/refusals.rt:159:9
 returns-2 : tie.Need-returns-2
-returns-2 c = ?
+returns-2 c q e =
+    let w = c .before .before in
+    let s = w .before .before .before .before .before in
+    past-turn q (w .before .before)
+    (stops (w .judge-words .result) (w .judge-words .ensures ∙ word-row q e (ws s)) (lengths-row s)
+    (sym (c .before .is-fine2 .ensures) ∙ not-true _ (c .if2 .taken)))
 
--- src/refusals.rt:161:16
 message-lengths-requires : tie.Need-message-lengths-requires
 message-lengths-requires c κs = search needs
 
--- src/refusals.rt:163:9
 cast-t17 : tie.Need-cast-t17
 cast-t17 c = search needs
 
--- src/refusals.rt:164:9
 cast-t18 : tie.Need-cast-t18
 cast-t18 c = search needs
 
--- src/refusals.rt:165:9
 cast-t19 : tie.Need-cast-t19
 cast-t19 c = search needs
 
--- src/refusals.rt:167:25
 slice-aggregate-first-failed : tie.Need-slice-aggregate-first-failed
 slice-aggregate-first-failed c = search needs
 
--- src/refusals.rt:167:5
 first-failed-requires : tie.Need-first-failed-requires
 first-failed-requires c κs = search needs
 
--- src/refusals.rt:142:1
 returns-3 : tie.Need-returns-3
-returns-3 c = ?
+unfolding lengthRefusal
+returns-3 c q e =
+    let l = c .before .before .before .before .before .before .before .before .before in
+    let d = l .before in
+    let w = d .before .before in
+    let s = w .before .before .before .before .before in
+    past-turn q (w .before .before)
+    (goes-on (w .judge-words .result) (w .judge-words .ensures ∙ word-row q e (ws s)) (lengths-row s)
+    (sym (d .before .is-fine2 .ensures) ∙ not-false _ (d .if2 .left)) (last-answer (c .first-failed .ensures ∙ ap (most s) (l .message-lengths .ensures))))
 
 pub judge-delta-spec : {M : Type 1} → statement M
 judge-delta-spec =

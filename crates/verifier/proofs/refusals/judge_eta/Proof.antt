@@ -1,35 +1,53 @@
+-- `verifier::refusals::judge_eta` meets its contract: the turn, the words. Assumes nothing.
+use mathlib.Core.Path.{sym, _∙_}
+use mathlib.Core.List.{List, [], _∷_, _++_}
+use mathlib.Core.Option.{Option}
+use Prim.Native.Nat.{ℕ}
 use borrow.Author.Needs.{needs}
+use borrow.Author.Tests.{not-true, not-false}
+use Rattle.field.specs.Prime.{Prime}
+use Rattle.protocol.specs.Meanings.{three}
+use Rattle.protocol.specs.Refusals.{Refusal, wordRefusal}
+use Rattle.protocol.specs.Session.{etaRefusal}
+use Rattle.protocol.specs.Three.{listed}
+use Rattle.protocol.proofs.EarlyReturns.{stops, goes-on, last-answer}
+use Rattle.protocol.proofs.Rows.{word-row}
 use Rattle.verifier.proofs.refusals.judge_eta.Statement.{statement}
 use Rattle.verifier.proofs.refusals.judge_eta.Tie as tie
-use Rattle.verifier.proofs.refusals.judge_eta.Reads as reads
-use Rattle.verifier.proofs.refusals.judge_eta.Lts as lts
-use Rattle.protocol.proofs.is_fine.Reads as is-fine-reads
-use Rattle.protocol.proofs.scans.judge_words.Reads as judge-words-reads
-use Rattle.verifier.proofs.refusals.judge_turn.Reads as judge-turn-reads
 
--- src/refusals.rt:114:9
+-- the words, and the row after the turn
+module _ (s : tie.Start) where
+  abbrev ws : List ℕ
+  ws = listed (three (s .args .sums)) ++ listed (three (s .args .eta))
+
+  abbrev rest : Prime → List (Option Refusal)
+  rest q = wordRefusal q ws ∷ []
+
 judge-turn-requires : tie.Need-judge-turn-requires
 judge-turn-requires c κs = search needs
 
--- src/refusals.rt:115:9
 is-fine-requires : tie.Need-is-fine-requires
 is-fine-requires c κs = search needs
 
--- src/refusals.rt:116:9
 returns : tie.Need-returns
-returns c = ?
+unfolding etaRefusal
+returns c q e =
+    let j = c .before .before in
+    stops (j .judge-turn .result) (j .judge-turn .ensures) (rest (j .before) q) (sym (c .before .is-fine .ensures) ∙ not-true _ (c .if1 .taken))
 
--- src/refusals.rt:119:23
 slice-aggregate-judge-words : tie.Need-slice-aggregate-judge-words
 slice-aggregate-judge-words c = search needs
 
--- src/refusals.rt:119:5
 judge-words-requires : tie.Need-judge-words-requires
 judge-words-requires c κs = search needs
 
--- src/refusals.rt:111:1
 returns-2 : tie.Need-returns-2
-returns-2 c = ?
+unfolding etaRefusal
+returns-2 c q e =
+    let d = c .before .before in
+    let j = d .before .before in
+    goes-on (j .judge-turn .result) (j .judge-turn .ensures) (rest (j .before) q) (sym (d .before .is-fine .ensures) ∙ not-false _ (d .if1 .left))
+    (last-answer (c .judge-words .ensures ∙ word-row q e (ws (j .before))))
 
 pub judge-eta-spec : {M : Type 1} → statement M
 judge-eta-spec =

@@ -6,9 +6,13 @@ use Rattle.domain.specs.BabyBear.{babyBear}
 use Rattle.domain.specs.Size.{maxSize}
 use Rattle.protocol.specs.Checks.{Verdict}
 use Rattle.protocol.specs.Meanings.{faultRefusal, sizes, transcript, openings}
+use Rattle.protocol.specs.Refusals.{sixSizeTests}
 use Rattle.protocol.specs.Session as steps
 use Rattle.protocol.specs.Session.{Judged, openingsRefusal, openingsStep, verdictOf}
-use Rattle.verifier.proofs.Turns.{InTurn, openings-turn}
+use Rattle.protocol.proofs.Sessions.{InTurn}
+use Rattle.protocol.proofs.RefusalLaws.{all-true}
+use Rattle.verifier.specs.Session.{sessionMeaning}
+use Rattle.verifier.proofs.Turns.{openings-turn}
 use Rattle.verdict.proofs.AllowedSizes.{allowed}
 use borrow.Author.Needs.{needs}
 use lib.ListN.{length, length-map}
@@ -18,27 +22,33 @@ use native.Mathlib.Omega.{arith}
 use Rattle.verifier.proofs.session.Session.openings.Statement.{statement}
 use Rattle.verifier.proofs.session.Session.openings.Tie as tie
 
-judged : (c : tie.After-judge-openings) → let a = c .before .args in
-    openingsRefusal babyBear (a .self .stage) (sizes (a .self .sizes)) (openings (a .o) (a .index)) ≡ faultRefusal (c .judge-openings .result)
-judged c = sym (c .judge-openings .ensures babyBear refl)
+judged : (c : tie.After-judge-openings) → let a = c .before .before .before .args in
+    openingsRefusal babyBear (sessionMeaning (a .self)) (openings (a .o) (a .index)) ≡ faultRefusal (c .judge-openings .result)
+judged c = sym (c .judge-openings .ensures babyBear babyBear-qualifies refl)
 
 -- what nothing refuses is in turn, with sizes that are allowed
-turn : (c : tie.After-enum-told) → let a = c .before .before .before .args in InTurn 6 (a .self .stage) (sizes (a .self .sizes))
+turn : (c : tie.After-enum-told) → let a = c .before .before .before .before .before .args in InTurn 6 (a .self .stage) (sizes (a .self .sizes))
 turn c =
-    let a = c .before .before .before .args in
-    openings-turn babyBear (a .self .stage) (sizes (a .self .sizes)) (openings (a .o) (a .index))
+    let a = c .before .before .before .before .before .args in
+    openings-turn babyBear (sessionMeaning (a .self)) (openings (a .o) (a .index))
     (judged (c .before .before) ∙ ap faultRefusal (c .enum-told .given .1))
 
--- the public words lie within the session's 1,024, whose number is told by owning the session
-within : (c : tie.After-enum-told) → let a = c .before .before .before .args in a .self .sizes .x ≤ length (a .self .x)
+-- a session has 1,024 words of x, which is told by owning it
+whole : (s : tie.Start) → length (s .args .self .x) ≡ maxSize
+whole s = sym (length-map (s .args .self .x) (λ w. w)) ∙ s .good .0 .1 .1 .1 .1 .0 .1 .0 .1
+
+-- the public words lie within them
+within : (c : tie.After-enum-told) → let s = c .before .before .before .before .before in s .args .self .sizes .x ≤ length (s .args .self .x)
 within c =
-    let start = c .before .before .before in
-    let s = start .args .self in
-    let whole : length (s .x) ≡ maxSize = sym (length-map (s .x) (λ w. w)) ∙ start .good .0 .1 .1 .1 .1 .0 .1 .0 .1 in
-    omega (arith, size-bound (s .sizes .x) (allowed (sizes (s .sizes)) (turn c .sizes-allowed) .X-size))
+    let s = c .before .before .before .before .before in
+    let n = sizes (s .args .self .sizes) in
+    omega (arith, whole s, size-bound (n .|X|) (allowed n (all-true (sixSizeTests n) (turn c .sizes-allowed)) .X-size))
+
+slice-aggregate-judge-openings : tie.Need-slice-aggregate-judge-openings
+slice-aggregate-judge-openings c = sym (whole (c .before .before))
 
 judge-openings-requires : tie.Need-judge-openings-requires
-judge-openings-requires c κs = search needs
+judge-openings-requires c κs = (search needs, whole (c .before .before))
 
 enum-known-number : tie.Need-enum-known-number
 enum-known-number c = search needs
@@ -50,18 +60,20 @@ cast-n : tie.Need-cast-n
 cast-n c = search needs
 
 array-share-prefix-x : tie.Need-array-share-prefix-x
-array-share-prefix-x c = within (c .before .before)
+array-share-prefix-x c = within (c .before)
 
 slice-aggregate-verdict : tie.Need-slice-aggregate-verdict
 slice-aggregate-verdict c =
-    let a = c .before .before .before .before .before .before .args in
-    sym (length-take-le (a .self .sizes .x) (a .self .x) (within (c .before .before .before)))
+    let t = c .before .before in
+    let a = t .before .before .before .before .before .args in
+    sym (length-take-le (a .self .sizes .x) (a .self .x) (within t))
 
 verdict-requires : tie.Need-verdict-requires
 verdict-requires c κs =
-    let t = c .before .before .before in
-    let a = c .before .before .before .before .before .before .args in
-    (search needs, (turn t .sizes-allowed, length-take-le (a .self .sizes .x) (a .self .x) (within t)))
+    let t = c .before .before in
+    let a = t .before .before .before .before .before .args in
+    let n = sizes (a .self .sizes) in
+    (search needs, (all-true (sixSizeTests n) (turn t .sizes-allowed), length-take-le (a .self .sizes .x) (a .self .x) (within t)))
 
 returns : tie.Need-returns
 unfolding openingsStep
@@ -70,8 +82,8 @@ returns c = rw (judged (c .before .before .before) ∙ ap faultRefusal (c .befor
 returns-2 : tie.Need-returns-2
 unfolding openingsStep verdictOf
 returns-2 c =
-    let t = c .before .before .before .before in
-    let s = t .before .before .before .args .self in
+    let t = c .before .before .before in
+    let s = t .before .before .before .before .before .args .self in
     let next : 7 ≡ suc (s .stage) = omega (arith, turn t .stage-is) in
     let judging : ℕ → Verdict → steps.Stepped = λ n v.
     record { session = record { stage = n; sizes = sizes (s .sizes); x = s .x; transcript = transcript (s .transcript) }; answer = Judged v } in
@@ -82,6 +94,7 @@ pub openings-spec : {M : Type 1} → statement M
 openings-spec =
     tie.close
     (tie.spec
+    slice-aggregate-judge-openings
     judge-openings-requires
     enum-known-number
     enum-told
