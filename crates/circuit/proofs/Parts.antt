@@ -221,7 +221,7 @@ module _ (q : Prime) (c : CircuitWords) (lent : List Bool) where
       ∙ regroup size (refuse 5 0 (entryListTests c)) (refuse 5 3 lent) rest
 
   pub prover-in-parts : (z : List ℕ) (mask : ℕ) (m challenges points : List ℕ)
-      → proverRefusal q (circuitOf c) (entryListTests c ++ (assignmentTests (circuitOf c) z m ++ lent)) (z ++ (mask ∷ (m ++ challenges))) z m points
+      → proverRefusal q (circuitOf c) (entryListTests c ++ (assignmentTests (circuitOf c) z m ++ lent)) z mask m challenges points
       ≡ first (shapeRefusal c z m ∷ refuse 5 5 lent ∷ contentsRefusal q (circuitOf c) z mask m challenges points ∷ [])
   unfolding proverRefusal circuitRefusals circuitOf listRefusal entryListTests assignmentTests shapeRefusal contentsRefusal
   prover-in-parts z mask m challenges points =
