@@ -84,7 +84,7 @@ module _ {q : Prime} where
       → eval (quotientIn turns m (monomial (m * k))) y ≡ powers m y k → eval (quotientIn (suc turns) m f) y ≡ powers m y (suc k)
   unfolding powers
   quotientIn-step m turns k f y e rec =
-      ap (λ g. eval (_⊞_ g (quotientIn turns m g)) y) e ∙ eval-add (primeRing q) (monomial (m * k)) (quotientIn turns m (monomial (m * k))) y
+      ap (λ g. eval (g ⊞ quotientIn turns m g) y) e ∙ eval-add (primeRing q) (monomial (m * k)) (quotientIn turns m (monomial (m * k))) y
       ∙ ap₂ _⊕_ (eval-monomial (m * k) y ∙ pow-mul (primeRing q) y m k) rec ∙ add-comm _ _
 
   -- Y^(mk) divided by Y^m - 1
@@ -93,7 +93,7 @@ module _ {q : Prime} where
   quotientIn-monomial m zero zero y pos le = refl
   quotientIn-monomial m zero (suc k) y pos le = absurd (omega arith)
   quotientIn-monomial m (suc turns) zero y pos le =
-      ap (λ g. eval (_⊞_ g (quotientIn turns m g)) y) (ap (λ k. drop m (monomial k)) (mul-zero m) ∙ drop-of-length-le (𝟙 ∷ []) pos)
+      ap (λ g. eval (g ⊞ quotientIn turns m g) y) (ap (λ k. drop m (monomial k)) (mul-zero m) ∙ drop-of-length-le (𝟙 ∷ []) pos)
       ∙ ap (λ g. eval g y) (quotientIn-nil turns m)
   quotientIn-monomial m (suc turns) (suc k) y pos le =
       let e : m * suc k ≡ m + m * k = omega (arith, mul-suc m k) in

@@ -65,14 +65,14 @@ pub record IsPolynomial {q : Prime} (n : ℕ) (F : Elem q → Elem q) : Type 0 w
 module _ {q : Prime} {n : ℕ} where
   pub polynomial-scale : (c : Elem q) {F : Elem q → Elem q} → IsPolynomial n F → IsPolynomial n (λ y. c ⊗ F y)
   polynomial-scale c P = record {
-    poly = _·_ c (P .poly);
+    poly = c · P .poly;
     poly-length = length-scale (primeRing q) c (P .poly) ∙ P .poly-length;
     poly-value = λ y. eval-scale (primeRing q) c (P .poly) y ∙ ap (λ v. c ⊗ v) (P .poly-value y);
   }
 
   pub polynomial-add : {F G : Elem q → Elem q} → IsPolynomial n F → IsPolynomial n G → IsPolynomial n (λ y. F y ⊕ G y)
   polynomial-add P S = record {
-    poly = _⊞_ (P .poly) (S .poly);
+    poly = P .poly ⊞ S .poly;
     poly-length = omega (arith, length-add (primeRing q) (P .poly) (S .poly), P .poly-length, S .poly-length);
     poly-value = λ y. eval-add (primeRing q) (P .poly) (S .poly) y ∙ ap₂ _⊕_ (P .poly-value y) (S .poly-value y);
   }

@@ -61,17 +61,17 @@ module _ {q : Prime} (c : Circuit) (α β : Elem q) (ω : Three (Elem q)) (g : T
 
   -- (|K_M|/|K|) (v_K/v_{K_M}) E_M, which does not depend on δ
   selected : MatrixName → Poly q
-  selected M = _·_ (share c M) (_⊠_ (cofactor c M) (side M))
+  selected M = share c M · cofactor c M ⊠ side M
 
   eval-selected : (M : MatrixName) (y : Elem q) → eval (selected M) y ≡ share c M ⊗ eval (cofactor c M) y ⊗ eval (side M) y
   unfolding selected
   eval-selected M y =
-      eval-scale R (share c M) (_⊠_ (cofactor c M) (side M)) y
+      eval-scale R (share c M) (cofactor c M ⊠ side M) y
       ∙ ap (λ x. share c M ⊗ x) (eval-mul R (cofactor c M) (side M) y) ∙ sym (mul-assoc _ _ _)
 
   -- Σ δ_M s_M E_M
   abbrev joinedTerm : Three (Elem q) → MatrixName → Poly q
-  joinedTerm δ M = _·_ (at δ M) (selected M)
+  joinedTerm δ M = at δ M · selected M
 
   abbrev joinedPoly : Three (Elem q) → Poly q
   joinedPoly δ = sumPolys (joinedTerm δ)
@@ -96,7 +96,7 @@ module _ {q : Prime} (c : Circuit) (α β : Elem q) (ω : Three (Elem q)) (g : T
         let left : length (cofactor c M) ≡ K - sizeK c M + 1 = length-vanishingRatio q (sizeK c M) K (K-size c M) (largest-size c) within in
         let right : length (side M) ≡ 2 * sizeK c M - 1 = length-matrixPoly c α β M (at ω M) (at g M) (g-lengths M ∙ matrix-length (sizesOf c) M) in
         let product = length-product R (cofactor c M) (side M) (omega arith) (omega arith) in
-        omega (arith, product, length-scale R (share c M) (_⊠_ (cofactor c M) (side M)))
+        omega (arith, product, length-scale R (share c M) (cofactor c M ⊠ side M))
 
     -- on K_M it is E_M
     selected-on : (M : MatrixName) (i : ℕ) → i < sizeK c M → eval (selected M) (element (sizeK c M) i) ≡ eval (side M) (element (sizeK c M) i)

@@ -32,17 +32,17 @@ module _ {q : Prime} where
 
   -- a sum of polynomials, one for each matrix
   abbrev pub sumPolys : (MatrixName → Poly q) → Poly q
-  sumPolys f = _⊞_ (_⊞_ (f A) (f B)) (f C)
+  sumPolys f = f A ⊞ f B ⊞ f C
 
   pub eval-sumPolys : (f : MatrixName → Poly q) (y : Elem q) → eval (sumPolys f) y ≡ sumMatrices (λ M. eval (f M) y)
-  eval-sumPolys f y = eval-add (primeRing q) (_⊞_ (f A) (f B)) (f C) y ∙ ap (λ x. x ⊕ eval (f C) y) (eval-add (primeRing q) (f A) (f B) y)
+  eval-sumPolys f y = eval-add (primeRing q) (f A ⊞ f B) (f C) y ∙ ap (λ x. x ⊕ eval (f C) y) (eval-add (primeRing q) (f A) (f B) y)
 
   -- where each of the three is as long as a size and d - 1, the sum is as long as the largest and d - 1
   pub length-sumPolys : (f : MatrixName → Poly q) (k : Three ℕ) (d : ℕ) → ((M : MatrixName) → suc (length (f M)) ≡ at k M + d)
       → suc (length (sumPolys f)) ≡ largest k + d
   unfolding largest
   length-sumPolys f k d h =
-      omega (arith, length-add (primeRing q) (_⊞_ (f A) (f B)) (f C), length-add (primeRing q) (f A) (f B), h A, h B, h C)
+      omega (arith, length-add (primeRing q) (f A ⊞ f B) (f C), length-add (primeRing q) (f A) (f B), h A, h B, h C)
 
 module _ {q : Prime} (c : Circuit) (M : MatrixName) where
   -- |K_M|/|K|

@@ -35,7 +35,7 @@ module _ {q : Prime} (Q : Qualifies q) (c : Circuit) (W : WellFormed (q .p) c) (
 
   -- h2 is the sum of these
   abbrev quotientTerm : MatrixName → Poly q
-  quotientTerm M = _·_ (at δ M ⊗ share c M) (matrixQuotient c α β M)
+  quotientTerm M = at δ M ⊗ share c M · matrixQuotient c α β M
 
   pub length-joinedQuotient : length (joinedQuotient c α β δ) ≡ lengths (sizesOf c) .joinedQuotient
   unfolding joinedQuotient lengths

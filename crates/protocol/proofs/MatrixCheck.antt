@@ -83,7 +83,7 @@ module _ {q : Prime} (Q : Qualifies q) (c : Circuit) (W : WellFormed (q .p) c) (
   module _ (ω : Elem q) (g : Poly q) where
     left-at : (i : ℕ) → eval (matrixPoly c α β M ω g) (κ i) ≡ eval a (κ i) ⊖ eval b (κ i) ⊗ eval (ω ⊘ of k ∷ g) (κ i)
     unfolding matrixPoly
-    left-at i = eval-minus a (_⊠_ b (ω ⊘ of k ∷ g)) (κ i) ∙ ap (λ x. eval a (κ i) ⊖ x) (eval-mul R b (ω ⊘ of k ∷ g) (κ i))
+    left-at i = eval-minus a (b ⊠ (ω ⊘ of k ∷ g)) (κ i) ∙ ap (λ x. eval a (κ i) ⊖ x) (eval-mul R b (ω ⊘ of k ∷ g) (κ i))
 
     -- where the left side is 0 on K_M, Y g + ω/|K_M| is the prover's
     pub vanishing-parts : length g ≡ k - 1 → ((i : ℕ) → i < k → eval (matrixPoly c α β M ω g) (κ i) ≡ 𝟘)
@@ -123,7 +123,7 @@ module _ {q : Prime} (Q : Qualifies q) (c : Circuit) (W : WellFormed (q .p) c) (
 
   quotient-is : matrixQuotient c α β M ≡ quotient k (matrixPoly c α β M value (matrixRemainder c α β M))
   unfolding matrixQuotient matrixPoly
-  quotient-is = ap (λ r. quotient k (_⊟_ a (_⊠_ b r))) ratio-parts
+  quotient-is = ap (λ r. quotient k (a ⊟ b ⊠ r)) ratio-parts
 
   pub length-matrixQuotient : length (matrixQuotient c α β M) ≡ at (lengths (sizesOf c) .matrixRemainders) M
   length-matrixQuotient = omega (

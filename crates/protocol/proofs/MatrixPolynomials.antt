@@ -25,8 +25,8 @@ use Rattle.protocol.specs.Messages.{numerator, denominator}
 use Rattle.protocol.proofs.IndexPolynomials.{K-size}
 use Rattle.protocol.proofs.MessagePolynomials.{eval-minus}
 
-length-difference : {q : Prime} (f g : Poly q) → length (_⊟_ f g) ≡ max (length f) (length g)
-length-difference {q} f g = omega (arith, length-add (primeRing q) f (_·_ (neg 𝟙) g), length-scale (primeRing q) (neg 𝟙) g)
+length-difference : {q : Prime} (f g : Poly q) → length (f ⊟ g) ≡ max (length f) (length g)
+length-difference {q} f g = omega (arith, length-add (primeRing q) f (neg 𝟙 · g), length-scale (primeRing q) (neg 𝟙) g)
 
 -- |K_M|
 abbrev pub sizeK : Circuit → MatrixName → ℕ
@@ -73,14 +73,14 @@ module _ {q : Prime} (c : Circuit) (α β : Elem q) (M : MatrixName) where
       let i : Index (Poly q) = index c M in
       let v : Index (Elem q) = indexAt i y in
       let corner : Poly q = α ⊗ β ∷ [] in
-      let without : Poly q = _⊟_ corner (_·_ α (i .col)) in
-      eval-scale R (of (c .|R|) ⊗ of (c .|C|)) (_⊞_ (_⊟_ without (_·_ β (i .row))) (i .rowcol)) y
+      let without : Poly q = corner ⊟ α · i .col in
+      eval-scale R (of (c .|R|) ⊗ of (c .|C|)) (without ⊟ β · i .row ⊞ i .rowcol) y
       ∙ ap (λ x. of (c .|R|) ⊗ of (c .|C|) ⊗ x)
-      (eval-add R (_⊟_ without (_·_ β (i .row))) (i .rowcol) y
+      (eval-add R (without ⊟ β · i .row) (i .rowcol) y
       ∙ ap (λ x. x ⊕ v .rowcol)
-      (eval-minus without (_·_ β (i .row)) y
+      (eval-minus without (β · i .row) y
       ∙ ap₂ _⊖_
-      (eval-minus corner (_·_ α (i .col)) y
+      (eval-minus corner (α · i .col) y
       ∙ ap₂ _⊖_ (ring R (α ∷ β ∷ y ∷ []) (λ α β y. α :* β :+ y :* :0 := α :* β) tt) (eval-scale R α (i .col) y))
       (eval-scale R β (i .row) y)))
 
@@ -95,14 +95,14 @@ module _ {q : Prime} (c : Circuit) (α β : Elem q) (M : MatrixName) where
       let col : Poly q = placed c M 𝟙 (columnElement c) in
       let rowcol : Poly q = placed c M 𝟙 (λ e. rowElement c e ⊗ columnElement c e) in
       let corner : Poly q = α ⊗ β ∷ [] in
-      let without : Poly q = _⊟_ corner (_·_ α col) in
+      let without : Poly q = corner ⊟ α · col in
       omega (
         arith,
         sizeK-positive c M,
-        length-scale R (of (c .|R|) ⊗ of (c .|C|)) (_⊞_ (_⊟_ without (_·_ β row)) rowcol),
-        length-add R (_⊟_ without (_·_ β row)) rowcol,
-        length-difference without (_·_ β row),
-        length-difference corner (_·_ α col),
+        length-scale R (of (c .|R|) ⊗ of (c .|C|)) (without ⊟ β · row ⊞ rowcol),
+        length-add R (without ⊟ β · row) rowcol,
+        length-difference without (β · row),
+        length-difference corner (α · col),
         length-scale R β row,
         length-scale R α col,
         length-placed c M 𝟙 (rowElement {q = q} c),
@@ -116,13 +116,13 @@ module _ {q : Prime} (c : Circuit) (α β : Elem q) (M : MatrixName) where
 
   -- a_M - b_M (Y g + ω/|K_M|)
   unfoldable pub matrixPoly : Elem q → Poly q → Poly q
-  matrixPoly ω g = _⊟_ a (_⊠_ b (ω ⊘ of k ∷ g))
+  matrixPoly ω g = a ⊟ b ⊠ (ω ⊘ of k ∷ g)
 
   pub eval-matrixPoly : (ω : Elem q) (g : Poly q) (y : Elem q)
       → eval (matrixPoly ω g) y ≡ leftValue ω (indexAt (index c M) y) y (eval g y)
   unfolding matrixPoly
   eval-matrixPoly ω g y =
-      eval-minus a (_⊠_ b (ω ⊘ of k ∷ g)) y
+      eval-minus a (b ⊠ (ω ⊘ of k ∷ g)) y
       ∙ ap₂ _⊖_ (eval-numerator y) (eval-mul R b (ω ⊘ of k ∷ g) y ∙ ap₂ _⊗_ (eval-denominator y) (add-comm _ _))
 
   pub length-matrixPoly : (ω : Elem q) (g : Poly q) → length g ≡ k - 1 → length (matrixPoly ω g) ≡ 2 * k - 1
@@ -133,7 +133,7 @@ module _ {q : Prime} (c : Circuit) (α β : Elem q) (M : MatrixName) where
       omega (
         arith,
         sizeK-positive c M,
-        length-difference a (_⊠_ b G),
+        length-difference a (b ⊠ G),
         product,
         length-numerator,
         length-denominator,

@@ -24,20 +24,20 @@ use Rattle.protocol.proofs.AdmissionLaws.{WellFormed}
 use Rattle.protocol.proofs.Extension.{extension-polynomial, image-polynomial}
 
 module _ {q : Prime} where
-  pub eval-minus : (f g : Poly q) (y : Elem q) → eval (_⊟_ f g) y ≡ eval f y ⊖ eval g y
+  pub eval-minus : (f g : Poly q) (y : Elem q) → eval (f ⊟ g) y ≡ eval f y ⊖ eval g y
   eval-minus f g y =
-      eval-add (primeRing q) f (_·_ (neg 𝟙) g) y
+      eval-add (primeRing q) f (neg 𝟙 · g) y
       ∙ ap (λ v. eval f y ⊕ v) (eval-scale (primeRing q) (neg 𝟙) g y ∙ ring (primeRing q) (eval g y ∷ []) (λ v. (:- :1) :* v := :- v) tt)
 
-  pub length-minus : (f g : Poly q) → length g ≤ length f → length (_⊟_ f g) ≡ length f
-  length-minus f g h = omega (arith, length-add (primeRing q) f (_·_ (neg 𝟙) g), length-scale (primeRing q) (neg 𝟙) g)
+  pub length-minus : (f g : Poly q) → length g ≤ length f → length (f ⊟ g) ≡ length f
+  length-minus f g h = omega (arith, length-add (primeRing q) f (neg 𝟙 · g), length-scale (primeRing q) (neg 𝟙) g)
 
   -- the verifier's ẑ(y) is the value of ẑ
   pub eval-assignment : (c : Circuit) → 0 < c .|X| → (x : List (Elem q)) (w : Poly q) (y : Elem q)
       → eval (assignment c x w) y ≡ assignmentValue (sizesOf c) x y (eval w y)
   unfolding assignment publicPoly assignmentValue sizesOf
   eval-assignment c positive x w y =
-      eval-add (primeRing q) (_⊠_ w (vanishingPoly (c .|X|))) (interpolate (c .|X|) x) y
+      eval-add (primeRing q) (w ⊠ vanishingPoly (c .|X|)) (interpolate (c .|X|) x) y
       ∙ ap (λ v. v ⊕ eval (interpolate (c .|X|) x) y)
       (eval-mul (primeRing q) w (vanishingPoly (c .|X|)) y ∙ ap (λ v. eval w y ⊗ v) (eval-vanishingPoly (c .|X|) positive y))
 
@@ -49,7 +49,7 @@ module _ {q : Prime} (Q : Qualifies q) (c : Circuit) (W : WellFormed (q .p) c) w
   unfolding assignment publicPoly lengths sizesOf
   length-assignment x w e = omega (
     arith,
-    length-add R (_⊠_ w (vanishingPoly (c .|X|))) (interpolate (c .|X|) x),
+    length-add R (w ⊠ vanishingPoly (c .|X|)) (interpolate (c .|X|) x),
     length-interpolate (c .|X|) x,
     length-product R w (vanishingPoly (c .|X|)) (omega arith) (omega (arith, length-vanishingPoly q (c .|X|) (size-positive (c .|X|) (W .X-size)))),
     length-vanishingPoly q (c .|X|) (size-positive (c .|X|) (W .X-size)),
@@ -71,19 +71,19 @@ module _ {q : Prime} (Q : Qualifies q) (c : Circuit) (W : WellFormed (q .p) c) w
 
   -- Row: ẑ_A ẑ_B - ẑ_C
   abbrev pub rowPoly : Poly q → Poly q
-  rowPoly ẑ = _⊟_ (_⊠_ (imagePoly ẑ A) (imagePoly ẑ B)) (imagePoly ẑ C)
+  rowPoly ẑ = imagePoly ẑ A ⊠ imagePoly ẑ B ⊟ imagePoly ẑ C
 
   pub length-rowPoly : (ẑ : Poly q) → length (rowPoly ẑ) ≡ 2 * c .|R| - 1
   length-rowPoly ẑ =
       let l : (M : MatrixName) → length (imagePoly ẑ M) ≡ c .|R| = λ M. length-agreeing (c .|R|) (image c ẑ M) in
       let product = length-product R (imagePoly ẑ A) (imagePoly ẑ B) (omega (arith, l A, R-positive)) (omega (arith, l B, R-positive)) in
-      length-minus (_⊠_ (imagePoly ẑ A) (imagePoly ẑ B)) (imagePoly ẑ C) (omega (arith, product, l A, l B, l C, R-positive))
+      length-minus (imagePoly ẑ A ⊠ imagePoly ẑ B) (imagePoly ẑ C) (omega (arith, product, l A, l B, l C, R-positive))
       ∙ omega (arith, product, l A, l B)
 
   pub eval-rowPoly : (ẑ : Poly q) (y : Elem q) → eval (rowPoly ẑ) y ≡ rowLeft (sums c ẑ y)
   unfolding rowLeft sums
   eval-rowPoly ẑ y =
-      eval-minus (_⊠_ (imagePoly ẑ A) (imagePoly ẑ B)) (imagePoly ẑ C) y
+      eval-minus (imagePoly ẑ A ⊠ imagePoly ẑ B) (imagePoly ẑ C) y
       ∙ ap₂ _⊖_
       (eval-mul R (imagePoly ẑ A) (imagePoly ẑ B) y ∙ ap₂ _⊗_ (eval-imagePoly ẑ A y) (eval-imagePoly ẑ B y)) (eval-imagePoly ẑ C y)
 
@@ -102,7 +102,7 @@ module _ {q : Prime} (Q : Qualifies q) (c : Circuit) (W : WellFormed (q .p) c) w
   length-line m ẑ α η e f =
       let row : Poly q = agreeing (c .|C|) (λ y. weighted η (values c α y)) in
       let l : length row ≡ c .|C| = length-agreeing (c .|C|) (λ y. weighted η (values c α y)) in
-      omega (arith, length-add R m (_⊠_ row ẑ), length-product R row ẑ (omega (arith, C-positive)) (omega arith))
+      omega (arith, length-add R m (row ⊠ ẑ), length-product R row ẑ (omega (arith, C-positive)) (omega arith))
 
   pub eval-line :
       (m ẑ : Poly q) (α : Elem q) (η : Three (Elem q)) (y : Elem q)
@@ -110,7 +110,7 @@ module _ {q : Prime} (Q : Qualifies q) (c : Circuit) (W : WellFormed (q .p) c) w
   unfolding line lineLeft
   eval-line m ẑ α η y =
       let row : Poly q = agreeing (c .|C|) (λ y. weighted η (values c α y)) in
-      eval-add R m (_⊠_ row ẑ) y
+      eval-add R m (row ⊠ ẑ) y
       ∙ ap (λ v. eval m y ⊕ v)
       (eval-mul R row ẑ y
       ∙ ap (λ v. v ⊗ eval ẑ y) (agreeing-is Q (c .|C|) (W .C-size) (λ y. weighted η (values c α y)) (weighted-polynomial α η) y))

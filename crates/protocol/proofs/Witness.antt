@@ -53,7 +53,7 @@ module _ {q : Prime} (Q : Qualifies q) (c : Circuit) (W : WellFormed (q .p) c) (
       )
 
   -- z(Y) - x̂(Y) is 0 on X
-  difference-on-X : (i : ℕ) → i < c .|X| → eval (_⊟_ zPoly xPoly) (element (c .|X|) i) ≡ 𝟘
+  difference-on-X : (i : ℕ) → i < c .|X| → eval (zPoly ⊟ xPoly) (element (c .|X|) i) ≡ 𝟘
   unfolding publicPart
   difference-on-X i l =
       eval-minus zPoly xPoly (element (c .|X|) i)
@@ -66,8 +66,8 @@ module _ {q : Prime} (Q : Qualifies q) (c : Circuit) (W : WellFormed (q .p) c) (
   unfolding witness publicPoly lengths sizesOf
   length-witness = omega (
     arith,
-    length-add R (quotient (c .|X|) (_⊟_ zPoly xPoly)) (_·_ r (vanishingRatio (c .|X|) (c .|C|))),
-    length-quotient R (c .|X|) (_⊟_ zPoly xPoly) X-positive,
+    length-add R (quotient (c .|X|) (zPoly ⊟ xPoly)) (r · vanishingRatio (c .|X|) (c .|C|)),
+    length-quotient R (c .|X|) (zPoly ⊟ xPoly) X-positive,
     length-minus zPoly xPoly (omega (arith, length-interpolate (c .|C|) z, length-interpolate (c .|X|) (publicPart c z), W .X-within)),
     length-interpolate (c .|C|) z,
     length-scale R r (vanishingRatio {q = q} (c .|X|) (c .|C|)),
@@ -81,13 +81,13 @@ module _ {q : Prime} (Q : Qualifies q) (c : Circuit) (W : WellFormed (q .p) c) (
   eval-ẑ : (y : Elem q) → eval ẑ y ≡ eval zPoly y ⊕ r ⊗ vanishing (c .|C|) y
   unfolding witness publicPoly assignmentValue sizesOf
   eval-ẑ y =
-      let high : Poly q = quotient (c .|X|) (_⊟_ zPoly xPoly) in
+      let high : Poly q = quotient (c .|X|) (zPoly ⊟ xPoly) in
       let ratio : Poly q = vanishingRatio (c .|X|) (c .|C|) in
       eval-assignment c X-positive (publicPart c z) (witness c z r) y
-      ∙ ap (λ w. w ⊗ vanishing (c .|X|) y ⊕ eval xPoly y) (eval-add R high (_·_ r ratio) y ∙ ap (λ v. eval high y ⊕ v) (eval-scale R r ratio y))
+      ∙ ap (λ w. w ⊗ vanishing (c .|X|) y ⊕ eval xPoly y) (eval-add R high (r · ratio) y ∙ ap (λ v. eval high y ⊕ v) (eval-scale R r ratio y))
       ∙ ring-by R (eval high y ∷ r ∷ eval ratio y ∷ vanishing (c .|X|) y ∷ eval zPoly y ∷ eval xPoly y ∷ vanishing (c .|C|) y ∷ [])
       (λ h r s v z x w. (h :+ r :* s) :* v :+ x := z :+ r :* w from ((:- :1) ⊙ (z :- x := h :* v)) ∷ (r ⊙ (s :* v := w)) ∷ []) (
-        sym (eval-minus zPoly xPoly y) ∙ vanishing-divides Q (c .|X|) (W .X-size) (_⊟_ zPoly xPoly) difference-on-X y,
+        sym (eval-minus zPoly xPoly y) ∙ vanishing-divides Q (c .|X|) (W .X-size) (zPoly ⊟ xPoly) difference-on-X y,
         (eval-vanishingRatio (c .|X|) (c .|C|) (W .X-size) (W .C-size) (W .X-within) y, tt),
       ) tt
 
