@@ -32,26 +32,26 @@ module _ {q : Prime} where
   R = primeRing q
 
   -- zeros, then three polynomials that are not longer
-  sum-from-zeros : (n : ℕ) (a b c : Poly q) → length a ≤ n → length b ≤ n → length c ≤ n → length (_⊞_ (_⊞_ a b) c) ≡ n
-      → _⊞_ (_⊞_ (_⊞_ (replicate n 𝟘) a) b) c ≡ _⊞_ (_⊞_ a b) c
+  sum-from-zeros : (n : ℕ) (a b c : Poly q) → length a ≤ n → length b ≤ n → length c ≤ n → length (a ⊞ b ⊞ c) ≡ n
+      → replicate n 𝟘 ⊞ a ⊞ b ⊞ c ≡ a ⊞ b ⊞ c
   sum-from-zeros n a b c a-fits b-fits c-fits long =
       let zeros : Poly q = replicate n 𝟘 in
-      equal-entries 𝟘 _ (_⊞_ (_⊞_ a b) c)
+      equal-entries 𝟘 _ (a ⊞ b ⊞ c)
       (omega (
         arith,
-        length-add R (_⊞_ (_⊞_ zeros a) b) c,
-        length-add R (_⊞_ zeros a) b,
+        length-add R (zeros ⊞ a ⊞ b) c,
+        length-add R (zeros ⊞ a) b,
         length-add R zeros a,
         length-replicate n (𝟘 {q = q}),
       ))
       (λ i _.
-      coefficient-add R (_⊞_ (_⊞_ zeros a) b) c i
+      coefficient-add R (zeros ⊞ a ⊞ b) c i
       ∙ ap (λ x. x ⊕ getD c i 𝟘)
-      (coefficient-add R (_⊞_ zeros a) b i
+      (coefficient-add R (zeros ⊞ a) b i
       ∙ ap (λ x. x ⊕ getD b i 𝟘)
       (coefficient-add R zeros a i ∙ ap (λ x. x ⊕ getD a i 𝟘) (replicate-at 𝟘 n i) ∙ zero-add R (getD a i 𝟘))
       ∙ sym (coefficient-add R a b i))
-      ∙ sym (coefficient-add R (_⊞_ a b) c i))
+      ∙ sym (coefficient-add R (a ⊞ b) c i))
 
 -- |K_M| of a list of entries, and |K| of three
 abbrev pub sizeOf : List ℕ → ℕ
@@ -65,7 +65,7 @@ small l = size-bound (sizeOf l) (sizeFor-is-size (length (entriesOf l)))
 
 -- δ_M (|K_M|/|K|) h_M, where |K| is z + 1
 abbrev pub joinedTerm : {q : Prime} → Three (List ℕ) → Circuit → Elem q → Elem q → Three (Elem q) → ℕ → MatrixName → Poly q
-joinedTerm ls k α β δ z M = _·_ (at δ M ⊗ (of (sizeOf (at ls M)) ⊘ of (z + 1))) (matrixQuotient k α β M)
+joinedTerm ls k α β δ z M = at δ M ⊗ (of (sizeOf (at ls M)) ⊘ of (z + 1)) · matrixQuotient k α β M
 
 module _ (a b m : List ℕ) (n : ℕ) (e : n + 1 ≡ largestOf a b m) where
   pub joined-fits : (sizeOf a ≤ n + 1) × (sizeOf b ≤ n + 1) × (sizeOf m ≤ n + 1) × (n < maxSize)
@@ -89,10 +89,10 @@ module _ (a b m : List ℕ) (n : ℕ) (e : n + 1 ≡ largestOf a b m) where
       made = joinedTerm (lists a b m) k α β δ n
 
       abbrev stated : MatrixName → Poly q
-      stated M = _·_ (at δ M ⊗ (of (at (sizesOf k .|K|) M) ⊘ of (largest (sizesOf k .|K|)))) (matrixQuotient k α β M)
+      stated M = at δ M ⊗ (of (at (sizesOf k .|K|) M) ⊘ of (largest (sizesOf k .|K|))) · matrixQuotient k α β M
 
       same-term : (M : MatrixName) → made M ≡ stated M
-      same-term M = sym (ap₂ (λ x y. _·_ (at δ M ⊗ (of x ⊘ of y)) (matrixQuotient k α β M)) (given-size (G M)) given-largest)
+      same-term M = sym (ap₂ (λ x y. at δ M ⊗ (of x ⊘ of y) · matrixQuotient k α β M) (given-size (G M)) given-largest)
 
       fits : (M : MatrixName) → length (stated M) ≤ n
       fits M =
@@ -111,8 +111,8 @@ module _ (a b m : List ℕ) (n : ℕ) (e : n + 1 ≡ largestOf a b m) where
           let W = well-formed-at (G A) (H .well-formed) in
           omega (arith, length-joinedQuotient (G A .qualifies) k W α β (H .α-outside) (H .β-outside) δ, given-largest)
 
-      pub joined-made : _⊞_ (_⊞_ (_⊞_ (replicate n 𝟘) (made A)) (made B)) (made C) ≡ joinedQuotient k α β δ
+      pub joined-made : replicate n 𝟘 ⊞ made A ⊞ made B ⊞ made C ≡ joinedQuotient k α β δ
       unfolding joinedQuotient
       joined-made =
-          ap₂ _⊞_ (ap₂ (λ x y. _⊞_ (_⊞_ (replicate n 𝟘) x) y) (same-term A) (same-term B)) (same-term C)
+          ap₂ _⊞_ (ap₂ (λ x y. replicate n 𝟘 ⊞ x ⊞ y) (same-term A) (same-term B)) (same-term C)
           ∙ sum-from-zeros n (stated A) (stated B) (stated C) (fits A) (fits B) (fits C) long

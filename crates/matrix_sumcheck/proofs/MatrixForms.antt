@@ -14,7 +14,7 @@ use Rattle.field.specs.Element.{Elem, of, 𝟘, 𝟙, _⊕_, _⊗_, _⊖_, neg,
 use Rattle.field.proofs.ElementLaws.{primeRing}
 use Rattle.field.proofs.Words.{of-result, of-results}
 use Rattle.domain.specs.Domain.{vanishing}
-use Rattle.domain.specs.Polynomial.{Poly, _⊞_, _⊟_, _·_}
+use Rattle.domain.specs.Polynomial.{Poly, constant, _⊞_, _⊟_, _·_}
 use Rattle.domain.proofs.ListLaws.{equal-entries}
 use Rattle.protocol.specs.Three.{MatrixName}
 use Rattle.protocol.specs.Circuit.{Circuit}
@@ -29,7 +29,7 @@ module _ {q : Prime} where
 
   -- a sum as the code leaves it in a slice
   pub added : (f g : List ℕ) (k : ℕ) {s : List ℕ} {F G : Poly q} {K : Elem q}
-      → s ≡ words (_⊞_ (map (of {q = q}) f) (_·_ (of k) (map of g))) → map of f ≡ F → of k ≡ K → map of g ≡ G → map of s ≡ _⊞_ F (_·_ K G)
+      → s ≡ words (map (of {q = q}) f ⊞ of k · map of g) → map of f ≡ F → of k ≡ K → map of g ≡ G → map of s ≡ F ⊞ K · G
   added f g k {s} {F} {G} {K} made first factor second =
       of-results _ made ∙ ap₂ _⊞_ first (ap₂ _·_ factor second)
 
@@ -41,13 +41,13 @@ module _ {q : Prime} where
       ∙ ap₂ _∷_ (of-result x made) (of-zeros m)
 
   -- a coefficient of f + k·g
-  sum-at : (f g : Poly q) (k : Elem q) (i : ℕ) → getD (_⊞_ f (_·_ k g)) i 𝟘 ≡ getD f i 𝟘 ⊕ k ⊗ getD g i 𝟘
-  sum-at f g k i = coefficient-add R f (_·_ k g) i ∙ ap (λ x. getD f i 𝟘 ⊕ x) (coefficient-scale R k g i)
+  sum-at : (f g : Poly q) (k : Elem q) (i : ℕ) → getD (f ⊞ k · g) i 𝟘 ≡ getD f i 𝟘 ⊕ k ⊗ getD g i 𝟘
+  sum-at f g k i = coefficient-add R f (k · g) i ∙ ap (λ x. getD f i 𝟘 ⊕ x) (coefficient-scale R k g i)
 
-  length-sum : (f g : Poly q) (k : Elem q) → length (_⊞_ f (_·_ k g)) ≡ max (length f) (length g)
-  length-sum f g k = omega (arith, length-add R f (_·_ k g), length-scale R k g)
+  length-sum : (f g : Poly q) (k : Elem q) → length (f ⊞ k · g) ≡ max (length f) (length g)
+  length-sum f g k = omega (arith, length-add R f (k · g), length-scale R k g)
 
-  pub zeros-plus : (n : ℕ) (f : Poly q) → length f ≡ n → _⊞_ (replicate n 𝟘) f ≡ f
+  pub zeros-plus : (n : ℕ) (f : Poly q) → length f ≡ n → replicate n 𝟘 ⊞ f ≡ f
   zeros-plus n f e =
       equal-entries 𝟘 _ f (omega (arith, length-add R (replicate n 𝟘) f, length-replicate n (𝟘 {q = q})))
       (λ i _. coefficient-add R (replicate n 𝟘) f i ∙ ap (λ x. x ⊕ getD f i 𝟘) (replicate-at 𝟘 n i) ∙ zero-add R (getD f i 𝟘))
@@ -57,18 +57,18 @@ module _ {q : Prime} where
     abbrev zeros : Poly q
     zeros = replicate n 𝟘
 
-    pub difference-form : length f ≤ n → length g ≡ n → _⊞_ (_⊞_ zeros (_·_ 𝟙 f)) (_·_ (𝟘 ⊖ 𝟙) g) ≡ _⊟_ f g
+    pub difference-form : length f ≤ n → length g ≡ n → zeros ⊞ 𝟙 · f ⊞ (𝟘 ⊖ 𝟙) · g ≡ f ⊟ g
     difference-form le e =
-        equal-entries 𝟘 _ (_⊟_ f g)
+        equal-entries 𝟘 _ (f ⊟ g)
         (omega (
           arith,
-          length-sum (_⊞_ zeros (_·_ 𝟙 f)) g (𝟘 ⊖ 𝟙),
+          length-sum (zeros ⊞ 𝟙 · f) g (𝟘 ⊖ 𝟙),
           length-sum zeros f 𝟙,
           length-sum f g (neg 𝟙),
           length-replicate n (𝟘 {q = q}),
         ))
         (λ i _.
-        sum-at (_⊞_ zeros (_·_ 𝟙 f)) g (𝟘 ⊖ 𝟙) i
+        sum-at (zeros ⊞ 𝟙 · f) g (𝟘 ⊖ 𝟙) i
         ∙ ap (λ x. x ⊕ (𝟘 ⊖ 𝟙) ⊗ getD g i 𝟘) (sum-at zeros f 𝟙 i ∙ ap (λ x. x ⊕ 𝟙 ⊗ getD f i 𝟘) (replicate-at 𝟘 n i))
         ∙ ring R (getD f i 𝟘 ∷ getD g i 𝟘 ∷ []) (λ f g. :0 :+ :1 :* f :+ (:0 :- :1) :* g := f :+ (:- :1) :* g) tt
         ∙ sym (sum-at f g (neg 𝟙) i))
@@ -76,23 +76,23 @@ module _ {q : Prime} where
   -- αβ - α col - β row + rowcol
   module _ (m : ℕ) (α β : Elem q) (row col rowcol : Poly q) where
     abbrev corner : Poly q
-    corner = α ⊗ β ∷ []
+    corner = constant (α ⊗ β)
 
     abbrev start : Poly q
     start = α ⊗ β ∷ replicate m 𝟘
 
     abbrev less-col : Poly q
-    less-col = _⊞_ start (_·_ (𝟘 ⊖ α) col)
+    less-col = start ⊞ (𝟘 ⊖ α) · col
 
     abbrev less-row : Poly q
-    less-row = _⊞_ less-col (_·_ (𝟘 ⊖ β) row)
+    less-row = less-col ⊞ (𝟘 ⊖ β) · row
 
     abbrev stated : Poly q
-    stated = _⊟_ (_⊟_ corner (_·_ α col)) (_·_ β row)
+    stated = corner ⊟ α · col ⊟ β · row
 
-    pub factors-form : length row ≡ suc m → length col ≡ suc m → length rowcol ≡ suc m → _⊞_ less-row (_·_ 𝟙 rowcol) ≡ _⊞_ stated rowcol
+    pub factors-form : length row ≡ suc m → length col ≡ suc m → length rowcol ≡ suc m → less-row ⊞ 𝟙 · rowcol ≡ stated ⊞ rowcol
     factors-form e-row e-col e-rowcol =
-        equal-entries 𝟘 _ (_⊞_ stated rowcol)
+        equal-entries 𝟘 _ (stated ⊞ rowcol)
         (omega (
           arith,
           length-sum less-row rowcol 𝟙,
@@ -100,8 +100,8 @@ module _ {q : Prime} where
           length-sum start col (𝟘 ⊖ α),
           length-replicate m (𝟘 {q = q}),
           length-add R stated rowcol,
-          length-sum (_⊟_ corner (_·_ α col)) (_·_ β row) (neg 𝟙),
-          length-sum corner (_·_ α col) (neg 𝟙),
+          length-sum (corner ⊟ α · col) (β · row) (neg 𝟙),
+          length-sum corner (α · col) (neg 𝟙),
           length-scale R α col,
           length-scale R β row,
         ))
@@ -116,23 +116,23 @@ module _ {q : Prime} where
         ∙ sym
         (coefficient-add R stated rowcol i
         ∙ ap (λ x. x ⊕ getD rowcol i 𝟘)
-        (sum-at (_⊟_ corner (_·_ α col)) (_·_ β row) (neg 𝟙) i
+        (sum-at (corner ⊟ α · col) (β · row) (neg 𝟙) i
         ∙ ap₂ (λ x y. x ⊕ neg 𝟙 ⊗ y)
-        (sum-at corner (_·_ α col) (neg 𝟙) i ∙ ap (λ x. getD corner i 𝟘 ⊕ neg 𝟙 ⊗ x) (coefficient-scale R α col i))
+        (sum-at corner (α · col) (neg 𝟙) i ∙ ap (λ x. getD corner i 𝟘 ⊕ neg 𝟙 ⊗ x) (coefficient-scale R α col i))
         (coefficient-scale R β row i))))
 
 module _ {q : Prime} (k : Circuit) (M : MatrixName) (α β : Elem q) {r c : ℕ} (rows : k .|R| ≡ r) (columns : k .|C| ≡ c) where
   -- a_M
-  pub numerator-made : _·_ (vanishing r α ⊗ vanishing c β) (index k M .rowcolval) ≡ numerator k α β M
+  pub numerator-made : vanishing r α ⊗ vanishing c β · index k M .rowcolval ≡ numerator k α β M
   unfolding numerator
-  numerator-made = sym (ap₂ (λ m n. _·_ (vanishing m α ⊗ vanishing n β) (index k M .rowcolval)) rows columns)
+  numerator-made = sym (ap₂ (λ m n. vanishing m α ⊗ vanishing n β · index k M .rowcolval) rows columns)
 
   -- b_M
   pub denominator-made :
-      _·_ (of r ⊗ of c) (_⊞_ (_⊟_ (_⊟_ (α ⊗ β ∷ []) (_·_ α (index k M .col))) (_·_ β (index k M .row))) (index k M .rowcol))
+      of r ⊗ of c · (constant (α ⊗ β) ⊟ α · index k M .col ⊟ β · index k M .row ⊞ index k M .rowcol)
       ≡ denominator k α β M
   unfolding denominator
   denominator-made =
       let i : Index (Poly q) = index k M in
-      let factors : Poly q = _⊞_ (_⊟_ (_⊟_ (α ⊗ β ∷ []) (_·_ α (i .col))) (_·_ β (i .row))) (i .rowcol) in
-      sym (ap₂ (λ m n. _·_ (of m ⊗ of n) factors) rows columns)
+      let factors : Poly q = constant (α ⊗ β) ⊟ α · i .col ⊟ β · i .row ⊞ i .rowcol in
+      sym (ap₂ (λ m n. of m ⊗ of n · factors) rows columns)

@@ -35,9 +35,9 @@ fn add_matrix(
     requires { ⌜ (sizeFor (length (entriesOf (now entries))) ≤ length (now out) + 1) × (length (now out) < maxSize) ⌝ }
     ensures { λ _. ⌜ ((q : Prime) (k : Circuit) (M : MatrixName) → Given q p r c (now (entries .entry)) k M → Challenged q p k alpha beta
         → now (out .exit)
-        ≡ words (_⊞_ (map of (now (out .entry)))
-        (_·_ (of {q = q} delta ⊗ (of (sizeFor (length (entriesOf (now (entries .entry))))) ⊘ of (length (now (out .entry)) + 1)))
-        (matrixQuotient k (of alpha) (of beta) M)))) ⌝ }
+        ≡ words (map of (now (out .entry))
+        ⊞ of {q = q} delta ⊗ (of (sizeFor (length (entriesOf (now (entries .entry))))) ⊘ of (length (now (out .entry)) + 1))
+        · matrixQuotient k (of alpha) (of beta) M)) ⌝ }
 {
     let size = circuit::matrices::size_of(entries);
     let share = field::multiply(p, size, field::invert(p, (out.len() + 1) as u32));

@@ -137,7 +137,7 @@ pub fn matrix_remainder_into(
 // k·f into f.
 fn scale_in_place(p: u32, k: u32, f: &mut [u32])
     requires { ⌜ 0 < p ⌝ }
-    ensures { λ _. ⌜ ((q : Prime) → q .p ≡ p → now (f .exit) ≡ words (_·_ (of {q = q} k) (map of (now (f .entry))))) ⌝ }
+    ensures { λ _. ⌜ ((q : Prime) → q .p ≡ p → now (f .exit) ≡ words (of {q = q} k · map of (now (f .entry)))) ⌝ }
 {
     let mut i = 0;
     while i < f.len() {
@@ -260,7 +260,7 @@ fn difference_into(p: u32, f: &[u32], g: &[u32], h: &[u32], out: &mut [u32])
     requires { ⌜ (length (now f) ≤ length (now out)) × (length (now out) < 2048) ⌝ }
     ensures { λ _. ⌜ ((q : Prime) → q .p ≡ p
         → now (out .exit)
-        ≡ words (_⊟_ (map (of {q = q}) (now (f .entry))) (_⊠_ (map of (now (g .entry))) (map of (now (h .entry)))))) ⌝ }
+        ≡ words (map (of {q = q}) (now (f .entry)) ⊟ map of (now (g .entry)) ⊠ map of (now (h .entry)))) ⌝ }
 {
     let n = out.len();
     let mut product = [0u32; 2047];

@@ -65,7 +65,7 @@ module _ {q : Prime} where
 
   -- Where h is added to the entries of a list of field words, from the first on and from the i-th on: each entry then.
   added-at : (h : List (Elem q)) (l : List ℕ) (k : ℕ) → length h ≤ length l → getD l k 0 ≡ of {q = q} (getD l k 0) .word
-      → getD (words (_⊞_ (map of (take (length h) l)) h) ++ drop (length h) l) k 0 ≡ (of (getD l k 0) ⊕ getD h k 𝟘) .word
+      → getD (words (map of (take (length h) l) ⊞ h) ++ drop (length h) l) k 0 ≡ (of (getD l k 0) ⊕ getD h k 𝟘) .word
   added-at [] l k le field-word = field-word ∙ sym (ap (λ (a : Elem q). a .word) (add-zero (of (getD l k 0))))
   added-at (a ∷ h) [] k le field-word = absurd (omega arith)
   added-at (a ∷ h) (x ∷ l) zero le field-word = refl
@@ -73,7 +73,7 @@ module _ {q : Prime} where
 
   pub added-from : (i : ℕ) (h : List (Elem q)) (l : List ℕ) (k : ℕ) → i + length h ≤ length l
       → getD l k 0 ≡ of {q = q} (getD l k 0) .word
-      → getD (take i l ++ (words (_⊞_ (map of (take (length h) (drop i l))) h) ++ drop (length h) (drop i l))) k 0
+      → getD (take i l ++ (words (map of (take (length h) (drop i l)) ⊞ h) ++ drop (length h) (drop i l))) k 0
       ≡ (of (getD l k 0) ⊕ getD (shifted (primeRing q) i h) k 𝟘) .word
   added-from zero h l k le field-word = added-at h l k (omega arith) field-word
   added-from (suc i) h [] k le field-word = absurd (omega arith)

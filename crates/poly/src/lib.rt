@@ -48,7 +48,7 @@ pub fn add_scaled(p: u32, f: &mut [u32], k: u32, g: &[u32])
     requires { ⌜ 0 < p ⌝ }
     requires { ⌜ length (now g) ≤ length (now f) ⌝ }
     ensures { λ _. ⌜ ((q : Prime) → q .p ≡ p
-        → now (f .exit) ≡ words (_⊞_ (map of (now (f .entry))) (_·_ (of {q = q} k) (map of (now (g .entry)))))) ⌝ }
+        → now (f .exit) ≡ words (map of (now (f .entry)) ⊞ of {q = q} k · map of (now (g .entry)))) ⌝ }
 {
     let mut i = 0;
     while i < f.len() {
@@ -63,7 +63,7 @@ pub fn multiply_into(p: u32, f: &[u32], g: &[u32], out: &mut [u32])
     requires { ⌜ (0 < length (now f)) × (0 < length (now g)) ⌝ }
     requires { ⌜ length (now out) + 1 ≡ length (now f) + length (now g) ⌝ }
     ensures { λ _. ⌜ ((q : Prime) → q .p ≡ p
-        → now (out .exit) ≡ words (_⊠_ (map (of {q = q}) (now (f .entry))) (map of (now (g .entry))))) ⌝ }
+        → now (out .exit) ≡ words (map (of {q = q}) (now (f .entry)) ⊠ map of (now (g .entry)))) ⌝ }
 {
     clear(out);
     let mut i = f.len();

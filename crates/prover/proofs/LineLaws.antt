@@ -181,13 +181,13 @@ columns-within r es e = subst (λ (n : ℕ). All (Within r n) es) (sym e)
 -- Σ η_M M̂(α,Y), times ẑ, and m
 pub line-made :
     (q : Prime) (Q : Qualifies q) (k : Circuit) (W : WellFormed (q .p) k) {c : ℕ} → k .|C| ≡ c → (m ẑ : Poly q) (α : Elem q) (η : Three (Elem q))
-    → words (_⊞_ (_⊠_ (interpolate c (tabulate c (λ j. weighted η (each (λ M. columnSum k M α j))))) ẑ) m) ≡ words (line k m ẑ α η)
+    → words (interpolate c (tabulate c (λ j. weighted η (each (λ M. columnSum k M α j)))) ⊠ ẑ ⊞ m) ≡ words (line k m ẑ α η)
 unfolding line
 line-made q Q k W {c} eC m ẑ α η =
     let f : ℕ → Elem q = λ j. weighted η (each (λ M. columnSum k M α j)) in
     ap words
-    (plus-comm (primeRing q) (_⊠_ (interpolate c (tabulate c f)) ẑ) m
-    ∙ ap (λ (g : Poly q). _⊞_ m (_⊠_ g ẑ)) ((λ t. interpolate (sym eC t) (tabulate (sym eC t) f)) ∙ sym (weighted-by-columns Q k W α η)))
+    (plus-comm (primeRing q) (interpolate c (tabulate c f) ⊠ ẑ) m
+    ∙ ap (λ (g : Poly q). m ⊞ g ⊠ ẑ) ((λ t. interpolate (sym eC t) (tabulate (sym eC t) f)) ∙ sym (weighted-by-columns Q k W α η)))
 
 pub words-tail : {q : Prime} (l : List (Elem q)) → tail (words l) ≡ words (tail l)
 words-tail [] = refl

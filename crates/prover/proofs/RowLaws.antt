@@ -38,10 +38,10 @@ module _ (q : Prime) (Q : Qualifies q) (k : Circuit) (W : WellFormed (q .p) k) {
   image-agrees M = (λ t. interpolate (sym eR t) (tabulate (sym eR t) (rowSum k M z))) ∙ sym (image-by-rows Q k W M ẑ z values)
 
   pub row-quotient-made : {f g h : Poly q} → f ≡ imagePoly A → g ≡ imagePoly B → h ≡ imagePoly C
-      → words (quotient r (_⊟_ (_⊠_ f g) h)) ≡ words (rowQuotient k ẑ)
+      → words (quotient r (f ⊠ g ⊟ h)) ≡ words (rowQuotient k ẑ)
   unfolding rowQuotient
   row-quotient-made a b c =
-      λ t. words (quotient (sym eR t) (_⊟_ (_⊠_ ((a ∙ image-agrees A) t) ((b ∙ image-agrees B) t)) ((c ∙ image-agrees C) t)))
+      λ t. words (quotient (sym eR t) ((a ∙ image-agrees A) t ⊠ (b ∙ image-agrees B) t ⊟ (c ∙ image-agrees C) t))
 
   pub row-sum-made : (M : MatrixName) (α : Elem q) {f : Poly q} → f ≡ imagePoly M → eval f α ≡ image k ẑ M α
   row-sum-made M α made =

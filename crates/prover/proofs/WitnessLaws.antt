@@ -113,14 +113,14 @@ public-poly q k {c} {x} z d e eC eX within kept made =
 module _ (q : Prime) where
   -- f + (p - 1)·g is f - g
   pub minus-made : {p : ℕ} → q .p ≡ p → (F G : Poly q) {f g : Poly q} {e : List ℕ} → f ≡ F → g ≡ G
-      → e ≡ words (_⊞_ f (_·_ (of (p - 1)) g)) → e ≡ words (_⊟_ F G)
-  minus-made value F G made-f made-g made = made ∙ (λ t. words (_⊞_ (made-f t) (_·_ (minus-one q value t) (made-g t))))
+      → e ≡ words (f ⊞ of (p - 1) · g) → e ≡ words (F ⊟ G)
+  minus-made value F G made-f made-g made = made ∙ (λ t. words (made-f t ⊞ minus-one q value t · made-g t))
 
   -- f + 1·g is f + g
   pub plus-made : (F G : Poly q) {f g : Poly q} {e : List ℕ} → f ≡ F → g ≡ G
-      → e ≡ words (_⊞_ f (_·_ (of 1) g)) → e ≡ words (_⊞_ F G)
+      → e ≡ words (f ⊞ of 1 · g) → e ≡ words (F ⊞ G)
   plus-made F G made-f made-g made =
-      made ∙ (λ t. words (_⊞_ (made-f t) (_·_ 𝟙 (made-g t)))) ∙ ap (λ h. words (_⊞_ F h)) (scale-one (primeRing q) G)
+      made ∙ (λ t. words (made-f t ⊞ 𝟙 · made-g t)) ∙ ap (λ h. words (F ⊞ h)) (scale-one (primeRing q) G)
 
 -- a 0 behind the first n words of a slice of n + 1
 pub padded : (n : ℕ) (out e : List ℕ) → length out ≡ n + 1 → length e ≡ n → set (e ++ drop n out) n 0 ≡ e ++ (0 ∷ [])
@@ -132,24 +132,23 @@ padded n out e whole part =
 -- ŵ from its two terms, the first of them padded
 pub witness-made :
     (q : Prime) (k : Circuit) {c x : ℕ} (z : List (Elem q)) (r : Elem q) {f e : List ℕ} {g : Poly q} → k .|C| ≡ c → k .|X| ≡ x
-    → f ≡ e ++ (0 ∷ []) → e ≡ words (quotient x (_⊟_ (interpolate c z) (publicPoly k (publicPart k z)))) → g ≡ quotient x (vanishingPoly c)
-    → length e < length (quotient x (vanishingPoly {q = q} c)) → words (_⊞_ (map of f) (_·_ r g)) ≡ words (witness k z r)
+    → f ≡ e ++ (0 ∷ []) → e ≡ words (quotient x (interpolate c z ⊟ publicPoly k (publicPart k z))) → g ≡ quotient x (vanishingPoly c)
+    → length e < length (quotient x (vanishingPoly {q = q} c)) → words (map of f ⊞ r · g) ≡ words (witness k z r)
 unfolding witness
 witness-made q k {c} {x} z r {f} {e} {g} eC eX pad made ratio shorter =
-    let F : Poly q = quotient x (_⊟_ (interpolate c z) (publicPoly k (publicPart k z))) in
+    let F : Poly q = quotient x (interpolate c z ⊟ publicPoly k (publicPart k z)) in
     let G : Poly q = quotient x (vanishingPoly c) in
     ap words
-    ((λ t. _⊞_ (map of (pad t)) (_·_ r (ratio t)))
-    ∙ ap (λ l. _⊞_ l (_·_ r G)) (map-append of e (0 ∷ []))
-    ∙ plus-padded (primeRing q) (map of e) (_·_ r G) (omega (arith, length-map e (of {q = q}), length-scale (primeRing q) r G))
-    ∙ ap (λ l. _⊞_ l (_·_ r G)) (of-results F made)
+    ((λ t. map of (pad t) ⊞ r · ratio t)
+    ∙ ap (λ l. l ⊞ r · G) (map-append of e (0 ∷ []))
+    ∙ plus-padded (primeRing q) (map of e) (r · G) (omega (arith, length-map e (of {q = q}), length-scale (primeRing q) r G))
+    ∙ ap (λ l. l ⊞ r · G) (of-results F made)
     ∙ (λ t.
-    _⊞_ (quotient (sym eX t) (_⊟_ (interpolate (sym eC t) z) (publicPoly k (publicPart k z))))
-    (_·_ r (quotient (sym eX t) (vanishingPoly (sym eC t))))))
+    quotient (sym eX t) (interpolate (sym eC t) z ⊟ publicPoly k (publicPart k z)) ⊞ r · quotient (sym eX t) (vanishingPoly (sym eC t))))
 
 -- ẑ from ŵ v_X and x̂
 pub assignment-made :
     (q : Prime) (k : Circuit) {x : ℕ} (z w : Poly q) → k .|X| ≡ x
-    → words (_⊞_ (_⊠_ w (vanishingPoly x)) (publicPoly k (publicPart k z))) ≡ words (assignment k (publicPart k z) w)
+    → words (w ⊠ vanishingPoly x ⊞ publicPoly k (publicPart k z)) ≡ words (assignment k (publicPart k z) w)
 unfolding assignment
-assignment-made q k z w eX = λ t. words (_⊞_ (_⊠_ w (vanishingPoly (sym eX t))) (publicPoly k (publicPart k z)))
+assignment-made q k z w eX = λ t. words (w ⊠ vanishingPoly (sym eX t) ⊞ publicPoly k (publicPart k z))

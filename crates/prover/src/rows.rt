@@ -40,7 +40,7 @@ fn product_minus_into(p: u32, f: &[u32], g: &[u32], h: &[u32], out: &mut [u32])
     requires { ⌜ (0 < length (now f)) × (length (now g) ≡ length (now f)) × (length (now h) ≡ length (now f)) ⌝ }
     requires { ⌜ length (now out) + 1 ≡ length (now f) + length (now f) ⌝ }
     ensures { λ _. ⌜ ((q : Prime) → q .p ≡ p
-        → now (out .exit) ≡ words (_⊟_ (_⊠_ (map (of {q = q}) (now (f .entry))) (map of (now (g .entry)))) (map of (now (h .entry))))) ⌝ }
+        → now (out .exit) ≡ words (map (of {q = q}) (now (f .entry)) ⊠ map of (now (g .entry)) ⊟ map of (now (h .entry)))) ⌝ }
 {
     poly::multiply_into(p, f, g, out);
     let minus_one = p - 1;
@@ -54,7 +54,7 @@ fn product_quotient_into(p: u32, n: usize, f: &[u32], g: &[u32], h: &[u32], out:
     requires { ⌜ (length (now f) ≡ n) × (length (now g) ≡ n) × (length (now h) ≡ n) × (length (now out) ≡ n - 1) ⌝ }
     ensures { λ _. ⌜ ((q : Prime) → q .p ≡ p
         → now (out .exit)
-        ≡ words (quotient n (_⊟_ (_⊠_ (map (of {q = q}) (now (f .entry))) (map of (now (g .entry)))) (map of (now (h .entry)))))) ⌝ }
+        ≡ words (quotient n (map (of {q = q}) (now (f .entry)) ⊠ map of (now (g .entry)) ⊟ map of (now (h .entry))))) ⌝ }
 {
     let m = n + n - 1;
     let mut difference = [0u32; 2047];

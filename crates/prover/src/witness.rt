@@ -73,7 +73,7 @@ fn private_quotient_into(p: u32, c: u32, x: u32, z: &[u32], out: &mut [u32])
     requires { ⌜ (length (now z) ≡ c) × (length (now out) ≡ c - x) ⌝ }
     ensures { λ _. ⌜ ((q : Prime) → Known q p → (k : Circuit) → k .|C| ≡ c → k .|X| ≡ x
         → now (out .exit)
-        ≡ words (quotient x (_⊟_ (interpolation c (map (of {q = q}) (now (z .entry)))) (publicPoly k (publicPart k (map of (now (z .entry)))))))) ⌝ }
+        ≡ words (quotient x (interpolation c (map (of {q = q}) (now (z .entry))) ⊟ publicPoly k (publicPart k (map of (now (z .entry))))))) ⌝ }
 {
     let n = c as usize;
     let m = x as usize;

@@ -22,12 +22,12 @@ use Rattle.poly.proofs.add_scaled.Tie as tie
 -- what the slice is to hold, and its entries
 module _ (q : Prime) (f : List ℕ) (k : ℕ) (g : List ℕ) where
   abbrev sum-of : Poly q
-  sum-of = _⊞_ (map of f) (_·_ (of k) (map of g))
+  sum-of = map of f ⊞ of k · map of g
 
   sum-at : (i : ℕ) → (of (getD f i 0) ⊕ of {q = q} k ⊗ of (getD g i 0)) .word ≡ getD (words sum-of) i 0
   sum-at i =
       made-at sum-of i (ap₂ (λ (x y : Elem q). (x ⊕ of k ⊗ y) .word) (element-at f i) (element-at g i))
-      (coefficient-add (primeRing q) (map of f) (_·_ (of k) (map of g)) i
+      (coefficient-add (primeRing q) (map of f) (of k · map of g) i
       ∙ ap (λ (x : Elem q). getD (map of f) i 𝟘 ⊕ x) (coefficient-scale (primeRing q) (of k) (map of g) i))
 
 length-sum : (q : Prime) (f : List ℕ) (k : ℕ) (g : List ℕ) → length g ≤ length f → length (words (sum-of q f k g)) ≡ length f
@@ -35,7 +35,7 @@ length-sum q f k g le =
     omega (
       arith,
       length-words (sum-of q f k g),
-      length-add (primeRing q) (map of f) (_·_ (of k) (map of g)),
+      length-add (primeRing q) (map of f) (of k · map of g),
       length-scale (primeRing q) (of k) (map of g),
       length-map f (of {q = q}),
       length-map g (of {q = q}),

@@ -22,26 +22,26 @@ use Rattle.poly.proofs.multiply_into.Tie as tie
 
 -- the list has the coefficients of Y^i · (f_i + f_(i+1)·Y + ..) · g
 abbrev Holds : (q : Prime) (f g out : List ℕ) → ℕ → Type 0
-Holds q f g out i = (k : ℕ) → getD out k 0 ≡ (getD (shifted (primeRing q) i (_⊠_ (map (of {q = q}) (drop i f)) (map of g))) k 𝟘) .word
+Holds q f g out i = (k : ℕ) → getD out k 0 ≡ (getD (shifted (primeRing q) i (map (of {q = q}) (drop i f) ⊠ map of g)) k 𝟘) .word
 
 -- a turn: f_i · g is added from i on
 row : (q : Prime) (f g out : List ℕ) (i m : ℕ) (sum : List ℕ) → m ≡ length g → i < length f → i + length g ≤ length out
     → Holds q f g out (suc i)
-    → sum ≡ words (_⊞_ (map of (take m (drop i out))) (_·_ (of {q = q} (getD f i 0)) (map of g)))
+    → sum ≡ words (map of (take m (drop i out)) ⊞ of {q = q} (getD f i 0) · map of g)
     → Holds q f g (take i out ++ (sum ++ drop m (drop i out))) i
 row q f g out i m sum size below within held made k =
     let first : Elem q = of (getD f i 0) in
-    let scaled : Poly q = _·_ first (map of g) in
+    let scaled : Poly q = first · map of g in
     let rest : Poly q = map of (drop (suc i) f) in
-    let old : Elem q = getD (shifted (primeRing q) (suc i) (_⊠_ rest (map of g))) k 𝟘 in
+    let old : Elem q = getD (shifted (primeRing q) (suc i) (rest ⊠ map of g)) k 𝟘 in
     let same : m ≡ length scaled = omega (arith, length-scale (primeRing q) first (map of g), length-map g (of {q = q})) in
     ap (λ (l : List ℕ). getD (take i out ++ (l ++ drop m (drop i out))) k 0) made
-    ∙ ap (λ (n : ℕ). getD (take i out ++ (words (_⊞_ (map of (take n (drop i out))) scaled) ++ drop n (drop i out))) k 0) same
+    ∙ ap (λ (n : ℕ). getD (take i out ++ (words (map of (take n (drop i out)) ⊞ scaled) ++ drop n (drop i out))) k 0) same
     ∙ added-from i scaled out k (omega arith) (reduced old (held k))
     ∙ ap (λ (x : Elem q). x .word)
     (ap (λ (x : Elem q). x ⊕ getD (shifted (primeRing q) i scaled) k 𝟘) (of-result old (held k))
     ∙ sym (product-row (primeRing q) i first rest (map of g) k)
-    ∙ sym (ap (λ (l : List ℕ). getD (shifted (primeRing q) i (_⊠_ (map of l) (map of g))) k 𝟘) (drop-cons f i 0 below)))
+    ∙ sym (ap (λ (l : List ℕ). getD (shifted (primeRing q) i (map of l ⊠ map of g)) k 𝟘) (drop-cons f i 0 below)))
 
 abbrev Inv-loop : tie.InvT-loop
 Inv-loop p f g out₀ i₀ out i =
@@ -63,7 +63,7 @@ loop-holds c =
       refl,
       λ q e k.
           ap (λ (l : List ℕ). getD l k 0) (c .before .before .clear .ensures) ∙ replicate-at 0 (length (a .out .now)) k
-          ∙ sym (ap (λ (l : List ℕ). (getD (shifted (primeRing q) (length f) (_⊠_ (map of l) (map of g))) k 𝟘) .word) (drop-length f)
+          ∙ sym (ap (λ (l : List ℕ). (getD (shifted (primeRing q) (length f) (map of l ⊠ map of g)) k 𝟘) .word) (drop-length f)
           ∙ ap (λ (x : Elem q). x .word) (shifted-empty (primeRing q) (length f) k) ∙ word-of q 0 (omega (arith, q .above-two))),
     )
 
@@ -122,7 +122,7 @@ returns c q e =
     let l = c .before .loop in
     let f : List ℕ = a .f .now in
     let g : List ℕ = a .g .now in
-    let product : Poly q = _⊠_ (map of f) (map of g) in
+    let product : Poly q = map of f ⊠ map of g in
     let done : l .i ≡ 0 = omega arith in
     let whole : Holds q f g (l .out) 0 = subst (λ (n : ℕ). Holds q f g (l .out) n) done (l .inv .2 q e) in
     let f-length : length (map (of {q = q}) f) ≡ length f = length-map f of in

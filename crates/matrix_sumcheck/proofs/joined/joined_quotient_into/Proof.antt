@@ -78,10 +78,10 @@ returns c q k G H =
     let term : ℕ → MatrixName → Poly q = joinedTerm (lists (a .ea .now) (a .eb .now) (a .ec .now)) k (of (a .alpha)) (of (a .beta)) δ in
     let zeros : map of (at-clear .clear .last .0) ≡ replicate n (𝟘 {q = q}) =
     ap (map of) (at-clear .clear .ensures) ∙ of-zeros n in
-    let one : map of (at-add-matrix .add-matrix .last .1 .1 .1 .1 .1 .1 .1 .0) ≡ _⊞_ (replicate n 𝟘) (term n A) =
+    let one : map of (at-add-matrix .add-matrix .last .1 .1 .1 .1 .1 .1 .1 .0) ≡ replicate n 𝟘 ⊞ term n A =
     of-results _ (at-add-matrix .add-matrix .ensures q k A (G A) H) ∙ ap₂ _⊞_ zeros
     (ap (λ z. term z A) (at-clear .clear .kept .0)) in
-    let two : map of (at-add-matrix2 .add-matrix2 .last .1 .1 .1 .1 .1 .1 .1 .0) ≡ _⊞_ (_⊞_ (replicate n 𝟘) (term n A)) (term n B) =
+    let two : map of (at-add-matrix2 .add-matrix2 .last .1 .1 .1 .1 .1 .1 .1 .0) ≡ replicate n 𝟘 ⊞ term n A ⊞ term n B =
     of-results _ (at-add-matrix2 .add-matrix2 .ensures q k B (G B) H) ∙ ap₂ _⊞_ one
     (ap (λ z. term z B) (at-add-matrix .add-matrix .kept .1 .1 .1 .1 .1 .1 .1 .0 ∙ at-clear .clear .kept .0)) in
     at-add-matrix3 .add-matrix3 .ensures q k C (G C) H

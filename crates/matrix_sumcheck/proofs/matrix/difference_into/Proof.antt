@@ -84,14 +84,14 @@ returns c q e =
     let h : Poly q = map of (a .h .now) in
     let call = at-multiply-into .multiply-into in
     let product =
-    back-list 2047 (fits _ (start .pre .1 .1 .1 .1)) (call .last .1 .1 .1 .0) (call .kept .1 .1 .1 .0) (_⊠_ g h) (call .ensures q e) in
+    back-list 2047 (fits _ (start .pre .1 .1 .1 .1)) (call .last .1 .1 .1 .0) (call .kept .1 .1 .1 .0) (g ⊠ h) (call .ensures q e) in
     let zeros : map of (at-clear .clear .last .0) ≡ replicate n (𝟘 {q = q}) =
     ap (map of) (at-clear .clear .ensures) ∙ of-zeros n in
     let one = added (at-clear .clear .last .0) (a .f .now) 1 (at-add-scaled .add-scaled .ensures q e) zeros refl refl in
     let f-length : length f ≡ length (a .f .now) = length-map (a .f .now) of in
     let g-length : length g ≡ length (a .g .now) = length-map (a .g .now) of in
     let h-length : length h ≡ length (a .h .now) = length-map (a .h .now) of in
-    let long : length (_⊠_ g h) ≡ n =
+    let long : length (g ⊠ h) ≡ n =
     omega (
       arith,
       start .pre .1 .1 .0,
@@ -101,7 +101,7 @@ returns c q e =
     ∙ ap words
     (ap₂ _⊞_ one
     (ap₂ _·_ (of-result (𝟘 ⊖ 𝟙) (at-subtract .subtract .ensures q e)) product)
-    ∙ difference-form n f (_⊠_ g h) (omega (arith, start .pre .1 .1 .1 .0)) long)
+    ∙ difference-form n f (g ⊠ h) (omega (arith, start .pre .1 .1 .1 .0)) long)
 
 pub difference-into-spec : {M : Type 1} → statement M
 difference-into-spec =

@@ -29,9 +29,9 @@ ready-quotient : (z : ℕ) {p difference : ℕ} → 1 < p → z + 1 + z ≡ diff
 ready-quotient z p d = (omega arith, (omega arith, omega arith))
 
 quotient-made : {q : Prime} (k : Circuit) (M : MatrixName) (α β : Elem q) {n : ℕ} → n ≡ at (sizesOf k .|K|) M
-    → quotient n (_⊟_ (numerator k α β M) (_⊠_ (denominator k α β M) (ratio k α β M))) ≡ matrixQuotient k α β M
+    → quotient n (numerator k α β M ⊟ denominator k α β M ⊠ ratio k α β M) ≡ matrixQuotient k α β M
 unfolding matrixQuotient
-quotient-made k M α β e = ap (λ n. quotient n (_⊟_ (numerator k α β M) (_⊠_ (denominator k α β M) (ratio k α β M)))) e
+quotient-made k M α β e = ap (λ n. quotient n (numerator k α β M ⊟ denominator k α β M ⊠ ratio k α β M)) e
 
 add-n : tie.Need-add-n
 add-n c = search needs
@@ -204,7 +204,7 @@ returns c q k M G H =
     (ratio-call .ensures q k M G H) in
     let divided =
     back-list 2047 (twice-fits _ (size-fits _ size)) (difference-call .last .1 .1 .1 .1 .0) (difference-call .kept .1 .1 .1 .1 .0)
-    (_⊟_ (numerator k α β M) (_⊠_ (denominator k α β M) (ratio k α β M)))
+    (numerator k α β M ⊟ denominator k α β M ⊠ ratio k α β M)
     (difference-call .ensures q (G .known .value) ∙ ap words (ap₂ _⊟_ above (ap₂ _⊠_ below ratios))) in
     at-quotient-into .quotient-into .ensures q (G .known .value)
     ∙ ap words (ap (quotient n) divided ∙ quotient-made k M α β (size ∙ sym (given-size G)))

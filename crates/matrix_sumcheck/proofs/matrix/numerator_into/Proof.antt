@@ -54,7 +54,7 @@ returns c q k M e rows columns index-words =
     (of-result _ (at-vanishing-value2 .vanishing-value2 .ensures q e)) in
     let zeros : map of (at-clear .clear .last .0) ≡ replicate n (𝟘 {q = q}) =
     ap (map of) (at-clear .clear .ensures) ∙ of-zeros n in
-    let long : length (_·_ (vanishing (a .r) α ⊗ vanishing (a .c) β) rowcolval) ≡ n =
+    let long : length (vanishing (a .r) α ⊗ vanishing (a .c) β · rowcolval) ≡ n =
     length-scale (primeRing q) _ rowcolval ∙ sym (length-words rowcolval) ∙ ap length (sym index-words) ∙ start .pre .1 in
     at-add-scaled .add-scaled .ensures q e
     ∙ ap words

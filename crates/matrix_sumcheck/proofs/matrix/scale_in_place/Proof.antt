@@ -21,7 +21,7 @@ use Rattle.matrix_sumcheck.proofs.matrix.scale_in_place.Tie as tie
 -- what the slice is to hold
 module _ (q : Prime) (k : ℕ) (f : List ℕ) where
   abbrev multiple : Poly q
-  multiple = _·_ (of k) (map of f)
+  multiple = of k · map of f
 
   length-multiple : length (words multiple) ≡ length f
   length-multiple = length-words multiple ∙ length-scale (primeRing q) (of k) (map of f) ∙ length-map f of

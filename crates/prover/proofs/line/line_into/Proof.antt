@@ -83,10 +83,10 @@ returns c q known Q k W eR eC matrices =
     let m : Poly q = map of (a .mask .now) in
     let ẑ : Poly q = map of (a .assignment .now) in
     let ŝ : Poly q = interpolate (a .c) (tabulate (a .c) (λ j. weighted η (each (λ M. columnSum k M α j)))) in
-    plus-made q (_⊠_ ŝ ẑ) m
-    (of-results (_⊠_ ŝ ẑ)
+    plus-made q (ŝ ⊠ ẑ) m
+    (of-results (ŝ ⊠ ẑ)
     (product .multiply-into .ensures q (known .value)
-    ∙ ap (λ (l : Poly q). words (_⊠_ l ẑ))
+    ∙ ap (λ (l : Poly q). words (l ⊠ ẑ))
     (of-filled _ _ (c-bound s) (weights w) (w .weights-into .kept .1 .1 .1 .1 .1 .1 .1 .1 .0) ŝ (w .weights-into .ensures q known Q k eR matrices))))
     refl (c .before .before .add-scaled .ensures q (known .value))
     ∙ line-made q Q k (known-formed known W) eC m ẑ α η

@@ -24,7 +24,7 @@ same-length c = c .before .before .add-scaled .kept .1 .0 ∙ c .before .before 
 returns : tie.Need-returns
 returns c q e =
     let a = c .before .before .before .before .before .before .before .before .before .before .before .before .args in
-    let product : Poly q = _⊠_ (map of (a .f .now)) (map of (a .g .now)) in
+    let product : Poly q = map of (a .f .now) ⊠ map of (a .g .now) in
     let multiplied = c .before .before .before .before .before .before .multiply-into in
     minus-made q e product (map of (a .h .now)) (of-results product (multiplied .ensures q e)) refl (c .before .before .add-scaled .ensures q e)
 

@@ -77,7 +77,7 @@ returns c q e =
     c .before .before .quotient-into .ensures q e
     ∙ ap (λ (l : Poly q). words (quotient (a .n) l))
     (of-filled _ _ (bound start) (call .last .1 .1 .1 .1 .0) (call .kept .1 .1 .1 .1 .0)
-    (_⊟_ (_⊠_ (map of (a .f .now)) (map of (a .g .now))) (map of (a .h .now))) (call .ensures q e))
+    (map of (a .f .now) ⊠ map of (a .g .now) ⊟ map of (a .h .now)) (call .ensures q e))
 
 pub product-quotient-into-spec : {M : Type 1} → statement M
 product-quotient-into-spec =

@@ -121,8 +121,8 @@ returns c q known k eC eX =
     let vanishing =
     of-filled {q = q} _ _ (bound s) (fill .last .1 .0) (fill .kept .1 .0) (vanishingPoly x)
     (fill .ensures q (known .value) ∙ ap (λ (n : ℕ). words (vanishingPoly {q = q} n)) (one-less x (part-length _ _ (bound s)))) in
-    plus-made q (_⊠_ w (vanishingPoly x)) G
-    (of-results (_⊠_ w (vanishingPoly x)) (product .ensures q (known .value) ∙ ap (λ (l : Poly q). words (_⊠_ w l)) vanishing))
+    plus-made q (w ⊠ vanishingPoly x) G
+    (of-results (w ⊠ vanishingPoly x) (product .ensures q (known .value) ∙ ap (λ (l : Poly q). words (w ⊠ l)) vanishing))
     (of-filled _ _ (x-bound s) (public .last .1 .1 .1 .1 .0) (public .kept .1 .1 .1 .1 .0) G (public .ensures q known k eC eX))
     (c .before .before .add-scaled .ensures q (known .value))
     ∙ assignment-made q k z w eX

@@ -144,7 +144,7 @@ returns c q known k eC eX =
     let within = filled-within _ _ (c-bound s) (values .last .1 .1 .1 .0) (values .kept .1 .1 .1 .0) in
     c .before .before .quotient-into .ensures q (known .value)
     ∙ ap (λ (l : Poly q). words (quotient (s .args .x) l))
-    (of-filled _ _ within (sum .last .1 .0) (sum .kept .1 .0) (_⊟_ F G)
+    (of-filled _ _ within (sum .last .1 .0) (sum .kept .1 .0) (F ⊟ G)
     (minus-made q (known .value) F G
     (of-filled _ _ (c-bound s) (values .last .1 .1 .1 .0) (values .kept .1 .1 .1 .0) F
     (values .ensures q (known .value) (v .before .before .root-of .ensures q known ∙ ap (λ (n : ℕ). root {q = q} n .word) (sym whole))
