@@ -58,7 +58,7 @@ abbrev pub sizeOf : List ℕ → ℕ
 sizeOf l = sizeFor (length (entriesOf l))
 
 abbrev pub largestOf : List ℕ → List ℕ → List ℕ → ℕ
-largestOf a b m = largest (mapThree sizeOf (lists a b m))
+largestOf ea eb ec = largest (mapThree sizeOf (lists ea eb ec))
 
 small : (l : List ℕ) → sizeOf l ≤ maxSize
 small l = size-bound (sizeOf l) (sizeFor-is-size (length (entriesOf l)))
@@ -67,12 +67,12 @@ small l = size-bound (sizeOf l) (sizeFor-is-size (length (entriesOf l)))
 abbrev pub joinedTerm : {q : Prime} → Three (List ℕ) → Circuit → Elem q → Elem q → Three (Elem q) → ℕ → MatrixName → Poly q
 joinedTerm ls k α β δ z M = at δ M ⊗ (of (sizeOf (at ls M)) ⊘ of (z + 1)) · matrixQuotient k α β M
 
-module _ (a b m : List ℕ) (n : ℕ) (e : n + 1 ≡ largestOf a b m) where
-  pub joined-fits : (sizeOf a ≤ n + 1) × (sizeOf b ≤ n + 1) × (sizeOf m ≤ n + 1) × (n < maxSize)
+module _ (ea eb ec : List ℕ) (n : ℕ) (e : n + 1 ≡ largestOf ea eb ec) where
+  pub joined-fits : (sizeOf ea ≤ n + 1) × (sizeOf eb ≤ n + 1) × (sizeOf ec ≤ n + 1) × (n < maxSize)
   unfolding largest
-  joined-fits = (omega arith, omega arith, omega arith, omega (arith, small a, small b, small m))
+  joined-fits = (omega arith, omega arith, omega arith, omega (arith, small ea, small eb, small ec))
 
-  module _ {q : Prime} {p r c : ℕ} {k : Circuit} (G : (M : MatrixName) → Given q p r c (at (lists a b m) M) k M) where
+  module _ {q : Prime} {p r c : ℕ} {k : Circuit} (G : (M : MatrixName) → Given q p r c (at (lists ea eb ec) M) k M) where
     -- |K|
     given-largest : largest (sizesOf k .|K|) ≡ n + 1
     unfolding largest
@@ -86,7 +86,7 @@ module _ (a b m : List ℕ) (n : ℕ) (e : n + 1 ≡ largestOf a b m) where
       β = of beta
 
       abbrev made : MatrixName → Poly q
-      made = joinedTerm (lists a b m) k α β δ n
+      made = joinedTerm (lists ea eb ec) k α β δ n
 
       abbrev stated : MatrixName → Poly q
       stated M = at δ M ⊗ (of (at (sizesOf k .|K|) M) ⊘ of (largest (sizesOf k .|K|))) · matrixQuotient k α β M

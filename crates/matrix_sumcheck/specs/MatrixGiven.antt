@@ -30,7 +30,7 @@ pub record Challenged (q : Prime) (p : ℕ) (k : Circuit) (alpha beta : ℕ) : T
 
 -- three entry lists
 abbrev pub lists : List ℕ → List ℕ → List ℕ → Three (List ℕ)
-lists a b m = record { a = a; b = b; c = m }
+lists ea eb ec = record { a = ea; b = eb; c = ec }
 
 module _ {q : Prime} where
   -- an entry's term of M̂(α,β): value × L_row(α) × L_col(β), over r rows and c columns

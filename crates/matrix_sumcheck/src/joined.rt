@@ -41,10 +41,10 @@ fn add_matrix(
 {
     let size = circuit::matrices::size_of(entries);
     let share = field::multiply(p, size, field::invert(p, (out.len() + 1) as u32));
-    let m = (size - 1) as usize;
+    let n = (size - 1) as usize;
     let mut quotient = [0u32; 1024];
-    crate::matrix::matrix_quotient_into(p, r, c, entries, alpha, beta, &mut quotient[..m]);
-    poly::add_scaled(p, out, field::multiply(p, delta, share), &quotient[..m]);
+    crate::matrix::matrix_quotient_into(p, r, c, entries, alpha, beta, &mut quotient[..n]);
+    poly::add_scaled(p, out, field::multiply(p, delta, share), &quotient[..n]);
 }
 
 // h2, of length |K| - 1.

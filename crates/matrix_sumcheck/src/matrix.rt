@@ -288,7 +288,7 @@ pub fn matrix_quotient_into(
         → now (out .exit) ≡ words (matrixQuotient {q = q} k (of alpha) (of beta) M)) ⌝ }
 {
     let n = out.len() + 1;
-    let m = n + out.len();
+    let l = n + out.len();
     let mut above = [0u32; 1024];
     let mut below = [0u32; 1024];
     fraction_into(
@@ -309,7 +309,7 @@ pub fn matrix_quotient_into(
         &above[..n],
         &below[..n],
         &ratio[..n],
-        &mut difference[..m],
+        &mut difference[..l],
     );
-    poly::quotient_into(p, n, &difference[..m], out);
+    poly::quotient_into(p, n, &difference[..l], out);
 }

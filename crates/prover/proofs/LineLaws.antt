@@ -150,10 +150,11 @@ module _ (q : Prime) (k : Circuit) {r : ℕ} (c : ℕ) (eR : k .|R| ≡ r) (α :
 
   -- the weighted sums over the entries of A, B, C
   weighted-total :
-      (η : Three (Elem q)) (a b m : List ℕ) → k .matrices ≡ entryLists a b m → EachWithin r c a b m → {rows : List (Elem q)} → rows ≡ rowValues r α
-      → (j : ℕ) → weighted η (mapThree (λ es. columnTotal rows es j) (entryLists a b m)) ≡ weighted η (each (λ M. columnSum k M α j))
-  weighted-total η a b m matrices inside {rows} made j =
-      ap (λ (l : List (Elem q)). weighted η (mapThree (λ es. columnTotal l es j) (entryLists a b m))) made
+      (η : Three (Elem q)) (ea eb ec : List ℕ) → k .matrices ≡ entryLists ea eb ec → EachWithin r c ea eb ec
+      → {rows : List (Elem q)} → rows ≡ rowValues r α
+      → (j : ℕ) → weighted η (mapThree (λ es. columnTotal rows es j) (entryLists ea eb ec)) ≡ weighted η (each (λ M. columnSum k M α j))
+  weighted-total η ea eb ec matrices inside {rows} made j =
+      ap (λ (l : List (Elem q)). weighted η (mapThree (λ es. columnTotal l es j) (entryLists ea eb ec))) made
       ∙ (λ t. weighted η (record {
         a = column-total A (ap (λ (l : Three (List Entry)). l .a) matrices) (inside .in-a) j t;
         b = column-total B (ap (λ (l : Three (List Entry)). l .b) matrices) (inside .in-b) j t;
@@ -162,18 +163,18 @@ module _ (q : Prime) (k : Circuit) {r : ℕ} (c : ℕ) (eR : k .|R| ≡ r) (α :
 
   -- added to zeros in the first n entries of an array
   pub weights-made :
-      (η : Three (Elem q)) (a b m : List ℕ) → k .matrices ≡ entryLists a b m → EachWithin r c a b m → {rows : List (Elem q)} → rows ≡ rowValues r α
-      → (d : List ℕ) → c ≤ length d → ((j : ℕ) → getD d j 0 ≡ 0)
-      → tabulate (length (take c d)) (λ j. of (getD (take c d) j 0) ⊕ weighted η (mapThree (λ es. columnTotal rows es j) (entryLists a b m)))
+      (η : Three (Elem q)) (ea eb ec : List ℕ) → k .matrices ≡ entryLists ea eb ec → EachWithin r c ea eb ec
+      → {rows : List (Elem q)} → rows ≡ rowValues r α → (d : List ℕ) → c ≤ length d → ((j : ℕ) → getD d j 0 ≡ 0)
+      → tabulate (length (take c d)) (λ j. of (getD (take c d) j 0) ⊕ weighted η (mapThree (λ es. columnTotal rows es j) (entryLists ea eb ec)))
       ≡ tabulate c (λ j. weighted η (each (λ M. columnSum k M α j)))
-  weights-made η a b m matrices inside {rows} made d within zeros =
-      from-zero c d within zeros (λ j. weighted η (mapThree (λ es. columnTotal rows es j) (entryLists a b m)))
-      ∙ tabulate-ext c _ _ (λ j below. weighted-total η a b m matrices inside made j)
+  weights-made η ea eb ec matrices inside {rows} made d within zeros =
+      from-zero c d within zeros (λ j. weighted η (mapThree (λ es. columnTotal rows es j) (entryLists ea eb ec)))
+      ∙ tabulate-ext c _ _ (λ j below. weighted-total η ea eb ec matrices inside made j)
 
 -- entries within a matrix whose sizes have other names
-pub each-within : {r c r′ c′ : ℕ} {a b m : List ℕ} → r ≡ r′ → c ≡ c′ → EachWithin r c a b m → EachWithin r′ c′ a b m
-each-within {c = c} {r′} {a = a} {b} {m} e d h =
-    subst (λ (n : ℕ). EachWithin r′ n a b m) d (subst (λ (n : ℕ). EachWithin n c a b m) e h)
+pub each-within : {r c r′ c′ : ℕ} {ea eb ec : List ℕ} → r ≡ r′ → c ≡ c′ → EachWithin r c ea eb ec → EachWithin r′ c′ ea eb ec
+each-within {c = c} {r′} {ea = ea} {eb} {ec} e d h =
+    subst (λ (n : ℕ). EachWithin r′ n ea eb ec) d (subst (λ (n : ℕ). EachWithin n c ea eb ec) e h)
 
 pub columns-within : (r : ℕ) {c c′ : ℕ} (es : List Entry) → c′ ≡ c → All (Within r c) es → All (Within r c′) es
 columns-within r es e = subst (λ (n : ℕ). All (Within r n) es) (sym e)

@@ -67,19 +67,27 @@ pub fn add_column_sums(p: u32, eta: u32, entries: &[u32], rows: &[u32], out: &mu
 }
 
 // Adds the columns' sums of A, B, C, each times its eta.
-fn add_weights(p: u32, a: &[u32], b: &[u32], m: &[u32], rows: &[u32], eta: Triple, out: &mut [u32])
+fn add_weights(
+    p: u32,
+    ea: &[u32],
+    eb: &[u32],
+    ec: &[u32],
+    rows: &[u32],
+    eta: Triple,
+    out: &mut [u32],
+)
     requires { ⌜ 0 < p ⌝ }
-    requires { ⌜ EachWithin (length (now rows)) (length (now out)) (now a) (now b) (now m) ⌝ }
+    requires { ⌜ EachWithin (length (now rows)) (length (now out)) (now ea) (now eb) (now ec) ⌝ }
     ensures { λ _. ⌜ ((q : Prime) → q .p ≡ p
         → map (of {q = q}) (now (out .exit))
         ≡ tabulate (length (now (out .entry)))
         (λ j. of (getD (now (out .entry)) j 0)
         ⊕ weighted (mapThree of (three eta))
-        (mapThree (λ es. columnTotal (map of (now (rows .entry))) es j) (entryLists (now (a .entry)) (now (b .entry)) (now (m .entry)))))) ⌝ }
+        (mapThree (λ es. columnTotal (map of (now (rows .entry))) es j) (entryLists (now (ea .entry)) (now (eb .entry)) (now (ec .entry)))))) ⌝ }
 {
-    add_column_sums(p, eta.a, a, rows, out);
-    add_column_sums(p, eta.b, b, rows, out);
-    add_column_sums(p, eta.c, m, rows, out);
+    add_column_sums(p, eta.a, ea, rows, out);
+    add_column_sums(p, eta.b, eb, rows, out);
+    add_column_sums(p, eta.c, ec, rows, out);
 }
 
 // Σ η_M M̂(α,Y), of length |C|: it interpolates the weighted columns' sums.
@@ -87,9 +95,9 @@ pub fn weights_into(
     p: u32,
     r: u32,
     c: u32,
-    a: &[u32],
-    b: &[u32],
-    m: &[u32],
+    ea: &[u32],
+    eb: &[u32],
+    ec: &[u32],
     alpha: u32,
     eta: Triple,
     out: &mut [u32],
@@ -97,9 +105,9 @@ pub fn weights_into(
     requires { ⌜ 1 < p ⌝ }
     requires { ⌜ (isSize r ≡ true) × (isSize c ≡ true) ⌝ }
     requires { ⌜ length (now out) ≡ c ⌝ }
-    requires { ⌜ EachWithin r c (now a) (now b) (now m) ⌝ }
+    requires { ⌜ EachWithin r c (now ea) (now eb) (now ec) ⌝ }
     ensures { λ _. ⌜ ((q : Prime) → Known q p → Qualifies q → (k : Circuit) → k .|R| ≡ r
-        → k .matrices ≡ entryLists (now (a .entry)) (now (b .entry)) (now (m .entry))
+        → k .matrices ≡ entryLists (now (ea .entry)) (now (eb .entry)) (now (ec .entry))
         → now (out .exit)
         ≡ words (interpolation c (tabulate c (λ j. weighted (mapThree of (three eta)) (each (λ M. columnSum {q = q} k M (of alpha) j)))))) ⌝ }
 {
@@ -108,7 +116,7 @@ pub fn weights_into(
     let mut rows = [0u32; 1024];
     lagrange_values_into(p, r, alpha, &mut rows[..n]);
     let mut sums = [0u32; 1024];
-    add_weights(p, a, b, m, &rows[..n], eta, &mut sums[..l]);
+    add_weights(p, ea, eb, ec, &rows[..n], eta, &mut sums[..l]);
     poly::interpolate_into(p, domain::root_of(p, c), &sums[..l], out);
 }
 
@@ -117,29 +125,29 @@ pub fn line_into(
     p: u32,
     r: u32,
     c: u32,
-    a: &[u32],
-    b: &[u32],
-    m: &[u32],
+    ea: &[u32],
+    eb: &[u32],
+    ec: &[u32],
     assignment: &[u32],
-    mask: &[u32],
+    m: &[u32],
     alpha: u32,
     eta: Triple,
     out: &mut [u32],
 )
     requires { ⌜ 1 < p ⌝ }
     requires { ⌜ (isSize r ≡ true) × (isSize c ≡ true) ⌝ }
-    requires { ⌜ (length (now assignment) ≡ c + 1) × (length (now mask) ≡ 2 * c) × (length (now out) ≡ 2 * c) ⌝ }
-    requires { ⌜ EachWithin r c (now a) (now b) (now m) ⌝ }
+    requires { ⌜ (length (now assignment) ≡ c + 1) × (length (now m) ≡ 2 * c) × (length (now out) ≡ 2 * c) ⌝ }
+    requires { ⌜ EachWithin r c (now ea) (now eb) (now ec) ⌝ }
     ensures { λ _. ⌜ ((q : Prime) → Known q p → Qualifies q → (k : Circuit) → WellFormed p k → k .|R| ≡ r → k .|C| ≡ c
-        → k .matrices ≡ entryLists (now (a .entry)) (now (b .entry)) (now (m .entry))
+        → k .matrices ≡ entryLists (now (ea .entry)) (now (eb .entry)) (now (ec .entry))
         → now (out .exit)
-        ≡ words (linePoly k (map (of {q = q}) (now (mask .entry))) (map of (now (assignment .entry))) (of alpha) (mapThree of (three eta)))) ⌝ }
+        ≡ words (linePoly k (map (of {q = q}) (now (m .entry))) (map of (now (assignment .entry))) (of alpha) (mapThree of (three eta)))) ⌝ }
 {
     let n = c as usize;
     let mut weights = [0u32; 1024];
-    weights_into(p, r, c, a, b, m, alpha, eta, &mut weights[..n]);
+    weights_into(p, r, c, ea, eb, ec, alpha, eta, &mut weights[..n]);
     poly::multiply_into(p, &weights[..n], assignment, out);
-    poly::add_scaled(p, out, 1, mask);
+    poly::add_scaled(p, out, 1, m);
 }
 
 // The line from what a call is given: ŵ, then ẑ, then the line.

@@ -56,37 +56,37 @@ fn product_quotient_into(p: u32, n: usize, f: &[u32], g: &[u32], h: &[u32], out:
         → now (out .exit)
         ≡ words (quotient n (map (of {q = q}) (now (f .entry)) ⊠ map of (now (g .entry)) ⊟ map of (now (h .entry))))) ⌝ }
 {
-    let m = n + n - 1;
+    let l = n + n - 1;
     let mut difference = [0u32; 2047];
-    product_minus_into(p, f, g, h, &mut difference[..m]);
-    poly::quotient_into(p, n, &difference[..m], out);
+    product_minus_into(p, f, g, h, &mut difference[..l]);
+    poly::quotient_into(p, n, &difference[..l], out);
 }
 
 // h0, of length |R| - 1, for every ẑ whose values on C are z.
 pub fn row_quotient_into(
     p: u32,
     r: u32,
-    a: &[u32],
-    b: &[u32],
-    m: &[u32],
+    ea: &[u32],
+    eb: &[u32],
+    ec: &[u32],
     z: &[u32],
     out: &mut [u32],
 )
     requires { ⌜ 1 < p ⌝ }
     requires { ⌜ isSize r ≡ true ⌝ }
     requires { ⌜ length (now out) ≡ r - 1 ⌝ }
-    requires { ⌜ EachWithin r (length (now z)) (now a) (now b) (now m) ⌝ }
+    requires { ⌜ EachWithin r (length (now z)) (now ea) (now eb) (now ec) ⌝ }
     ensures { λ _. ⌜ ((q : Prime) → Known q p → Qualifies q → (k : Circuit) → WellFormed p k → k .|R| ≡ r
-        → k .matrices ≡ entryLists (now (a .entry)) (now (b .entry)) (now (m .entry))
+        → k .matrices ≡ entryLists (now (ea .entry)) (now (eb .entry)) (now (ec .entry))
         → (ẑ : Poly q) → valuesOn (k .|C|) ẑ ≡ map of (now (z .entry)) → now (out .exit) ≡ words (rowQuotient k ẑ)) ⌝ }
 {
     let n = r as usize;
     let mut image_a = [0u32; 1024];
-    image_into(p, r, a, z, &mut image_a[..n]);
+    image_into(p, r, ea, z, &mut image_a[..n]);
     let mut image_b = [0u32; 1024];
-    image_into(p, r, b, z, &mut image_b[..n]);
+    image_into(p, r, eb, z, &mut image_b[..n]);
     let mut image_c = [0u32; 1024];
-    image_into(p, r, m, z, &mut image_c[..n]);
+    image_into(p, r, ec, z, &mut image_c[..n]);
     product_quotient_into(p, n, &image_a[..n], &image_b[..n], &image_c[..n], out);
 }
 

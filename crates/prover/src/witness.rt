@@ -76,14 +76,14 @@ fn private_quotient_into(p: u32, c: u32, x: u32, z: &[u32], out: &mut [u32])
         ≡ words (quotient x (interpolation c (map (of {q = q}) (now (z .entry))) ⊟ publicPoly k (publicPart k (map of (now (z .entry))))))) ⌝ }
 {
     let n = c as usize;
-    let m = x as usize;
+    let l = x as usize;
     let mut difference = [0u32; 1024];
     poly::interpolate_into(p, domain::root_of(p, c), z, &mut difference[..n]);
     let mut public = [0u32; 1024];
-    public_poly_into(p, c, x, z, &mut public[..m]);
+    public_poly_into(p, c, x, z, &mut public[..l]);
     let minus_one = p - 1;
-    poly::add_scaled(p, &mut difference[..n], minus_one, &public[..m]);
-    poly::quotient_into(p, m, &difference[..n], out);
+    poly::add_scaled(p, &mut difference[..n], minus_one, &public[..l]);
+    poly::quotient_into(p, l, &difference[..n], out);
 }
 
 // v_C/v_X, of length |C| - |X| + 1.
@@ -94,28 +94,28 @@ fn vanishing_ratio_into(p: u32, c: u32, x: u32, out: &mut [u32])
     ensures { λ _. ⌜ ((q : Prime) → q .p ≡ p → now (out .exit) ≡ words (quotient x (vanishingPoly {q = q} c))) ⌝ }
 {
     let n = c as usize + 1;
-    let m = x as usize;
+    let l = x as usize;
     let mut vanishing = [0u32; 1025];
     fill_vanishing(p, &mut vanishing[..n]);
-    poly::quotient_into(p, m, &vanishing[..n], out);
+    poly::quotient_into(p, l, &vanishing[..n], out);
 }
 
 // ŵ, of length |C| - |X| + 1.
-pub fn witness_into(p: u32, c: u32, x: u32, z: &[u32], r: u32, out: &mut [u32])
+pub fn witness_into(p: u32, c: u32, x: u32, z: &[u32], mask: u32, out: &mut [u32])
     requires { ⌜ 1 < p ⌝ }
     requires { ⌜ (isSize c ≡ true) × (isSize x ≡ true) × (x ≤ c) ⌝ }
     requires { ⌜ (length (now z) ≡ c) × (length (now out) ≡ c - x + 1) ⌝ }
     ensures { λ _. ⌜ ((q : Prime) → Known q p → (k : Circuit) → k .|C| ≡ c → k .|X| ≡ x
-        → now (out .exit) ≡ words (witnessPoly k (map (of {q = q}) (now (z .entry))) (of r))) ⌝ }
+        → now (out .exit) ≡ words (witnessPoly k (map (of {q = q}) (now (z .entry))) (of mask))) ⌝ }
 {
     let n = (c - x) as usize;
     private_quotient_into(p, c, x, z, &mut out[..n]);
     // It is one shorter than the masking term: its last coefficient is 0.
     out[n] = 0;
-    let m = n + 1;
+    let l = n + 1;
     let mut ratio = [0u32; 1024];
-    vanishing_ratio_into(p, c, x, &mut ratio[..m]);
-    poly::add_scaled(p, out, r, &ratio[..m]);
+    vanishing_ratio_into(p, c, x, &mut ratio[..l]);
+    poly::add_scaled(p, out, mask, &ratio[..l]);
 }
 
 // ẑ = ŵ v_X + x̂, of length |C| + 1.
@@ -126,12 +126,12 @@ pub fn assignment_into(p: u32, c: u32, x: u32, z: &[u32], witness: &[u32], out: 
     ensures { λ _. ⌜ ((q : Prime) → Known q p → (k : Circuit) → k .|C| ≡ c → k .|X| ≡ x
         → now (out .exit) ≡ words (assignment k (publicPart k (map (of {q = q}) (now (z .entry)))) (map of (now (witness .entry))))) ⌝ }
 {
-    let m = x as usize;
-    let n = m + 1;
+    let l = x as usize;
+    let n = l + 1;
     let mut vanishing = [0u32; 1025];
     fill_vanishing(p, &mut vanishing[..n]);
     poly::multiply_into(p, witness, &vanishing[..n], out);
     let mut public = [0u32; 1024];
-    public_poly_into(p, c, x, z, &mut public[..m]);
-    poly::add_scaled(p, out, 1, &public[..m]);
+    public_poly_into(p, c, x, z, &mut public[..l]);
+    poly::add_scaled(p, out, 1, &public[..l]);
 }

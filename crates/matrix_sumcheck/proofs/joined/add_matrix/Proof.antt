@@ -35,11 +35,11 @@ invert-requires c κs = search needs
 multiply-requires : tie.Need-multiply-requires
 multiply-requires c κs = search needs
 
-sub-m : tie.Need-sub-m
-sub-m c = sized-positive _ (c .before .before .size-of .ensures)
+sub-n : tie.Need-sub-n
+sub-n c = sized-positive _ (c .before .before .size-of .ensures)
 
-cast-m : tie.Need-cast-m
-cast-m c = search needs
+cast-n : tie.Need-cast-n
+cast-n c = search needs
 
 array-borrow-prefix-quotient : tie.Need-array-borrow-prefix-quotient
 array-borrow-prefix-quotient c = sized-fits _ (c .before .before .size-of .ensures)
@@ -136,8 +136,8 @@ add-matrix-spec =
     cast-invert
     invert-requires
     multiply-requires
-    sub-m
-    cast-m
+    sub-n
+    cast-n
     array-borrow-prefix-quotient
     slice-aggregate-matrix-quotient-into
     matrix-quotient-into-requires

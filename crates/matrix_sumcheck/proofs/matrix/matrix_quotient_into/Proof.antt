@@ -36,8 +36,8 @@ quotient-made k M α β e = ap (λ n. quotient n (numerator k α β M ⊟ denomi
 add-n : tie.Need-add-n
 add-n c = search needs
 
-add-m : tie.Need-add-m
-add-m c = search needs
+add-l : tie.Need-add-l
+add-l c = search needs
 
 array-borrow-prefix-above : tie.Need-array-borrow-prefix-above
 array-borrow-prefix-above c = size-fits _ (c .before .before .pre .1 .1 .1)
@@ -214,7 +214,7 @@ matrix-quotient-into-spec =
     tie.close
     (tie.spec
     add-n
-    add-m
+    add-l
     array-borrow-prefix-above
     slice-aggregate-fraction-into
     array-borrow-prefix-below

@@ -31,7 +31,7 @@ add-column-sums-requires-2 c κs =
     let d = c .before .before .before in
     let s = start d in
     let kept = d .add-column-sums .kept .1 .1 .1 .1 .0 in
-    (s .pre .0, columns-within (length (s .args .rows .now)) (entriesOf (s .args .b .now)) kept (s .pre .1 .in-b))
+    (s .pre .0, columns-within (length (s .args .rows .now)) (entriesOf (s .args .eb .now)) kept (s .pre .1 .in-b))
 
 add-column-sums-requires-3 : tie.Need-add-column-sums-requires-3
 add-column-sums-requires-3 c κs =
@@ -39,7 +39,7 @@ add-column-sums-requires-3 c κs =
     let d = e .before .before .before .before in
     let s = start d in
     let kept = e .add-column-sums2 .kept .1 .1 .1 .1 .0 ∙ d .add-column-sums .kept .1 .1 .1 .1 .0 in
-    (s .pre .0, columns-within (length (s .args .rows .now)) (entriesOf (s .args .m .now)) kept (s .pre .1 .in-c))
+    (s .pre .0, columns-within (length (s .args .rows .now)) (entriesOf (s .args .ec .now)) kept (s .pre .1 .in-c))
 
 same-length : tie.Need-same-length
 same-length c =
@@ -59,13 +59,13 @@ returns c q e =
     let n : ℕ = length (a .out .now) in
     let rows : List (Elem q) = map of (a .rows .now) in
     let old : ℕ → Elem q = λ j. of (getD (a .out .now) j 0) in
-    let in-a : ℕ → Elem q = λ j. of (a .eta .a) ⊗ columnTotal rows (entriesOf (a .a .now)) j in
-    let in-b : ℕ → Elem q = λ j. of (a .eta .b) ⊗ columnTotal rows (entriesOf (a .b .now)) j in
-    let in-m : ℕ → Elem q = λ j. of (a .eta .c) ⊗ columnTotal rows (entriesOf (a .m .now)) j in
-    then (second .last .1 .1 .1 .1 .0) (third .last .1 .1 .1 .1 .0) n (λ j. old j ⊕ in-a j ⊕ in-b j) in-m
+    let in-a : ℕ → Elem q = λ j. of (a .eta .a) ⊗ columnTotal rows (entriesOf (a .ea .now)) j in
+    let in-b : ℕ → Elem q = λ j. of (a .eta .b) ⊗ columnTotal rows (entriesOf (a .eb .now)) j in
+    let in-c : ℕ → Elem q = λ j. of (a .eta .c) ⊗ columnTotal rows (entriesOf (a .ec .now)) j in
+    then (second .last .1 .1 .1 .1 .0) (third .last .1 .1 .1 .1 .0) n (λ j. old j ⊕ in-a j ⊕ in-b j) in-c
     (then (first .last .1 .1 .1 .1 .0) (second .last .1 .1 .1 .1 .0) n (λ j. old j ⊕ in-a j) in-b (first .ensures q e) (second .ensures q e))
     (third .ensures q e)
-    ∙ gather n old in-a in-b in-m
+    ∙ gather n old in-a in-b in-c
 
 pub add-weights-spec : {M : Type 1} → statement M
 add-weights-spec =

@@ -80,7 +80,7 @@ returns c q known Q k W eR eC matrices =
     let a = s .args in
     let η : Three (Elem q) = mapThree of (three (a .eta)) in
     let α : Elem q = of (a .alpha) in
-    let m : Poly q = map of (a .mask .now) in
+    let m : Poly q = map of (a .m .now) in
     let ẑ : Poly q = map of (a .assignment .now) in
     let ŝ : Poly q = interpolate (a .c) (tabulate (a .c) (λ j. weighted η (each (λ M. columnSum k M α j)))) in
     plus-made q (ŝ ⊠ ẑ) m

@@ -110,7 +110,7 @@ returns c q known Q k eR matrices =
     ∙ ap (λ (n : ℕ). root {q = q} n .word) (filled-length _ _ (c-bound s) (sums w) kept))
     ∙ interpolate-part _ _ (c-bound s) (sums w) kept (tabulate (a .c) (λ j. weighted η (each (λ M. columnSum k M α j))))
     (w .add-weights .ensures q (known .value)
-    ∙ weights-made q k (a .c) eR α η (a .a .now) (a .b .now) (a .m .now) matrices (s .pre .1 .1 .1)
+    ∙ weights-made q k (a .c) eR α η (a .ea .now) (a .eb .now) (a .ec .now) matrices (s .pre .1 .1 .1)
     (of-filled _ _ (r-bound s) (values .last .1 .1 .1 .0) (values .kept .1 .1 .1 .0) (rowValues (a .r) α) (values .ensures q known Q))
     (replicate 1024 0) (c-bound s) (replicate-at 0 1024))
 

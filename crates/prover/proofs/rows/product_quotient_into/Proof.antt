@@ -17,11 +17,11 @@ positive c = size-positive _ (c .pre .1 .0)
 bound : (c : tie.Start) → c .args .n + c .args .n - 1 ≤ 2047
 bound c = omega (arith, size-bound (c .args .n) (c .pre .1 .0))
 
-add-m : tie.Need-add-m
-add-m c = omega (arith, size-bound (c .before .before .before .before .args .n) (c .before .before .before .before .pre .1 .0))
+add-l : tie.Need-add-l
+add-l c = omega (arith, size-bound (c .before .before .before .before .args .n) (c .before .before .before .before .pre .1 .0))
 
-sub-m : tie.Need-sub-m
-sub-m c = omega (arith, positive (c .before .before .before .before))
+sub-l : tie.Need-sub-l
+sub-l c = omega (arith, positive (c .before .before .before .before))
 
 array-borrow-prefix-difference : tie.Need-array-borrow-prefix-difference
 array-borrow-prefix-difference c = bound (c .before .before .before .before)
@@ -83,8 +83,8 @@ pub product-quotient-into-spec : {M : Type 1} → statement M
 product-quotient-into-spec =
     tie.close
     (tie.spec
-    add-m
-    sub-m
+    add-l
+    sub-l
     array-borrow-prefix-difference
     slice-aggregate-product-minus-into
     product-minus-into-requires

@@ -73,41 +73,41 @@ slice-aggregate-product-quotient-into c =
 array-share-prefix-image-b : tie.Need-array-share-prefix-image-b
 array-share-prefix-image-b c =
     let third = c .before .before in
-    let b = at-b third .image-into2 in
-    filled-within _ _ (bound (start (at-a third))) (b .last .1 .1 .1 .1 .0) (b .kept .1 .1 .1 .1 .0)
+    let image-b = at-b third .image-into2 in
+    filled-within _ _ (bound (start (at-a third))) (image-b .last .1 .1 .1 .1 .0) (image-b .kept .1 .1 .1 .1 .0)
 
 slice-aggregate-product-quotient-into-2 : tie.Need-slice-aggregate-product-quotient-into-2
 slice-aggregate-product-quotient-into-2 c =
     let third = c .before .before .before in
-    let b = at-b third .image-into2 in
-    filled-length _ _ (bound (start (at-a third))) (b .last .1 .1 .1 .1 .0) (b .kept .1 .1 .1 .1 .0)
+    let image-b = at-b third .image-into2 in
+    filled-length _ _ (bound (start (at-a third))) (image-b .last .1 .1 .1 .1 .0) (image-b .kept .1 .1 .1 .1 .0)
 
 array-share-prefix-image-c : tie.Need-array-share-prefix-image-c
 array-share-prefix-image-c c =
     let third = c .before .before .before in
-    let m = third .image-into3 in
-    filled-within _ _ (bound (start (at-a third))) (m .last .1 .1 .1 .1 .0) (m .kept .1 .1 .1 .1 .0)
+    let image-c = third .image-into3 in
+    filled-within _ _ (bound (start (at-a third))) (image-c .last .1 .1 .1 .1 .0) (image-c .kept .1 .1 .1 .1 .0)
 
 slice-aggregate-product-quotient-into-3 : tie.Need-slice-aggregate-product-quotient-into-3
 slice-aggregate-product-quotient-into-3 c =
     let third = c .before .before .before .before in
-    let m = third .image-into3 in
-    filled-length _ _ (bound (start (at-a third))) (m .last .1 .1 .1 .1 .0) (m .kept .1 .1 .1 .1 .0)
+    let image-c = third .image-into3 in
+    filled-length _ _ (bound (start (at-a third))) (image-c .last .1 .1 .1 .1 .0) (image-c .kept .1 .1 .1 .1 .0)
 
 product-quotient-into-requires : tie.Need-product-quotient-into-requires
 product-quotient-into-requires c κs =
     let third = c .before .before .before .before .before in
     let s = start (at-a third) in
-    let a = at-a third .image-into in
-    let b = at-b third .image-into2 in
-    let m = third .image-into3 in (
+    let image-a = at-a third .image-into in
+    let image-b = at-b third .image-into2 in
+    let image-c = third .image-into3 in (
       omega arith,
       (
         s .pre .1 .0,
         (
-          sym (filled-length _ _ (bound s) (a .last .1 .1 .1 .1 .0) (a .kept .1 .1 .1 .1 .0)),
-          sym (filled-length _ _ (bound s) (b .last .1 .1 .1 .1 .0) (b .kept .1 .1 .1 .1 .0)),
-          sym (filled-length _ _ (bound s) (m .last .1 .1 .1 .1 .0) (m .kept .1 .1 .1 .1 .0)),
+          sym (filled-length _ _ (bound s) (image-a .last .1 .1 .1 .1 .0) (image-a .kept .1 .1 .1 .1 .0)),
+          sym (filled-length _ _ (bound s) (image-b .last .1 .1 .1 .1 .0) (image-b .kept .1 .1 .1 .1 .0)),
+          sym (filled-length _ _ (bound s) (image-c .last .1 .1 .1 .1 .0) (image-c .kept .1 .1 .1 .1 .0)),
           s .pre .1 .1 .0,
         ),
       ),
@@ -120,20 +120,20 @@ returns : tie.Need-returns
 returns c q known Q k W eR matrices ẑ values =
     let third = c .before .before .before .before .before .before .before .before in
     let s = start (at-a third) in
-    let a = at-a third .image-into in
-    let b = at-b third .image-into2 in
-    let m = third .image-into3 in
+    let image-a = at-a third .image-into in
+    let image-b = at-b third .image-into2 in
+    let image-c = third .image-into3 in
     let r : ℕ = s .args .r in
     let z : List (Elem q) = map of (s .args .z .now) in
     let poly : MatrixName → Poly q = λ M. interpolate r (tabulate r (rowSum k M z)) in
     c .before .before .product-quotient-into .ensures q (known .value)
     ∙ row-quotient-made q Q k (known-formed known W) eR ẑ z values
-    (of-filled _ _ (bound s) (a .last .1 .1 .1 .1 .0) (a .kept .1 .1 .1 .1 .0) (poly A)
-    (a .ensures q known k A (ap (λ (t : Three (List Entry)). t .a) matrices)))
-    (of-filled _ _ (bound s) (b .last .1 .1 .1 .1 .0) (b .kept .1 .1 .1 .1 .0) (poly B)
-    (b .ensures q known k B (ap (λ (t : Three (List Entry)). t .b) matrices)))
-    (of-filled _ _ (bound s) (m .last .1 .1 .1 .1 .0) (m .kept .1 .1 .1 .1 .0) (poly C)
-    (m .ensures q known k C (ap (λ (t : Three (List Entry)). t .c) matrices)))
+    (of-filled _ _ (bound s) (image-a .last .1 .1 .1 .1 .0) (image-a .kept .1 .1 .1 .1 .0) (poly A)
+    (image-a .ensures q known k A (ap (λ (t : Three (List Entry)). t .a) matrices)))
+    (of-filled _ _ (bound s) (image-b .last .1 .1 .1 .1 .0) (image-b .kept .1 .1 .1 .1 .0) (poly B)
+    (image-b .ensures q known k B (ap (λ (t : Three (List Entry)). t .b) matrices)))
+    (of-filled _ _ (bound s) (image-c .last .1 .1 .1 .1 .0) (image-c .kept .1 .1 .1 .1 .0) (poly C)
+    (image-c .ensures q known k C (ap (λ (t : Three (List Entry)). t .c) matrices)))
 
 pub row-quotient-into-spec : {M : Type 1} → statement M
 row-quotient-into-spec =

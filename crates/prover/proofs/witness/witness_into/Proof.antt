@@ -55,8 +55,8 @@ mul-out c = omega arith
 slice-write-out : tie.Need-slice-write-out
 slice-write-out c = omega arith
 
-add-m : tie.Need-add-m
-add-m c = omega arith
+add-l : tie.Need-add-l
+add-l c = omega arith
 
 array-borrow-prefix-ratio : tie.Need-array-borrow-prefix-ratio
 array-borrow-prefix-ratio c = bound (start (c .before .before))
@@ -109,7 +109,7 @@ returns c q known k eC eX =
     let sizes = s .pre .1 .0 in
     let part = part-length n (a .out .now) (short s) in
     c .before .before .add-scaled .ensures q (known .value)
-    ∙ witness-made q k (map of (a .z .now)) (of (a .r)) eC eX
+    ∙ witness-made q k (map of (a .z .now)) (of (a .mask)) eC eX
     (padded n (a .out .now) (first .last .1 .1 .1 .1 .0) (s .pre .1 .1 .1) (first .kept .1 .1 .1 .1 .0 ∙ sym part))
     (first .ensures q known k eC eX)
     (of-filled _ _ (bound s) (ratio .last .1 .1 .1 .0) (ratio .kept .1 .1 .1 .0) (quotient (a .x) (vanishingPoly (a .c))) (ratio .ensures q (known .value)))
@@ -126,7 +126,7 @@ witness-into-spec =
     private-quotient-into-requires
     mul-out
     slice-write-out
-    add-m
+    add-l
     array-borrow-prefix-ratio
     slice-aggregate-vanishing-ratio-into
     vanishing-ratio-into-requires
