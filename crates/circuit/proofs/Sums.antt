@@ -23,21 +23,21 @@ use Rattle.protocol.specs.Circuit.{Entry}
 use Rattle.domain.proofs.Membership.{zero-word}
 use Rattle.domain.proofs.Fill.{length-rule-words, rule-word-at}
 
-module _ {q : Prime} (n : ℕ) (s t u : ℕ → Elem q) (a b c : List ℕ)
-    (ea : a ≡ words (tabulate n s)) (eb : b ≡ words (tabulate n t)) (ec : c ≡ words (tabulate n u)) where
-  pub rows-count : length (tabulate n (λ i. equal (s i ⊗ t i) (u i))) ≡ length a
-  rows-count = length-tabulate n (λ i. equal (s i ⊗ t i) (u i)) ∙ sym (ap length ea ∙ length-rule-words n s)
+module _ {q : Prime} (n : ℕ) (s t u : ℕ → Elem q) (left right product : List ℕ)
+    (e-left : left ≡ words (tabulate n s)) (e-right : right ≡ words (tabulate n t)) (e-product : product ≡ words (tabulate n u)) where
+  pub rows-count : length (tabulate n (λ i. equal (s i ⊗ t i) (u i))) ≡ length left
+  rows-count = length-tabulate n (λ i. equal (s i ⊗ t i) (u i)) ∙ sym (ap length e-left ∙ length-rule-words n s)
 
   -- the test of row i, from its words
-  pub row-test : (i r : ℕ) → i < length a → r ≡ (of {q = q} (getD a i 0) ⊗ of (getD b i 0)) .word
-      → getD (tabulate n (λ i. equal (s i ⊗ t i) (u i))) i true ≡ eqb r (getD c i 0)
+  pub row-test : (i r : ℕ) → i < length left → r ≡ (of {q = q} (getD left i 0) ⊗ of (getD right i 0)) .word
+      → getD (tabulate n (λ i. equal (s i ⊗ t i) (u i))) i true ≡ eqb r (getD product i 0)
   row-test i r within made =
-      let product : r ≡ (s i ⊗ t i) .word =
-      made ∙ ap₂ (λ (x y : Elem q). (x ⊗ y) .word) (of-result (s i) (word s ea)) (of-result (t i) (word t eb)) in
-      getD-tabulate n i (λ i. equal (s i ⊗ t i) (u i)) true below ∙ sym (ap₂ eqb product (word u ec))
+      let multiplied : r ≡ (s i ⊗ t i) .word =
+      made ∙ ap₂ (λ (x y : Elem q). (x ⊗ y) .word) (of-result (s i) (word s e-left)) (of-result (t i) (word t e-right)) in
+      getD-tabulate n i (λ i. equal (s i ⊗ t i) (u i)) true below ∙ sym (ap₂ eqb multiplied (word u e-product))
     where
       below : i < n
-      below = omega (arith, ap length ea, length-rule-words n s)
+      below = omega (arith, ap length e-left, length-rule-words n s)
 
       word : (f : ℕ → Elem q) {l : List ℕ} → l ≡ words (tabulate n f) → getD l i 0 ≡ f i .word
       word f e = ap (λ l. getD l i 0) e ∙ rule-word-at n f i below

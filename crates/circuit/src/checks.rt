@@ -280,17 +280,17 @@ pub fn check_mask(p: u32, c: u32, m: &[u32]) -> Fault
     }
 }
 
-// a·b = c in each row.
-fn check_rows(p: u32, a: &[u32], b: &[u32], c: &[u32]) -> Fault
+// left·right = product in each row.
+fn check_rows(p: u32, left: &[u32], right: &[u32], product: &[u32]) -> Fault
     requires { ⌜ 0 < p ⌝ }
-    requires { ⌜ (length (now b) ≡ length (now a)) × (length (now c) ≡ length (now a)) ⌝ }
+    requires { ⌜ (length (now right) ≡ length (now left)) × (length (now product) ≡ length (now left)) ⌝ }
     ensures { λ f. ⌜ ((q : Prime) → q .p ≡ p → (n : ℕ) (s t u : ℕ → Elem q)
-        → now (a .entry) ≡ words (tabulate n s) → now (b .entry) ≡ words (tabulate n t)
-        → now (c .entry) ≡ words (tabulate n u) → faultRefusal f ≡ refuse 9 0 (tabulate n (λ i. equal (s i ⊗ t i) (u i)))) ⌝ }
+        → now (left .entry) ≡ words (tabulate n s) → now (right .entry) ≡ words (tabulate n t)
+        → now (product .entry) ≡ words (tabulate n u) → faultRefusal f ≡ refuse 9 0 (tabulate n (λ i. equal (s i ⊗ t i) (u i)))) ⌝ }
 {
     let mut i = 0;
-    while i < a.len() {
-        if field::multiply(p, a[i], b[i]) != c[i] {
+    while i < left.len() {
+        if field::multiply(p, left[i], right[i]) != product[i] {
             return Fault::Refused(9, i);
         }
         i += 1;

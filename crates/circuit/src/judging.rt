@@ -112,10 +112,10 @@ pub fn less(m: u32, n: u32) -> usize
 pub fn index_lengths(ea: &[u32], eb: &[u32], ec: &[u32]) -> [usize; 12]
     ensures { λ l. ⌜ l ≡ indexDue (entryLists (now (ea .entry)) (now (eb .entry)) (now (ec .entry))) ⌝ }
 {
-    let a = matrices::size_of(ea) as usize;
-    let b = matrices::size_of(eb) as usize;
-    let c = matrices::size_of(ec) as usize;
-    [a, a, a, a, b, b, b, b, c, c, c, c]
+    let ka = matrices::size_of(ea) as usize;
+    let kb = matrices::size_of(eb) as usize;
+    let kc = matrices::size_of(ec) as usize;
+    [ka, ka, ka, ka, kb, kb, kb, kb, kc, kc, kc, kc]
 }
 
 // 4 to 7 of the indexer.

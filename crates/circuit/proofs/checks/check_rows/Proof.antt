@@ -18,15 +18,15 @@ abbrev tests : (q : Prime) → ℕ → (ℕ → Elem q) → (ℕ → Elem q) →
 tests q n s t u = tabulate n (λ i. equal (s i ⊗ t i) (u i))
 
 abbrev Inv-loop : tie.InvT-loop
-Inv-loop p a b c i₀ i =
-    (i ≤ length a) × ((q : Prime) → q .p ≡ p → (n : ℕ) (s t u : ℕ → Elem q) → a ≡ words (tabulate n s) → b ≡ words (tabulate n t)
-    → c ≡ words (tabulate n u) → Passed 9 0 (tests q n s t u) i)
+Inv-loop p left right product i₀ i =
+    (i ≤ length left) × ((q : Prime) → q .p ≡ p → (n : ℕ) (s t u : ℕ → Elem q) → left ≡ words (tabulate n s) → right ≡ words (tabulate n t)
+    → product ≡ words (tabulate n u) → Passed 9 0 (tests q n s t u) i)
 
 abbrev μ-loop : tie.MeasureT-loop
-μ-loop p a b c i₀ i = length a - i
+μ-loop p left right product i₀ i = length left - i
 
 loop-holds : tie.Need-loop-holds Inv-loop μ-loop
-loop-holds c = (omega arith, λ q e n s t u ea eb ec. passed-none 9 0 _)
+loop-holds c = (omega arith, λ q e n s t u el er ep. passed-none 9 0 _)
 
 mul-multiply : tie.Need-mul-multiply Inv-loop μ-loop
 mul-multiply c = omega arith
@@ -50,13 +50,14 @@ shared-slice-read-if1 : tie.Need-shared-slice-read-if1 Inv-loop μ-loop
 shared-slice-read-if1 c = omega arith
 
 returns : tie.Need-returns Inv-loop μ-loop
-returns c q e n s t u ea eb ec =
+returns c q e n s t u el er ep =
     let l = c .before .before .before .before .before .before .loop in
     let a = c .before .before .before .before .before .before .before .before .before .before .args in
     let call = c .before .before .multiply in
-    passed-stop 9 0 (tests q n s t u) (l .i) (l .inv .1 q e n s t u ea eb ec)
-    (omega (arith, rows-count n s t u (a .a .now) (a .b .now) (a .c .now) ea eb ec)) true (l .i) (omega arith)
-    (row-test n s t u (a .a .now) (a .b .now) (a .c .now) ea eb ec (l .i) (call .result) (omega arith) (call .ensures q e) ∙ ne-eqb _ _ (c .if1 .taken))
+    passed-stop 9 0 (tests q n s t u) (l .i) (l .inv .1 q e n s t u el er ep)
+    (omega (arith, rows-count n s t u (a .left .now) (a .right .now) (a .product .now) el er ep)) true (l .i) (omega arith)
+    (row-test n s t u (a .left .now) (a .right .now) (a .product .now) el er ep (l .i) (call .result) (omega arith) (call .ensures q e)
+    ∙ ne-eqb _ _ (c .if1 .taken))
 
 add-i : tie.Need-add-i Inv-loop μ-loop
 add-i c = omega arith
@@ -70,19 +71,20 @@ loop-again c =
     let a = c .before .before .before .before .before .before .before .before .before .before .args in
     let call = c .before .before .multiply in (
       omega arith,
-      λ q e n s t u ea eb ec.
-          passed-turn 9 0 (tests q n s t u) (l .i) (l .inv .1 q e n s t u ea eb ec)
-          (omega (arith, rows-count n s t u (a .a .now) (a .b .now) (a .c .now) ea eb ec)) true
-          (row-test n s t u (a .a .now) (a .b .now) (a .c .now) ea eb ec (l .i) (call .result) (omega arith) (call .ensures q e) ∙ eq-eqb _ _ (c .if1 .left)),
+      λ q e n s t u el er ep.
+          passed-turn 9 0 (tests q n s t u) (l .i) (l .inv .1 q e n s t u el er ep)
+          (omega (arith, rows-count n s t u (a .left .now) (a .right .now) (a .product .now) el er ep)) true
+          (row-test n s t u (a .left .now) (a .right .now) (a .product .now) el er ep (l .i) (call .result) (omega arith) (call .ensures q e)
+          ∙ eq-eqb _ _ (c .if1 .left)),
     )
 
 returns-2 : tie.Need-returns-2 Inv-loop μ-loop
-returns-2 c q e n s t u ea eb ec =
+returns-2 c q e n s t u el er ep =
     let l = c .before .loop in
     let a = c .before .before .before .before .before .args in
     sym
-    (passed-end 9 0 (tests q n s t u) (l .i) (l .inv .1 q e n s t u ea eb ec)
-    (omega (arith, rows-count n s t u (a .a .now) (a .b .now) (a .c .now) ea eb ec)))
+    (passed-end 9 0 (tests q n s t u) (l .i) (l .inv .1 q e n s t u el er ep)
+    (omega (arith, rows-count n s t u (a .left .now) (a .right .now) (a .product .now) el er ep)))
 
 pub check-rows-spec : {M : Type 1} → statement M
 check-rows-spec =

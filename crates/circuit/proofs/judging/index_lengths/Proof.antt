@@ -7,20 +7,20 @@ use Rattle.circuit.proofs.judging.index_lengths.Tie as tie
 size-of-requires : tie.Need-size-of-requires
 size-of-requires c κs = tt
 
-cast-a : tie.Need-cast-a
-cast-a c = omega arith
+cast-ka : tie.Need-cast-ka
+cast-ka c = omega arith
 
 size-of-requires-2 : tie.Need-size-of-requires-2
 size-of-requires-2 c κs = tt
 
-cast-b : tie.Need-cast-b
-cast-b c = omega arith
+cast-kb : tie.Need-cast-kb
+cast-kb c = omega arith
 
 size-of-requires-3 : tie.Need-size-of-requires-3
 size-of-requires-3 c κs = tt
 
-cast-c : tie.Need-cast-c
-cast-c c = omega arith
+cast-kc : tie.Need-cast-kc
+cast-kc c = omega arith
 
 returns : tie.Need-returns
 unfolding indexDue
@@ -29,4 +29,4 @@ returns c = rw (c .before .before .size-of .ensures, c .before .size-of2 .ensure
 pub index-lengths-spec : {M : Type 1} → statement M
 index-lengths-spec =
     tie.close
-    (tie.spec size-of-requires cast-a size-of-requires-2 cast-b size-of-requires-3 cast-c returns)
+    (tie.spec size-of-requires cast-ka size-of-requires-2 cast-kb size-of-requires-3 cast-kc returns)
