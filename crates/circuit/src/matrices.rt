@@ -15,15 +15,13 @@ ghost use Rattle.circuit.specs.Given.{entryLists, Within};
 use protocol::Triple;
 use protocol::six_sizes::largest;
 
-const MAX_SIZE: u32 = 1024;
-
 // |K_M|: the smallest size not below the entry count, and the largest size where no size is.
 pub fn size_of(entries: &[u32]) -> u32
     ensures { λ n. ⌜ n ≡ sizeFor (length (entriesOf (now (entries .entry)))) ⌝ }
 {
     let count = entries.len() / 3;
-    if count > MAX_SIZE as usize {
-        return MAX_SIZE;
+    if count > domain::MAX_SIZE as usize {
+        return domain::MAX_SIZE;
     }
     domain::size_for(count as u32)
 }
