@@ -49,7 +49,7 @@ pub fn check_counts(a: u32, b: u32, c: u32) -> Fault
 }
 
 // 5: whole entries, and not over 1,024 of them.
-pub fn entry_list_fits(len: usize) -> bool
+fn entry_list_fits(len: usize) -> bool
     ensures { λ f. ⌜ f ≡ (eqb (len % 3) 0 && leb len (3 * maxSize)) ⌝ }
 {
     if len % 3 == 0 {
@@ -103,7 +103,7 @@ pub fn check_lent(start: usize, lent: &[usize], due: &[usize]) -> Fault
 }
 
 // 6: the entries' values are below p; the first of them is word `start` of the call.
-pub fn check_values(p: u32, start: usize, entries: &[u32]) -> Fault
+fn check_values(p: u32, start: usize, entries: &[u32]) -> Fault
     requires { ⌜ start < 4294967296 ⌝ }
     ensures { λ f. ⌜ faultRefusal f
         ≡ refuse 6 start (map (λ w. ltb w p) (map (λ (e : Entry). e .value) (entriesOf (now (entries .entry))))) ⌝ }
@@ -231,7 +231,7 @@ fn entry_passes(r: u32, c: u32, entries: &[u32], i: usize) -> bool
 }
 
 // 7: each entry fits, and they rise by row and then column; the first of them is entry `start` of the call.
-pub fn check_entries(r: u32, c: u32, start: usize, entries: &[u32]) -> Fault
+fn check_entries(r: u32, c: u32, start: usize, entries: &[u32]) -> Fault
     requires { ⌜ start < 4294967296 ⌝ }
     ensures { λ f. ⌜ ((k : Circuit) → k .|R| ≡ r → k .|C| ≡ c
         → faultRefusal f ≡ refuse 7 start (entryTests k (entriesOf (now (entries .entry))))) ⌝ }

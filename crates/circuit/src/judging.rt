@@ -17,7 +17,7 @@ use crate::matrices;
 use protocol::Fault;
 
 // 4 and 5 of a circuit: its sizes and its entry lists.
-pub fn judge_index_shape(r: u32, c: u32, x: u32, ea: &[u32], eb: &[u32], ec: &[u32]) -> Fault
+fn judge_index_shape(r: u32, c: u32, x: u32, ea: &[u32], eb: &[u32], ec: &[u32]) -> Fault
     ensures { λ f. ⌜ faultRefusal f ≡ indexShapeRefusal (given r c x (now (ea .entry)) (now (eb .entry)) (now (ec .entry))) ⌝ }
 {
     let fault = checks::check_sizes(r, c, x);
@@ -28,7 +28,7 @@ pub fn judge_index_shape(r: u32, c: u32, x: u32, ea: &[u32], eb: &[u32], ec: &[u
 }
 
 // 4 and 5 of what every prover call begins with: sizes, entry lists, z and m.
-pub fn judge_shape(
+fn judge_shape(
     r: u32,
     c: u32,
     x: u32,
@@ -49,7 +49,7 @@ pub fn judge_shape(
 }
 
 // 6 and 7 of a circuit whose shape is fine.
-pub fn judge_index_contents(p: u32, r: u32, c: u32, ea: &[u32], eb: &[u32], ec: &[u32]) -> Fault
+fn judge_index_contents(p: u32, r: u32, c: u32, ea: &[u32], eb: &[u32], ec: &[u32]) -> Fault
     requires { ⌜ ThreeLists (now ea) (now eb) (now ec) ⌝ }
     ensures { λ f. ⌜ ((q : Prime) → q .p ≡ p → (k : Circuit) → k .|R| ≡ r → k .|C| ≡ c
         → k .matrices ≡ entryLists (now (ea .entry)) (now (eb .entry)) (now (ec .entry)) → faultRefusal f ≡ indexContentsRefusal q k) ⌝ }
@@ -62,7 +62,7 @@ pub fn judge_index_contents(p: u32, r: u32, c: u32, ea: &[u32], eb: &[u32], ec: 
 }
 
 // 6 to 10 of a prover call whose shape is fine. The challenges are all its challenge words, the points those of α, β, γ that it has.
-pub fn judge_contents(
+fn judge_contents(
     p: u32,
     r: u32,
     c: u32,
@@ -109,7 +109,7 @@ pub fn less(m: u32, n: u32) -> usize
 }
 
 // The lengths that the lent slices of the indexer must have.
-pub fn index_lengths(ea: &[u32], eb: &[u32], ec: &[u32]) -> [usize; 12]
+fn index_lengths(ea: &[u32], eb: &[u32], ec: &[u32]) -> [usize; 12]
     ensures { λ l. ⌜ l ≡ indexDue (entryLists (now (ea .entry)) (now (eb .entry)) (now (ec .entry))) ⌝ }
 {
     let ka = matrices::size_of(ea) as usize;

@@ -65,7 +65,7 @@ fn term_at(p: u32, r: u32, c: u32, entries: &[u32], i: usize, alpha: u32, beta: 
 }
 
 // The terms of the entries in order, then zeros.
-pub fn terms_into(p: u32, r: u32, c: u32, entries: &[u32], alpha: u32, beta: u32, out: &mut [u32])
+fn terms_into(p: u32, r: u32, c: u32, entries: &[u32], alpha: u32, beta: u32, out: &mut [u32])
     requires { ⌜ 1 < p ⌝ }
     requires { ⌜ (isSize r ≡ true) × (isSize c ≡ true) ⌝ }
     requires { ⌜ length (entriesOf (now entries)) ≤ length (now out) ⌝ }
@@ -96,7 +96,7 @@ pub fn matrix_value(p: u32, r: u32, c: u32, entries: &[u32], alpha: u32, beta: u
 }
 
 // a_M/b_M on K_M, as a polynomial: the terms interpolated.
-pub fn ratio_into(p: u32, r: u32, c: u32, entries: &[u32], alpha: u32, beta: u32, out: &mut [u32])
+fn ratio_into(p: u32, r: u32, c: u32, entries: &[u32], alpha: u32, beta: u32, out: &mut [u32])
     requires { ⌜ 1 < p ⌝ }
     requires { ⌜ (isSize r ≡ true) × (isSize c ≡ true) ⌝ }
     requires { ⌜ EntryWords (now entries) ⌝ }
@@ -147,15 +147,7 @@ fn scale_in_place(p: u32, k: u32, f: &mut [u32])
 }
 
 // a_M = v_R(α) v_C(β) rowcolval_M
-pub fn numerator_into(
-    p: u32,
-    r: u32,
-    c: u32,
-    alpha: u32,
-    beta: u32,
-    rowcolval: &[u32],
-    out: &mut [u32],
-)
+fn numerator_into(p: u32, r: u32, c: u32, alpha: u32, beta: u32, rowcolval: &[u32], out: &mut [u32])
     requires { ⌜ 1 < p ⌝ }
     requires { ⌜ length (now rowcolval) ≡ length (now out) ⌝ }
     ensures { λ _. ⌜ ((q : Prime) (k : Circuit) (M : MatrixName) → q .p ≡ p → k .|R| ≡ r → k .|C| ≡ c
@@ -174,7 +166,7 @@ pub fn numerator_into(
 }
 
 // b_M = |R||C|(αβ - α col_M - β row_M + rowcol_M)
-pub fn denominator_into(
+fn denominator_into(
     p: u32,
     r: u32,
     c: u32,
@@ -204,7 +196,7 @@ pub fn denominator_into(
 }
 
 // a_M and b_M, from the index polynomials.
-pub fn fraction_into(
+fn fraction_into(
     p: u32,
     r: u32,
     c: u32,

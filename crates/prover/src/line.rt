@@ -29,7 +29,7 @@ use crate::witness;
 use protocol::Triple;
 
 // L of each element of the domain of size n at alpha, in order.
-pub fn lagrange_values_into(p: u32, n: u32, alpha: u32, out: &mut [u32])
+fn lagrange_values_into(p: u32, n: u32, alpha: u32, out: &mut [u32])
     requires { ⌜ 1 < p ⌝ }
     requires { ⌜ isSize n ≡ true ⌝ }
     requires { ⌜ length (now out) ≡ n ⌝ }
@@ -47,7 +47,7 @@ pub fn lagrange_values_into(p: u32, n: u32, alpha: u32, out: &mut [u32])
 }
 
 // Adds, for each entry, eta × its value × its row's value to its column.
-pub fn add_column_sums(p: u32, eta: u32, entries: &[u32], rows: &[u32], out: &mut [u32])
+fn add_column_sums(p: u32, eta: u32, entries: &[u32], rows: &[u32], out: &mut [u32])
     requires { ⌜ 0 < p ⌝ }
     requires { ⌜ All (Within (length (now rows)) (length (now out))) (entriesOf (now entries)) ⌝ }
     ensures { λ _. ⌜ ((q : Prime) → q .p ≡ p
@@ -91,7 +91,7 @@ fn add_weights(
 }
 
 // Σ η_M M̂(α,Y), of length |C|: it interpolates the weighted columns' sums.
-pub fn weights_into(
+fn weights_into(
     p: u32,
     r: u32,
     c: u32,
@@ -121,7 +121,7 @@ pub fn weights_into(
 }
 
 // The line m + Σ η_M M̂(α,Y) ẑ(Y), of length 2|C|.
-pub fn line_into(
+fn line_into(
     p: u32,
     r: u32,
     c: u32,

@@ -20,7 +20,7 @@ ghost use Rattle.protocol.proofs.AdmissionLaws.{WellFormed};
 ghost use Rattle.circuit.specs.Given.{Within, EachWithin, entryLists};
 
 // ẑ_M, of length |R|: it interpolates the rows' sums.
-pub fn image_into(p: u32, r: u32, entries: &[u32], z: &[u32], out: &mut [u32])
+fn image_into(p: u32, r: u32, entries: &[u32], z: &[u32], out: &mut [u32])
     requires { ⌜ 1 < p ⌝ }
     requires { ⌜ isSize r ≡ true ⌝ }
     requires { ⌜ length (now out) ≡ r ⌝ }

@@ -53,7 +53,7 @@ pub fn public_words_into(step: usize, z: &[u32], out: &mut [u32])
 }
 
 // x̂, of length |X|.
-pub fn public_poly_into(p: u32, c: u32, x: u32, z: &[u32], out: &mut [u32])
+fn public_poly_into(p: u32, c: u32, x: u32, z: &[u32], out: &mut [u32])
     requires { ⌜ 1 < p ⌝ }
     requires { ⌜ (isSize c ≡ true) × (isSize x ≡ true) × (x ≤ c) ⌝ }
     requires { ⌜ (length (now z) ≡ c) × (length (now out) ≡ x) ⌝ }
