@@ -1,4 +1,3 @@
-pub mod EarlyReturns
 pub mod Entries
 pub mod Sums
 pub mod Mask

@@ -1,14 +1,11 @@
--- How the contracts of this crate name what a call is given: its circuit, entries within their matrix, and an answer that refuses
--- nothing. Assumes nothing.
+-- How the contracts of this crate name what a call is given: its circuit, and entries within their matrix. Assumes nothing.
 use mathlib.Core.Path.{_≡_}
-use mathlib.Core.Bool.{Bool, true, false}
+use mathlib.Core.Bool.{true}
 use mathlib.Core.List.{List}
 use Prim.Native.Nat.{ℕ, _+_, _*_, _%_, _<_, _≤_}
 use lib.ListN.{length, getD}
 use Rattle.algebra.specs.Counting.{All}
 use Rattle.domain.specs.Size.{maxSize, isSize}
-use Rattle.protocol.specs.declared.Fault.{Fault}
-use Rattle.protocol.specs.declared.Fault.the-variants as fault
 use Rattle.protocol.specs.Three.{Three}
 use Rattle.protocol.specs.Circuit.{Entry}
 use Rattle.protocol.specs.Calls.{CircuitWords, ProverInput, entriesOf, circuitOf}
@@ -69,8 +66,3 @@ pub record Fits (p r c x : ℕ) (ea eb ec z m : List ℕ) : Type 0 where
   pub within : EachWithin r c ea eb ec
   pub z-length : length z ≡ c
   pub m-length : length m ≡ 2 * c
-
--- nothing is refused
-abbrev pub isFine : Fault → Bool
-isFine fault.Fine = true
-isFine (fault.Refused number position) = false

@@ -12,9 +12,9 @@ ghost use Rattle.protocol.specs.Calls.{roundRefusal};
 ghost use Rattle.circuit.specs.Given.{given, proverInput, entryLists, ThreeLists, Shaped};
 ghost use Rattle.circuit.specs.Judgement.{indexShapeRefusal, shapeRefusal, indexDue, indexRefusal, indexContentsRefusal, contentsRefusal};
 use crate::checks;
-use crate::is_fine;
 use crate::matrices;
 use protocol::Fault;
+use protocol::is_fine;
 
 // 4 and 5 of a circuit: its sizes and its entry lists.
 fn judge_index_shape(r: u32, c: u32, x: u32, ea: &[u32], eb: &[u32], ec: &[u32]) -> Fault

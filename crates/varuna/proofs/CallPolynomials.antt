@@ -17,13 +17,12 @@ use Rattle.field.proofs.Words.{of-result}
 use Rattle.domain.specs.Size.{isSize}
 use Rattle.domain.specs.Domain.{root, element, domain}
 use Rattle.protocol.specs.declared.Fault.{Fault}
-use Rattle.protocol.specs.Meanings.{faultRefusal}
+use Rattle.protocol.specs.Meanings.{faultRefusal, isFine}
 use Rattle.protocol.specs.Refusals.{Refusal, first, refuse, sizeRefusal, listRefusal, wordRefusal}
 use Rattle.protocol.specs.Calls.{maxWords}
 use Rattle.protocol.proofs.RefusalLaws.{first-none, refuse-none}
 use Rattle.protocol.proofs.Rows.{first-only, refuse-map-append}
-use Rattle.circuit.specs.Given.{isFine}
-use Rattle.circuit.proofs.EarlyReturns.{stops, goes-on, last-answer}
+use Rattle.protocol.proofs.EarlyReturns.{stops, goes-on, last-answer}
 
 -- the powers of the root are the domain
 pub powers-domain : (q : Prime) (n g lent : ℕ) → lent ≡ n → g ≡ root {q = q} n .word

@@ -13,6 +13,7 @@ use crate::answers::Filled;
 use crate::answers::Word;
 use field::MODULE_PRIME;
 use protocol::Fault;
+use protocol::is_fine;
 use protocol::scans::judge_words;
 
 // The most words to evaluate.
@@ -41,7 +42,7 @@ fn judge_evaluation(f: &[u32], y: u32) -> Fault
         return Fault::Refused(5, 0);
     }
     let fault = judge_words(MODULE_PRIME, 0, f);
-    if !circuit::is_fine(fault) {
+    if !is_fine(fault) {
         return fault;
     }
     if y < MODULE_PRIME {

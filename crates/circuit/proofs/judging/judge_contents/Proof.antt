@@ -19,7 +19,7 @@ use Rattle.protocol.specs.Admission.{entryValues}
 use Rattle.protocol.specs.Calls.{entriesOf, circuitOf}
 use Rattle.circuit.specs.Given.{given, entryLists, EachWithin}
 use Rattle.circuit.specs.Judgement.{contentsRefusal}
-use Rattle.circuit.proofs.EarlyReturns.{stops, goes-on, fine-none, last-answer}
+use Rattle.protocol.proofs.EarlyReturns.{stops, goes-on, fine-none, last-answer}
 use Rattle.circuit.proofs.Parts.{largest-by-counts, larger-is-size, entries-within}
 use Rattle.circuit.proofs.judging.judge_contents.Statement.{statement}
 use Rattle.circuit.proofs.judging.judge_contents.Tie as tie

@@ -5,7 +5,7 @@ use mathlib.Core.List.{[], _∷_}
 use borrow.Author.Tests.{not-true, not-false}
 use Rattle.protocol.specs.Refusals.{entryRefusal}
 use Rattle.circuit.specs.Judgement.{indexContentsRefusal}
-use Rattle.circuit.proofs.EarlyReturns.{stops, goes-on, last-answer}
+use Rattle.protocol.proofs.EarlyReturns.{stops, goes-on, last-answer}
 use Rattle.circuit.proofs.Parts.{circuit-words}
 use Rattle.circuit.proofs.judging.judge_index_contents.Statement.{statement}
 use Rattle.circuit.proofs.judging.judge_index_contents.Tie as tie

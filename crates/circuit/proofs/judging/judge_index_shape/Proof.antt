@@ -6,7 +6,7 @@ use Rattle.protocol.specs.Refusals.{listRefusal}
 use Rattle.protocol.specs.Calls.{entryListTests}
 use Rattle.circuit.specs.Given.{given}
 use Rattle.circuit.specs.Judgement.{indexShapeRefusal}
-use Rattle.circuit.proofs.EarlyReturns.{stops, goes-on, last-answer}
+use Rattle.protocol.proofs.EarlyReturns.{stops, goes-on, last-answer}
 use Rattle.circuit.proofs.judging.judge_index_shape.Statement.{statement}
 use Rattle.circuit.proofs.judging.judge_index_shape.Tie as tie
 

@@ -8,7 +8,7 @@ use Rattle.protocol.specs.Admission.{assignmentTests}
 use Rattle.protocol.specs.Calls.{CircuitWords, circuitOf}
 use Rattle.circuit.specs.Given.{given}
 use Rattle.circuit.specs.Judgement.{indexShapeRefusal}
-use Rattle.circuit.proofs.EarlyReturns.{stops, goes-on, last-answer}
+use Rattle.protocol.proofs.EarlyReturns.{stops, goes-on, last-answer}
 use Rattle.circuit.proofs.Parts.{shape-in-parts}
 use Rattle.circuit.proofs.judging.judge_shape.Statement.{statement}
 use Rattle.circuit.proofs.judging.judge_shape.Tie as tie
