@@ -29,7 +29,7 @@ fn lengths_fault(s: Sizes, found: &[usize], lent: usize) -> Fault
     let bounds = section_bounds(s);
     let mut k = 0;
     while k < SECTIONS {
-        if found[k] != due[k] as usize {
+        if found[k] != due[k] {
             return Fault::Refused(BAD_LENGTH, k);
         }
         k += 1;

@@ -4,7 +4,7 @@ ghost use Rattle.protocol.specs.Record.{sectionLengths};
 ghost use Rattle.protocol.specs.Meanings.{sizes as sizesMeaning};
 ghost use Rattle.record.specs.Layout.{Allowed, bounds};
 use protocol::Sizes;
-use protocol::six_sizes::largest;
+use protocol::lengths::message_lengths;
 
 pub const WORD_BYTES: usize = 4;
 
@@ -15,27 +15,26 @@ pub const TRAILER_WORDS: usize = 18;
 pub const TRAILER_BYTES: usize = 72;
 
 // The sums and the values have a word for each matrix.
-const MATRICES: u32 = 3;
+const MATRICES: usize = 3;
 
-// The lengths of the sections in words.
-pub fn section_lengths(s: Sizes) -> [u32; SECTIONS]
-    requires { ⌜ Allowed (sizesMeaning s) ⌝ }
+// The lengths of the sections in words, by the table of messages.
+pub fn section_lengths(s: Sizes) -> [usize; SECTIONS]
     ensures { λ r. ⌜ r ≡ sectionLengths (sizesMeaning s) ⌝ }
 {
-    let k = s.k;
-    let joined_size = largest(k);
+    let l = message_lengths(s);
+    let remainders = l.matrixRemainders;
     [
-        s.c - s.x + 1,
-        2 * s.c,
-        s.r - 1,
+        l.witness,
+        l.mask,
+        l.rowQuotient,
         MATRICES,
-        s.c - 1,
-        s.c,
+        l.lineRemainder,
+        l.lineQuotient,
         MATRICES,
-        k.a - 1,
-        k.b - 1,
-        k.c - 1,
-        joined_size - 1,
+        remainders.a,
+        remainders.b,
+        remainders.c,
+        l.joinedQuotient,
     ]
 }
 
@@ -49,7 +48,7 @@ pub fn section_bounds(s: Sizes) -> [u32; SECTIONS + 1]
     let mut at: u32 = 0;
     let mut k = 0;
     while k < SECTIONS {
-        at += (WORD_BYTES as u32) * lengths[k];
+        at += (WORD_BYTES * lengths[k]) as u32;
         k += 1;
         starts[k] = at;
     }

@@ -54,7 +54,7 @@ module _ (b : tie.After-section-bounds Inv-loop μ-loop) where
       (omega (arith, length-due (sizes (start .args .s)) (b .before .section-lengths .ensures)))
 
 section-lengths-requires : tie.Need-section-lengths-requires Inv-loop μ-loop
-section-lengths-requires c κs = c .before .pre .0
+section-lengths-requires c κs = search needs
 
 section-bounds-requires : tie.Need-section-bounds-requires Inv-loop μ-loop
 section-bounds-requires c κs = c .before .before .pre .0
@@ -73,9 +73,6 @@ mul-if1-2 c = search needs
 
 array-read-if1 : tie.Need-array-read-if1 Inv-loop μ-loop
 array-read-if1 c = search needs
-
-cast-if1 : tie.Need-cast-if1 Inv-loop μ-loop
-cast-if1 c = search needs
 
 returns : tie.Need-returns Inv-loop μ-loop
 returns c =
@@ -142,7 +139,6 @@ lengths-fault-spec =
     shared-slice-read-if1
     mul-if1-2
     array-read-if1
-    cast-if1
     returns
     add-k
     loop-less

@@ -29,9 +29,6 @@ loop-holds : tie.Need-loop-holds Inv-loop μ-loop
 unfolding bounds startsFrom
 loop-holds c = (omega arith, refl, refl, refl)
 
-cast-at : tie.Need-cast-at Inv-loop μ-loop
-cast-at c = search needs
-
 mul-at : tie.Need-mul-at Inv-loop μ-loop
 mul-at c = search needs
 
@@ -44,6 +41,9 @@ small c = rw (c .before .before .section-lengths .ensures)
 
 mul-at-2 : tie.Need-mul-at-2 Inv-loop μ-loop
 mul-at-2 c = omega (arith, member-bound (c .before .before .section-lengths .result) (c .before .loop .k) (small c))
+
+cast-at : tie.Need-cast-at Inv-loop μ-loop
+cast-at c = omega (arith, member-bound (c .before .before .section-lengths .result) (c .before .loop .k) (small c))
 
 add-at : tie.Need-add-at Inv-loop μ-loop
 add-at c =
@@ -95,10 +95,10 @@ section-bounds-spec =
     μ-loop
     section-lengths-requires
     loop-holds
-    cast-at
     mul-at
     array-read-at
     mul-at-2
+    cast-at
     add-at
     add-k
     mul-starts
