@@ -5,7 +5,7 @@ use mathlib.Core.Bool.{Bool, _&&_}
 use mathlib.Core.List.{List, [], _∷_, _++_, map, foldr}
 use mathlib.Core.Option.{Option}
 use Prim.Native.Nat.{ℕ, _+_, _*_, _%_}
-use lib.Dec.{eqb, leb}
+use lib.Dec.{eqb, leb, ltb}
 use lib.ListN.{length, getD}
 use Rattle.field.specs.Prime.{Prime}
 use Rattle.field.specs.Element.{Elem, of, words, _⊕_, _⊗_, _⊖_}
@@ -18,8 +18,8 @@ use Rattle.protocol.specs.Circuit.{Entry, Circuit, Sizes, sizesOf, publi
 use Rattle.protocol.specs.Index.{Index, mapIndex, index}
 use Rattle.protocol.specs.Checks.{listOpenings}
 use Rattle.protocol.specs.Messages.{Messages, lengths, witness, assignment, rowQuotient, sums, values, line, lineRemainder, lineQuotient, matrixRemainder, joinedQuotient, messages, openings}
-use Rattle.protocol.specs.Refusals.{Refusal, Outcome, Done, Refused, judged, first, pairs, trailerBytes, sixSizeTests, sizeRefusal, listRefusal, wordRefusal}
-use Rattle.protocol.specs.Record.{sectionLengths, sectionBytes, writeRecord, readRecord}
+use Rattle.protocol.specs.Refusals.{Refusal, Outcome, Done, Refused, judged, first, refuse, pairs, trailerBytes, sixSizeTests, sizeRefusal, listRefusal, wordRefusal}
+use Rattle.protocol.specs.Record.{sectionLengths, startsFrom, sectionBytes, writeRecord, sizesRead, endRow, trailerRow, wordRow, readRecord}
 use Rattle.protocol.specs.Admission.{circuitRefusals, assignmentTests, proverRefusal}
 
 -- the most words to evaluate: "over 2,048 words to evaluate"
@@ -184,3 +184,12 @@ module _ (q : Prime) where
   -- section k of a record as a part of its bytes: empty where the record is refused or has no such section
   unfoldable pub sectionCall : List ℕ → ℕ → List ℕ
   sectionCall bytes k = elim (readRecord bytes q) as (λ o. List ℕ) [ Done found ↦ getD (found .parts) k [] | Refused r ↦ [] ]
+
+  -- where section k stands in a record: its byte start and its length in bytes. A number above 10 names a list that is not there:
+  -- 5, with "which list" as its position
+  unfoldable pub placeCall : List ℕ → ℕ → Outcome (ℕ × ℕ)
+  placeCall bytes k =
+      let l : List ℕ = sectionLengths (sizesRead bytes) in
+      judged
+      (first (endRow bytes ∷ trailerRow bytes ∷ refuse 5 k (ltb k 11 ∷ []) ∷ wordRow bytes q ∷ []))
+      (getD (startsFrom 0 l) k 0, 4 * getD l k 0)

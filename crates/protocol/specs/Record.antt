@@ -81,14 +81,22 @@ module _ (bytes : List ℕ) where
         |K| = record { a = trailerWord 14; b = trailerWord 15; c = trailerWord 16 };
       }
 
+  -- the rows of the table of refusals that a record can fail: 2, its end
+  abbrev pub endRow : Option Refusal
+  endRow = endRefusal (length bytes) (trailerWord 17)
+
+  -- 3, its trailer
+  abbrev pub trailerRow : Option Refusal
+  trailerRow =
+      trailerRefusal sizesRead (tabulate 11 trailerWord) (startsFrom 0 (sectionLengths sizesRead)) (length bytes - trailerBytes)
+      (sectionBytes sizesRead)
+
+  -- 6, "a record's sections included"
+  abbrev pub wordRow : Prime → Option Refusal
+  wordRow q = wordRefusal q (wordsIn (take (length bytes - trailerBytes) bytes))
+
   unfoldable pub recordRefusal : Prime → Option Refusal
-  recordRefusal q =
-      let total : ℕ = length bytes - trailerBytes in
-      first
-      (endRefusal (length bytes) (trailerWord 17)
-      ∷ trailerRefusal sizesRead (tabulate 11 trailerWord) (startsFrom 0 (sectionLengths sizesRead)) total (sectionBytes sizesRead)
-      ∷ wordRefusal q (wordsIn (take total bytes))
-      ∷ [])
+  recordRefusal q = first (endRow ∷ trailerRow ∷ wordRow q ∷ [])
 
   unfoldable pub readRecord : Prime → Outcome Contents
   readRecord q = judged (recordRefusal q) (record { sizes = sizesRead; parts = partsOf bytes (sectionLengths sizesRead) })
