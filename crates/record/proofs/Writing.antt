@@ -11,7 +11,7 @@ use Rattle.protocol.proofs.Words.{bytesOf-append}
 use Rattle.record.specs.Layout.{joined, eachSection}
 
 -- a byte stored after the bytes so far
-pub byte-stored : (l done : List ℕ) (n b : ℕ) → n < length l → take n l ≡ done → take (suc n) (set l n b) ≡ done ++ (b ∷ [])
+byte-stored : (l done : List ℕ) (n b : ℕ) → n < length l → take n l ≡ done → take (suc n) (set l n b) ≡ done ++ (b ∷ [])
 byte-stored l done n b below e = take-suc-set l n b below ∙ ap (λ d. d ++ (b ∷ [])) e
 
 -- four bytes stored
