@@ -6,7 +6,7 @@ use Prim.Native.Nat.{ℕ, zero, suc, _+_, _-_, _*_, _<_, _≤_}
 use native.Mathlib.Omega.{arith}
 use native.Mathlib.Numerals.{add-one}
 use lib.Dec.{eqb}
-use lib.ListN.{length, getD, take, drop, set, length-append}
+use lib.ListN.{length, getD, take, drop, set, length-append, List·getD-append}
 use lib.Seq.{take-suc, take-suc-set, drop-drop}
 use Rattle.protocol.specs.Refusals.{pairs}
 use Rattle.protocol.specs.Record.{startsFrom, partsOf}
@@ -19,11 +19,11 @@ starts-snoc start (m ∷ l) n =
     let same : start + 4 * m + byteCount l ≡ start + (4 * m + byteCount l) = omega arith in
     ap (λ k. start ∷ k) (starts-snoc (start + 4 * m) l n ∙ ap (λ e. startsFrom (start + 4 * m) l ++ (e ∷ [])) same)
 
-pub byteCount-snoc : (l : List ℕ) (n : ℕ) → byteCount (l ++ (n ∷ [])) ≡ byteCount l + 4 * n
+byteCount-snoc : (l : List ℕ) (n : ℕ) → byteCount (l ++ (n ∷ [])) ≡ byteCount l + 4 * n
 byteCount-snoc [] n = omega arith
 byteCount-snoc (m ∷ l) n = omega (arith, byteCount-snoc l n)
 
-pub bounds-snoc : (l : List ℕ) (n : ℕ) → bounds (l ++ (n ∷ [])) ≡ bounds l ++ ((byteCount l + 4 * n) ∷ [])
+bounds-snoc : (l : List ℕ) (n : ℕ) → bounds (l ++ (n ∷ [])) ≡ bounds l ++ ((byteCount l + 4 * n) ∷ [])
 unfolding bounds
 bounds-snoc l n =
     let same : 0 + byteCount l ≡ byteCount l = omega arith in
@@ -57,21 +57,31 @@ bound-at l k le =
     let before : 0 + byteCount (take k l) ≡ byteCount (take k l) = omega arith in
     ap (λ e. getD (startsFrom 0 l ++ (e ∷ [])) k 0) total ∙ start-at 0 l k le ∙ before
 
-pub byteCount-step : (l : List ℕ) (k : ℕ) → k < length l → byteCount (take (suc k) l) ≡ byteCount (take k l) + 4 * getD l k 0
+start-of : (l : List ℕ) (k : ℕ) → k < length l → getD (startsFrom 0 l) k 0 ≡ byteCount (take k l)
+unfolding bounds
+start-of l k below =
+    sym (List·getD-append (startsFrom 0 l) (byteCount l ∷ []) 0 k (omega (arith, length-starts 0 l))) ∙ bound-at l k (omega arith)
+
+byteCount-step : (l : List ℕ) (k : ℕ) → k < length l → byteCount (take (suc k) l) ≡ byteCount (take k l) + 4 * getD l k 0
 byteCount-step l k below = ap byteCount (take-suc l k 0 below) ∙ byteCount-snoc (take k l) (getD l k 0)
 
-pub byteCount-take : (l : List ℕ) (k : ℕ) → byteCount (take k l) ≤ byteCount l
+byteCount-take : (l : List ℕ) (k : ℕ) → byteCount (take k l) ≤ byteCount l
 byteCount-take l zero = omega arith
 byteCount-take [] (suc k) = omega arith
 byteCount-take (n ∷ l) (suc k) = omega (arith, byteCount-take l k)
 
-pub part-at : (bytes l : List ℕ) (k : ℕ) → k < length l
+part-after : (bytes l : List ℕ) (k : ℕ) → k < length l
     → getD (partsOf bytes l) k [] ≡ take (4 * getD l k 0) (drop (byteCount (take k l)) bytes)
 unfolding partsOf
-part-at bytes [] k below = absurd (omega arith)
-part-at bytes (n ∷ l) zero below = refl
-part-at bytes (n ∷ l) (suc k) below =
-    part-at (drop (4 * n) bytes) l k (omega arith) ∙ ap (take (4 * getD l k 0)) (drop-drop (byteCount (take k l)) (4 * n) bytes)
+part-after bytes [] k below = absurd (omega arith)
+part-after bytes (n ∷ l) zero below = refl
+part-after bytes (n ∷ l) (suc k) below =
+    part-after (drop (4 * n) bytes) l k (omega arith) ∙ ap (take (4 * getD l k 0)) (drop-drop (byteCount (take k l)) (4 * n) bytes)
+
+-- part k by its start and its length
+pub part-at : (bytes l : List ℕ) (k : ℕ) → k < length l
+    → getD (partsOf bytes l) k [] ≡ take (4 * getD l k 0) (drop (getD (startsFrom 0 l) k 0) bytes)
+part-at bytes l k below = part-after bytes l k below ∙ ap (λ n. take (4 * getD l k 0) (drop n bytes)) (sym (start-of l k below))
 
 -- part k lies between two bounds
 module _ (l b : List ℕ) (same : b ≡ bounds l) (k : ℕ) (below : k < length l) where
@@ -87,10 +97,11 @@ module _ (l b : List ℕ) (same : b ≡ bounds l) (k : ℕ) (below : k < length 
   pub bounds-within : getD b (k + 1) 0 ≤ byteCount l
   bounds-within = omega (arith, end, byteCount-take l (suc k))
 
-  pub part-between : (bytes : List ℕ) → take (getD b (k + 1) 0 - getD b k 0) (drop (getD b k 0) bytes) ≡ getD (partsOf bytes l) k []
-  part-between bytes =
-      let long : getD b (k + 1) 0 - getD b k 0 ≡ 4 * getD l k 0 = omega (arith, start, end, byteCount-step l k below) in
-      ap₂ (λ m n. take m (drop n bytes)) long start ∙ sym (part-at bytes l k below)
+  pub start-between : getD b k 0 ≡ getD (startsFrom 0 l) k 0
+  start-between = start ∙ sym (start-of l k below)
+
+  pub length-between : getD b (k + 1) 0 - getD b k 0 ≡ 4 * getD l k 0
+  length-between = omega (arith, start, end, byteCount-step l k below)
 
 -- one more of the lengths: the next bound is stored
 module _ (l starts : List ℕ) (k last : ℕ) (below : k < length l) (before : last ≡ byteCount (take k l)) where

@@ -10,9 +10,9 @@ use Rattle.algebra.specs.Lists.{tabulate}
 use Rattle.algebra.proofs.PolynomialLaws.{length-tabulate}
 use Rattle.protocol.specs.Circuit.{Sizes}
 use Rattle.protocol.specs.Refusals.{first, refuse, pairs, trailerRefusal, sixSizeTests, trailerBytes}
-use Rattle.protocol.specs.Record.{sectionLengths, sectionBytes, startsFrom, trailer, trailerWord, sizesRead}
+use Rattle.protocol.specs.Record.{sectionLengths, sectionBytes, startsFrom, trailer, trailerWord, sizesRead, trailerRow}
 use Rattle.protocol.proofs.Rows.{first-nested}
-use Rattle.record.specs.Layout.{byteCount, bounds, startsRow, totalRow, startsRefusal, trailerRefusalOf}
+use Rattle.record.specs.Layout.{byteCount, bounds, startsRow, totalRow, startsRefusal}
 use Rattle.record.proofs.Bounds.{length-bounds, bound-at, pairs-bounds}
 
 pub eleven : (s : Sizes) → length (sectionLengths s) ≡ 11
@@ -48,8 +48,8 @@ start-rows bytes s given same =
 
 -- the sizes before the starts
 pub trailer-rows : (bytes : List ℕ)
-    → trailerRefusalOf bytes ≡ first (refuse 3 11 (sixSizeTests (sizesRead bytes)) ∷ startsRefusal bytes (sizesRead bytes) ∷ [])
-unfolding trailerRefusalOf trailerRefusal startsRefusal
+    → trailerRow bytes ≡ first (refuse 3 11 (sixSizeTests (sizesRead bytes)) ∷ startsRefusal bytes (sizesRead bytes) ∷ [])
+unfolding trailerRefusal startsRefusal
 trailer-rows bytes =
     let s : Sizes = sizesRead bytes in
     sym (first-nested (refuse 3 11 (sixSizeTests s)) (startsRow bytes s ∷ totalRow bytes s ∷ []))

@@ -1,4 +1,4 @@
--- The words of a part of the bytes are the words of the bytes, and so are their tests. Assumes nothing.
+-- The words of the first bytes are words of all bytes, and so are their tests. Assumes nothing.
 use mathlib.Core.Path.{_≡_, ap, _∙_}
 use mathlib.Core.Bool.{Bool}
 use mathlib.Core.List.{List, map}
@@ -11,12 +11,12 @@ use Rattle.algebra.proofs.PolynomialLaws.{length-tabulate, getD-tabulate}
 use Rattle.protocol.specs.Record.{wordAt, wordsIn}
 use Rattle.protocol.proofs.Rows.{map-at}
 
-module _ (bytes : List ℕ) (count : ℕ) (fits : 4 * count ≤ length bytes) where
+module _ (bytes : List ℕ) (total count : ℕ) (whole : 4 * count ≡ total) (fits : total ≤ length bytes) where
   abbrev part : List ℕ
-  part = take (4 * count) bytes
+  part = take total bytes
 
   part-words : length part / 4 ≡ count
-  part-words = omega (arith, length-take-le (4 * count) bytes fits)
+  part-words = omega (arith, length-take-le total bytes fits)
 
   length-words : length (wordsIn part) ≡ count
   unfolding wordsIn
@@ -29,7 +29,7 @@ module _ (bytes : List ℕ) (count : ℕ) (fits : 4 * count ≤ length bytes) wh
       ∙ cc (byte 0 (omega arith), byte 1 (omega arith), byte 2 (omega arith), byte 3 (omega arith))
     where
       byte : (k : ℕ) → k < 4 → getD part (4 * i + k) 0 ≡ getD bytes (4 * i + k) 0
-      byte k small = getD-take (4 * count) bytes (4 * i + k) 0 (omega arith)
+      byte k small = getD-take total bytes (4 * i + k) 0 (omega arith)
 
   -- the row of the words of the part
   module _ (p : ℕ) where

@@ -10,8 +10,8 @@ use lib.ListN.{length}
 use Rattle.algebra.specs.Counting.{All}
 use Rattle.algebra.specs.Lists.{tabulate}
 use Rattle.protocol.specs.Circuit.{Sizes}
-use Rattle.protocol.specs.Refusals.{Refusal, first, refuse, pairs, trailerBytes, sixSizeTests, sizeRefusal, listRefusal, endRefusal, trailerRefusal}
-use Rattle.protocol.specs.Record.{sectionLengths, startsFrom, sectionBytes, trailerWord, sizesRead}
+use Rattle.protocol.specs.Refusals.{Refusal, first, refuse, pairs, trailerBytes, sixSizeTests, sizeRefusal, listRefusal}
+use Rattle.protocol.specs.Record.{sectionLengths, startsFrom, sectionBytes, trailerWord, endRow, trailerRow}
 
 -- every size is allowed, and |X| is not above |C|
 abbrev pub Allowed : Sizes → Type 0
@@ -44,15 +44,9 @@ module _ (bytes : List ℕ) (s : Sizes) where
   unfoldable pub startsRefusal : Option Refusal
   startsRefusal = first (startsRow ∷ totalRow ∷ [])
 
--- 3: the trailer of a record
-unfoldable pub trailerRefusalOf : List ℕ → Option Refusal
-trailerRefusalOf bytes =
-    let s : Sizes = sizesRead bytes in
-    trailerRefusal s (tabulate 11 (trailerWord bytes)) (startsFrom 0 (sectionLengths s)) (length bytes - trailerBytes) (sectionBytes s)
-
 -- 2 and 3: all of a record but its words
 unfoldable pub layoutRefusal : List ℕ → Option Refusal
-layoutRefusal bytes = first (endRefusal (length bytes) (trailerWord bytes 17) ∷ trailerRefusalOf bytes ∷ [])
+layoutRefusal bytes = first (endRow bytes ∷ trailerRow bytes ∷ [])
 
 -- 4 and 5: the sizes, the lengths of the sections and of the lent bytes
 unfoldable pub lengthRefusals : Sizes → List ℕ → ℕ → Option Refusal

@@ -15,10 +15,10 @@ use protocol::Sizes;
 use protocol::scans::judge_words;
 use protocol::six_sizes::judge_sizes;
 
-// The rows of the table of refusals that sizes and lengths can fail.
+// The rows of the table of refusals for sizes and for lists.
 const BAD_SIZE: u32 = 4;
 
-const BAD_LENGTH: u32 = 5;
+pub const BAD_LIST: u32 = 5;
 
 // The lengths of the sections and of the lent bytes against those that the sizes give.
 fn lengths_fault(s: Sizes, found: &[usize], lent: usize) -> Fault
@@ -30,12 +30,12 @@ fn lengths_fault(s: Sizes, found: &[usize], lent: usize) -> Fault
     let mut k = 0;
     while k < SECTIONS {
         if found[k] != due[k] {
-            return Fault::Refused(BAD_LENGTH, k);
+            return Fault::Refused(BAD_LIST, k);
         }
         k += 1;
     }
     if lent != bounds[SECTIONS] as usize + TRAILER_BYTES {
-        return Fault::Refused(BAD_LENGTH, SECTIONS);
+        return Fault::Refused(BAD_LIST, SECTIONS);
     }
     Fault::Fine
 }

@@ -9,5 +9,7 @@ mod writer;
 pub use reader::Reading;
 pub use reader::read;
 pub use reader::word_at;
+pub use sections::Place;
+pub use sections::find_section;
 pub use sections::section;
 pub use writer::write;

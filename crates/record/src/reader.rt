@@ -1,14 +1,14 @@
 // The reader: a record from its end, then its trailer, then its words.
 ghost use mathlib.Core.Path.{_≡_};
 ghost use mathlib.Core.Option.{none};
-ghost use Prim.Native.Nat.{_+_, _*_, _≤_, _<_};
-ghost use lib.ListN.{length, take};
+ghost use Prim.Native.Nat.{_+_, _-_, _*_, _/_, _≤_, _<_};
+ghost use lib.ListN.{length};
 ghost use Rattle.field.specs.Prime.{Prime};
-ghost use Rattle.protocol.specs.Refusals.{trailerBytes, endRefusal};
-ghost use Rattle.protocol.specs.Record.{wordAt, wordsIn, trailerWord, sizesRead, recordRefusal, readRecord};
+ghost use Rattle.protocol.specs.Refusals.{trailerBytes};
+ghost use Rattle.protocol.specs.Record.{wordAt, trailerWord, sizesRead, endRow, trailerRow, wordRow, readRecord};
 ghost use Rattle.protocol.specs.Meanings.{faultRefusal, sizes as sizesMeaning};
 ghost use Rattle.record.specs.Answers.{readingMeaning, sizesFound};
-ghost use Rattle.record.specs.Layout.{Allowed, refuseWords, startsRefusal, trailerRefusalOf, layoutRefusal};
+ghost use Rattle.record.specs.Layout.{Allowed, startsRefusal, layoutRefusal};
 use crate::layout::SECTIONS;
 use crate::layout::TRAILER_BYTES;
 use crate::layout::TRAILER_WORDS;
@@ -50,12 +50,20 @@ pub fn word_at(bytes: &[u8], i: usize) -> u32
         + 16777216 * wide(bytes[at + 3])
 }
 
+// The count of the words before the trailer, which are those of the sections.
+fn section_word_count(bytes: &[u8]) -> usize
+    requires { ⌜ trailerBytes ≤ length (now bytes) ⌝ }
+    ensures { λ r. ⌜ r ≡ (length (now (bytes .entry)) - trailerBytes) / 4 ⌝ }
+{
+    (bytes.len() - TRAILER_BYTES) / WORD_BYTES
+}
+
 // Word k of the trailer.
 fn trailer_word(bytes: &[u8], k: usize) -> u32
     requires { ⌜ (trailerBytes ≤ length (now bytes)) × (k < 18) ⌝ }
     ensures { λ r. ⌜ r ≡ trailerWord (now (bytes .entry)) k ⌝ }
 {
-    word_at(bytes, (bytes.len() - TRAILER_BYTES) / WORD_BYTES + k)
+    word_at(bytes, section_word_count(bytes) + k)
 }
 
 pub fn sizes_in(bytes: &[u8]) -> Sizes
@@ -76,7 +84,7 @@ pub fn sizes_in(bytes: &[u8]) -> Sizes
 
 // The end of a record: its length, and its last word.
 fn end_fault(bytes: &[u8]) -> Fault
-    ensures { λ r. ⌜ faultRefusal r ≡ endRefusal (length (now (bytes .entry))) (trailerWord (now (bytes .entry)) 17) ⌝ }
+    ensures { λ r. ⌜ faultRefusal r ≡ endRow (now (bytes .entry)) ⌝ }
 {
     let n = bytes.len();
     if n < TRAILER_BYTES {
@@ -114,7 +122,7 @@ fn starts_fault(bytes: &[u8], s: Sizes) -> Fault
 // The trailer of a record: its sizes, then its starts, then the total length.
 fn trailer_fault(bytes: &[u8]) -> Fault
     requires { ⌜ trailerBytes ≤ length (now bytes) ⌝ }
-    ensures { λ r. ⌜ faultRefusal r ≡ trailerRefusalOf (now (bytes .entry)) ⌝ }
+    ensures { λ r. ⌜ faultRefusal r ≡ trailerRow (now (bytes .entry)) ⌝ }
 {
     let s = sizes_in(bytes);
     if let Fault::Refused(number, position) = judge_sizes(BAD_TRAILER, SECTIONS, s) {
@@ -124,7 +132,7 @@ fn trailer_fault(bytes: &[u8]) -> Fault
 }
 
 // All of a record but its words.
-fn layout_fault(bytes: &[u8]) -> Fault
+pub fn layout_fault(bytes: &[u8]) -> Fault
     ensures { λ r. ⌜ faultRefusal r ≡ layoutRefusal (now (bytes .entry)) ⌝ }
 {
     if let Fault::Refused(number, position) = end_fault(bytes) {
@@ -133,11 +141,12 @@ fn layout_fault(bytes: &[u8]) -> Fault
     trailer_fault(bytes)
 }
 
-// The words of a record's sections, of which there are so many.
-fn section_words_fault(p: u32, bytes: &[u8], count: usize) -> Fault
-    requires { ⌜ 4 * count ≤ length (now bytes) ⌝ }
-    ensures { λ r. ⌜ faultRefusal r ≡ refuseWords p 0 (wordsIn (take (4 * count) (now (bytes .entry)))) ⌝ }
+// The words of the sections of a record whose layout holds.
+pub fn section_words_fault(p: u32, bytes: &[u8]) -> Fault
+    requires { ⌜ layoutRefusal (now bytes) ≡ none ⌝ }
+    ensures { λ r. ⌜ ((q : Prime) → q .p ≡ p → faultRefusal r ≡ wordRow (now (bytes .entry)) q) ⌝ }
 {
+    let count = section_word_count(bytes);
     let mut i = 0;
     while i < count {
         if p <= word_at(bytes, i) {
@@ -148,22 +157,14 @@ fn section_words_fault(p: u32, bytes: &[u8], count: usize) -> Fault
     Fault::Fine
 }
 
-// The first refusal of a record. Where there is none, its layout holds whatever p is.
-pub fn record_fault(p: u32, bytes: &[u8]) -> Fault
-    ensures { λ r. ⌜ ((q : Prime) → q .p ≡ p → faultRefusal r ≡ recordRefusal (now (bytes .entry)) q) ⌝ }
-    ensures { λ r. ⌜ (faultRefusal r ≡ none → layoutRefusal (now (bytes .entry)) ≡ none) ⌝ }
-{
-    if let Fault::Refused(number, position) = layout_fault(bytes) {
-        return Fault::Refused(number, position);
-    }
-    section_words_fault(p, bytes, (bytes.len() - TRAILER_BYTES) / WORD_BYTES)
-}
-
 // A record's sizes, or its first refusal: the end (2), the trailer (3), a word (6).
 pub fn read(p: u32, bytes: &[u8]) -> Reading
     ensures { λ r. ⌜ ((q : Prime) → q .p ≡ p → readingMeaning r ≡ sizesFound (readRecord (now (bytes .entry)) q)) ⌝ }
 {
-    if let Fault::Refused(number, position) = record_fault(p, bytes) {
+    if let Fault::Refused(number, position) = layout_fault(bytes) {
+        return Reading::Refused(number, position);
+    }
+    if let Fault::Refused(number, position) = section_words_fault(p, bytes) {
         return Reading::Refused(number, position);
     }
     Reading::Whole(sizes_in(bytes))

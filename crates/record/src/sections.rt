@@ -1,39 +1,50 @@
-// The section finder: a section as that part of the caller's bytes.
+// The section finder: where a section stands in the caller's bytes, and the section as that part of them.
 ghost use mathlib.Core.Path.{_≡_};
-ghost use mathlib.Core.List.{[]};
-ghost use mathlib.Core.Option.{none};
-ghost use Prim.Native.Nat.{_<_};
-ghost use lib.ListN.{getD};
+ghost use lib.ListN.{length};
 ghost use Rattle.field.specs.Prime.{Prime};
-ghost use Rattle.protocol.specs.Record.{sectionLengths, partsOf, sizesRead};
-ghost use Rattle.protocol.specs.Calls.{sectionCall};
-ghost use Rattle.record.specs.Layout.{layoutRefusal};
+ghost use Rattle.protocol.specs.Calls.{placeCall, sectionCall};
+ghost use Rattle.record.specs.Answers.{placeMeaning, Within};
+use crate::judging::BAD_LIST;
 use crate::layout::SECTIONS;
 use crate::layout::section_bounds;
-use crate::reader::record_fault;
+use crate::reader::layout_fault;
+use crate::reader::section_words_fault;
 use crate::reader::sizes_in;
 use protocol::Fault;
 
-// Section k of a record whose layout holds.
-fn section_part<'a>(bytes: &'a [u8], k: usize) -> &'a [u8]
-    requires { ⌜ (layoutRefusal (now bytes) ≡ none) × (k < 11) ⌝ }
-    ensures { λ r. ⌜ now r ≡ getD (partsOf (now (bytes .entry)) (sectionLengths (sizesRead (now (bytes .entry))))) k [] ⌝ }
+// Where a section stands, its start and its length in bytes, or a refusal's number and position.
+pub enum Place {
+    At(usize, usize),
+    Refused(u32, usize),
+}
+
+// Where section k stands, or the first refusal: the end (2), the trailer (3), a number above 10 (5), a word (6). A place that is
+// found lies within the bytes, whatever p is.
+pub fn find_section(p: u32, bytes: &[u8], k: usize) -> Place
+    ensures { λ r. ⌜ ((q : Prime) → q .p ≡ p → placeMeaning r ≡ placeCall q (now (bytes .entry)) k) ⌝ }
+    ensures { λ r. ⌜ Within (length (now (bytes .entry))) (placeMeaning r) ⌝ }
 {
+    if let Fault::Refused(number, position) = layout_fault(bytes) {
+        return Place::Refused(number, position);
+    }
+    if SECTIONS <= k {
+        return Place::Refused(BAD_LIST, k);
+    }
+    if let Fault::Refused(number, position) = section_words_fault(p, bytes) {
+        return Place::Refused(number, position);
+    }
     let bounds = section_bounds(sizes_in(bytes));
     let start = bounds[k] as usize;
     let end = bounds[k + 1] as usize;
-    &bytes[start..end]
+    Place::At(start, end - start)
 }
 
 // Section k as that part of the caller's bytes: empty where the record is refused or has no such section.
 pub fn section<'a>(p: u32, bytes: &'a [u8], k: usize) -> &'a [u8]
     ensures { λ r. ⌜ ((q : Prime) → q .p ≡ p → now r ≡ sectionCall q (now (bytes .entry)) k) ⌝ }
 {
-    if SECTIONS <= k {
-        return &bytes[0..0];
+    match find_section(p, bytes, k) {
+        Place::At(start, len) => &bytes[start..start + len],
+        Place::Refused(_, _) => &bytes[0..0],
     }
-    if let Fault::Refused(_, _) = record_fault(p, bytes) {
-        return &bytes[0..0];
-    }
-    section_part(bytes, k)
 }

@@ -5,9 +5,8 @@ use mathlib.Core.Path.{_≡_, sym, ap, _∙_}
 use lib.ListN.{length}
 use borrow.Author.Needs.{needs}
 use Rattle.protocol.specs.Meanings.{faultRefusal}
-use Rattle.protocol.specs.Record.{trailerWord}
-use Rattle.protocol.specs.Refusals.{endRefusal}
-use Rattle.record.specs.Layout.{trailerRefusalOf, layoutRefusal}
+use Rattle.protocol.specs.Record.{trailerWord, endRow, trailerRow}
+use Rattle.record.specs.Layout.{layoutRefusal}
 use Rattle.record.proofs.Rows.{end-long}
 use Rattle.protocol.proofs.Rows.{first-stop, first-pass}
 use Rattle.record.proofs.reader.layout_fault.Statement.{statement}
@@ -23,7 +22,7 @@ returns : tie.Need-returns
 unfolding layoutRefusal
 returns c =
     let bytes = c .before .before .before .before .before .args .bytes .now in
-    sym (first-stop (trailerRefusalOf bytes ∷ [])
+    sym (first-stop (trailerRow bytes ∷ [])
     (sym (c .before .before .before .end-fault .ensures) ∙ ap faultRefusal (c .before .number .given .1)))
 
 enum-told : tie.Need-enum-told
@@ -38,7 +37,7 @@ returns-2 : tie.Need-returns-2
 unfolding layoutRefusal
 returns-2 c =
     let bytes = c .before .before .before .before .before .args .bytes .now in
-    let none-before : endRefusal (length bytes) (trailerWord bytes 17) ≡ none =
+    let none-before : endRow bytes ≡ none =
     sym (c .before .before .before .end-fault .ensures) ∙ ap faultRefusal (c .before .enum-told .given .1) in
     c .trailer-fault .ensures ∙ sym (first-pass _ none-before)
 

@@ -1,11 +1,13 @@
 -- `record::reader::trailer_word` meets its contract. Assumes nothing.
+use mathlib.Core.Path.{ap, _∙_}
+use Prim.Native.Nat.{_+_}
 use borrow.Author.Needs.{needs}
-use Rattle.protocol.specs.Record.{trailerWord}
+use Rattle.protocol.specs.Record.{wordAt, trailerWord}
 use Rattle.record.proofs.reader.trailer_word.Statement.{statement}
 use Rattle.record.proofs.reader.trailer_word.Tie as tie
 
-sub-word-at : tie.Need-sub-word-at
-sub-word-at c = search needs
+section-word-count-requires : tie.Need-section-word-count-requires
+section-word-count-requires c κs = search needs
 
 add-word-at : tie.Need-add-word-at
 add-word-at c = search needs
@@ -15,7 +17,10 @@ word-at-requires c κs = search needs
 
 returns : tie.Need-returns
 unfolding trailerWord
-returns c = c .word-at .ensures
+returns c =
+    let a = c .before .before .before .args in
+    c .word-at .ensures ∙ ap (λ n. wordAt (a .bytes .now) (n + a .k)) (c .before .section-word-count .ensures)
 
 pub trailer-word-spec : {M : Type 1} → statement M
-trailer-word-spec = tie.close (tie.spec sub-word-at add-word-at word-at-requires returns)
+trailer-word-spec =
+    tie.close (tie.spec section-word-count-requires add-word-at word-at-requires returns)
