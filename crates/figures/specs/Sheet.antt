@@ -33,10 +33,23 @@ figureText f = ascii (f .name) ++ (ascii ": " ++ (decimal (f .number) ++ (ascii 
 unfoldable pub figuresText : List Figure → List ℕ
 figuresText fs = foldr (λ f rest. figureText f ++ rest) [] fs
 
-module _ (s : Sizes) where
-  abbrev table : Messages ℕ ℕ
-  table = lengths s
+-- the table of messages' column "Length"
+abbrev pub messageFigures : Messages ℕ ℕ → List Figure
+messageFigures table =
+    figure "words of w" (table .witness) "rules-kept"
+    ∷ figure "words of m" (table .mask) "rules-kept"
+    ∷ figure "words of h0" (table .rowQuotient) "rules-kept"
+    ∷ figure "words of s" 3 "rules-kept"
+    ∷ figure "words of g1" (table .lineRemainder) "rules-kept"
+    ∷ figure "words of h1" (table .lineQuotient) "rules-kept"
+    ∷ figure "words of o" 3 "rules-kept"
+    ∷ figure "words of ga" (table .matrixRemainders .a) "rules-kept"
+    ∷ figure "words of gb" (table .matrixRemainders .b) "rules-kept"
+    ∷ figure "words of gc" (table .matrixRemainders .c) "rules-kept"
+    ∷ figure "words of h2" (table .joinedQuotient) "rules-kept"
+    ∷ []
 
+module _ (s : Sizes) where
   -- |K_M| for the entry counts, and the largest
   abbrev pub sizeFigures : List Figure
   sizeFigures =
@@ -46,22 +59,9 @@ module _ (s : Sizes) where
       ∷ figure "size of K" (largest (s .|K|)) "largest"
       ∷ []
 
-  -- the table of messages
+  -- the lengths of the messages, and of the record
   abbrev pub lengthFigures : List Figure
-  lengthFigures =
-      figure "words of w" (table .witness) "rules-kept"
-      ∷ figure "words of m" (table .mask) "rules-kept"
-      ∷ figure "words of h0" (table .rowQuotient) "rules-kept"
-      ∷ figure "words of s" 3 "rules-kept"
-      ∷ figure "words of g1" (table .lineRemainder) "rules-kept"
-      ∷ figure "words of h1" (table .lineQuotient) "rules-kept"
-      ∷ figure "words of o" 3 "rules-kept"
-      ∷ figure "words of ga" (table .matrixRemainders .a) "rules-kept"
-      ∷ figure "words of gb" (table .matrixRemainders .b) "rules-kept"
-      ∷ figure "words of gc" (table .matrixRemainders .c) "rules-kept"
-      ∷ figure "words of h2" (table .joinedQuotient) "rules-kept"
-      ∷ figure "bytes of the record" (sectionBytes s + trailerBytes) "read-written"
-      ∷ []
+  lengthFigures = messageFigures (lengths s) ++ (figure "bytes of the record" (sectionBytes s + trailerBytes) "read-written" ∷ [])
 
   -- the degrees and the allowed points of the checks
   module _ (q : Prime) where

@@ -1,17 +1,20 @@
-// The figures in groups, a function for each. A group's function takes sizes in range and room for its lines.
+// The figures in groups, a function for each. A group's function takes room for its lines, and that of the checks sizes in range.
 use crate::line::put_digits;
 use crate::line::put_figure;
+use crate::line::put_length;
 use field::MODULE_PRIME;
 use protocol::Sizes;
+use protocol::lengths::Lengths;
+use protocol::lengths::message_lengths;
 use protocol::six_sizes::largest;
 ghost use mathlib.Core.Path.{_≡_};
 ghost use Prim.Native.Nat.{_+_, _*_, _≤_};
 ghost use lib.ListN.{length, take, drop};
 ghost use Rattle.domain.specs.BabyBear.{babyBear};
-ghost use Rattle.protocol.specs.Meanings.{sizes as sizesMeaning};
+ghost use Rattle.protocol.specs.Meanings.{sizes as sizesMeaning, messageLengths};
 ghost use Rattle.protocol.specs.Record.{sectionBytes};
 ghost use Rattle.protocol.specs.Refusals.{trailerBytes};
-ghost use Rattle.figures.specs.Sheet.{figuresText, sizeFigures, lengthFigures, checkFigures, tripleFigures};
+ghost use Rattle.figures.specs.Sheet.{figuresText, messageFigures, sizeFigures, lengthFigures, checkFigures, tripleFigures};
 ghost use Rattle.figures.specs.Line.{lineRoom, Lines};
 ghost use Rattle.figures.specs.Range.{InRange};
 
@@ -20,7 +23,12 @@ const PRIME_SQUARED: [u8; 19] = *b"4053239668659978241";
 
 const PRIME_CUBED: [u8; 28] = *b"8160249294558465929206824961";
 
-const TRAILER_BYTES: u32 = 72;
+// The sums and the values have a word for each matrix.
+const MATRICES: usize = 3;
+
+const WORD_BYTES: usize = 4;
+
+const TRAILER_BYTES: usize = 72;
 
 pub fn put_sizes(s: Sizes, out: &mut [u8], at: usize) -> usize
     requires { ⌜ at + lineRoom * 4 ≤ length (now out) ⌝ }
@@ -34,61 +42,60 @@ pub fn put_sizes(s: Sizes, out: &mut [u8], at: usize) -> usize
 }
 
 // w, m, h0, s
-fn put_row_messages(s: Sizes, out: &mut [u8], at: usize) -> usize
+fn put_row_messages(l: Lengths, out: &mut [u8], at: usize) -> usize
     requires { ⌜ at + lineRoom * 4 ≤ length (now out) ⌝ }
-    requires { ⌜ InRange (sizesMeaning s) ⌝ }
-    ensures { λ r. ⌜ Lines (now (out .entry)) at (figuresText (take 4 (lengthFigures (sizesMeaning s)))) 4 r (now (out .exit)) ⌝ }
+    ensures { λ r. ⌜ Lines (now (out .entry)) at (figuresText (take 4 (messageFigures (messageLengths l)))) 4 r (now (out .exit)) ⌝ }
 {
-    let place = put_figure(b"words of w", s.c - s.x + 1, b"rules-kept", out, at);
-    let place = put_figure(b"words of m", 2 * s.c, b"rules-kept", out, place);
-    let place = put_figure(b"words of h0", s.r - 1, b"rules-kept", out, place);
-    put_figure(b"words of s", 3, b"rules-kept", out, place)
+    let place = put_length(b"words of w", l.witness, b"rules-kept", out, at);
+    let place = put_length(b"words of m", l.mask, b"rules-kept", out, place);
+    let place = put_length(b"words of h0", l.rowQuotient, b"rules-kept", out, place);
+    put_length(b"words of s", MATRICES, b"rules-kept", out, place)
 }
 
 // g1, h1, o
-fn put_line_messages(s: Sizes, out: &mut [u8], at: usize) -> usize
+fn put_line_messages(l: Lengths, out: &mut [u8], at: usize) -> usize
     requires { ⌜ at + lineRoom * 3 ≤ length (now out) ⌝ }
-    requires { ⌜ InRange (sizesMeaning s) ⌝ }
-    ensures { λ r. ⌜ Lines (now (out .entry)) at (figuresText (take 3 (drop 4 (lengthFigures (sizesMeaning s)))))
+    ensures { λ r. ⌜ Lines (now (out .entry)) at (figuresText (take 3 (drop 4 (messageFigures (messageLengths l)))))
         3 r (now (out .exit)) ⌝ }
 {
-    let place = put_figure(b"words of g1", s.c - 1, b"rules-kept", out, at);
-    let place = put_figure(b"words of h1", s.c, b"rules-kept", out, place);
-    put_figure(b"words of o", 3, b"rules-kept", out, place)
+    let place = put_length(b"words of g1", l.lineRemainder, b"rules-kept", out, at);
+    let place = put_length(b"words of h1", l.lineQuotient, b"rules-kept", out, place);
+    put_length(b"words of o", MATRICES, b"rules-kept", out, place)
 }
 
 // ga, gb, gc, h2
-fn put_matrix_messages(s: Sizes, out: &mut [u8], at: usize) -> usize
+fn put_matrix_messages(l: Lengths, out: &mut [u8], at: usize) -> usize
     requires { ⌜ at + lineRoom * 4 ≤ length (now out) ⌝ }
-    requires { ⌜ InRange (sizesMeaning s) ⌝ }
-    ensures { λ r. ⌜ Lines (now (out .entry)) at (figuresText (take 4 (drop 7 (lengthFigures (sizesMeaning s)))))
-        4 r (now (out .exit)) ⌝ }
+    ensures { λ r. ⌜ Lines (now (out .entry)) at (figuresText (drop 7 (messageFigures (messageLengths l)))) 4 r (now (out .exit)) ⌝ }
 {
-    let k = s.k;
-    let place = put_figure(b"words of ga", k.a - 1, b"rules-kept", out, at);
-    let place = put_figure(b"words of gb", k.b - 1, b"rules-kept", out, place);
-    let place = put_figure(b"words of gc", k.c - 1, b"rules-kept", out, place);
-    put_figure(b"words of h2", largest(k) - 1, b"rules-kept", out, place)
+    let remainders = l.matrixRemainders;
+    let place = put_length(b"words of ga", remainders.a, b"rules-kept", out, at);
+    let place = put_length(b"words of gb", remainders.b, b"rules-kept", out, place);
+    let place = put_length(b"words of gc", remainders.c, b"rules-kept", out, place);
+    put_length(b"words of h2", l.joinedQuotient, b"rules-kept", out, place)
 }
 
-// By the table of messages the sections have 5|C| - |X| + |R| + |K_A| + |K_B| + |K_C| + |K| + 1 words.
-fn record_bytes(s: Sizes) -> u32
-    requires { ⌜ InRange (sizesMeaning s) ⌝ }
+// The bytes of the sections and of the trailer.
+fn record_bytes(s: Sizes) -> usize
     ensures { λ r. ⌜ r ≡ sectionBytes (sizesMeaning s) + trailerBytes ⌝ }
 {
-    let k = s.k;
-    4 * (5 * s.c - s.x + s.r + k.a + k.b + k.c + largest(k) + 1) + TRAILER_BYTES
+    let l = message_lengths(s);
+    let remainders = l.matrixRemainders;
+    let rows = l.witness + l.mask + l.rowQuotient + MATRICES;
+    let lines = l.lineRemainder + l.lineQuotient + MATRICES;
+    let matrices = remainders.a + remainders.b + remainders.c + l.joinedQuotient;
+    WORD_BYTES * (rows + lines + matrices) + TRAILER_BYTES
 }
 
 pub fn put_lengths(s: Sizes, out: &mut [u8], at: usize) -> usize
     requires { ⌜ at + lineRoom * 12 ≤ length (now out) ⌝ }
-    requires { ⌜ InRange (sizesMeaning s) ⌝ }
     ensures { λ r. ⌜ Lines (now (out .entry)) at (figuresText (lengthFigures (sizesMeaning s))) 12 r (now (out .exit)) ⌝ }
 {
-    let place = put_row_messages(s, out, at);
-    let place = put_line_messages(s, out, place);
-    let place = put_matrix_messages(s, out, place);
-    put_figure(
+    let l = message_lengths(s);
+    let place = put_row_messages(l, out, at);
+    let place = put_line_messages(l, out, place);
+    let place = put_matrix_messages(l, out, place);
+    put_length(
         b"bytes of the record",
         record_bytes(s),
         b"read-written",

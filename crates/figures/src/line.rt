@@ -36,13 +36,24 @@ pub fn put_digits(name: &[u8], digits: &[u8], source: &[u8], out: &mut [u8], at:
     put_source(source, out, place)
 }
 
-pub fn put_figure(name: &[u8], n: u32, source: &[u8], out: &mut [u8], at: usize) -> usize
-    requires { ⌜ length (now name) + length (now source) + 16 ≤ lineRoom ⌝ }
+// The line of a length.
+pub fn put_length(name: &[u8], n: usize, source: &[u8], out: &mut [u8], at: usize) -> usize
+    requires { ⌜ length (now name) + length (now source) + 26 ≤ lineRoom ⌝ }
     requires { ⌜ at + lineRoom ≤ length (now out) ⌝ }
     ensures { λ r. ⌜ Lines (now (out .entry)) at (lineText (now (name .entry)) (decimal n) (now (source .entry)))
         1 r (now (out .exit)) ⌝ }
 {
     let place = put_name(name, out, at);
-    let place = put_decimal(n as usize, out, place);
+    let place = put_decimal(n, out, place);
     put_source(source, out, place)
+}
+
+// The line of a word.
+pub fn put_figure(name: &[u8], n: u32, source: &[u8], out: &mut [u8], at: usize) -> usize
+    requires { ⌜ length (now name) + length (now source) + 26 ≤ lineRoom ⌝ }
+    requires { ⌜ at + lineRoom ≤ length (now out) ⌝ }
+    ensures { λ r. ⌜ Lines (now (out .entry)) at (lineText (now (name .entry)) (decimal n) (now (source .entry)))
+        1 r (now (out .exit)) ⌝ }
+{
+    put_length(name, n as usize, source, out, at)
 }

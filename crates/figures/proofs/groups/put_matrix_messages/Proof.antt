@@ -1,113 +1,74 @@
 -- `figures::groups::put_matrix_messages` meets its contract. Assumes nothing.
-use native.Mathlib.Omega.{arith}
-use lib.Dec.{lit≤}
-use Rattle.protocol.specs.Meanings.{sizes}
-use Rattle.protocol.specs.Messages.{lengths}
-use Rattle.figures.proofs.LineLaws.{lines-then, lines-end, room-after}
-use Rattle.figures.proofs.RangeLaws.{largest-range}
+use Rattle.figures.proofs.LineLaws.{lines-then, lines-end}
 use Rattle.figures.specs.Sheet.{figureText, figuresText}
 use Rattle.figures.specs.Line.{nameText, sourceText, lineText}
 use borrow.Author.Needs.{needs}
 use Rattle.figures.proofs.groups.put_matrix_messages.Statement.{statement}
 use Rattle.figures.proofs.groups.put_matrix_messages.Tie as tie
 
-slice-aggregate-put-figure : tie.Need-slice-aggregate-put-figure
-slice-aggregate-put-figure c = search needs
+slice-aggregate-put-length : tie.Need-slice-aggregate-put-length
+slice-aggregate-put-length c = search needs
 
-sub-put-figure : tie.Need-sub-put-figure
-sub-put-figure c = search needs
+slice-aggregate-put-length-2 : tie.Need-slice-aggregate-put-length-2
+slice-aggregate-put-length-2 c = search needs
 
-slice-aggregate-put-figure-2 : tie.Need-slice-aggregate-put-figure-2
-slice-aggregate-put-figure-2 c = search needs
+put-length-requires : tie.Need-put-length-requires
+put-length-requires c κs = search needs
 
-put-figure-requires : tie.Need-put-figure-requires
-put-figure-requires c κs = search needs
+slice-aggregate-put-length-3 : tie.Need-slice-aggregate-put-length-3
+slice-aggregate-put-length-3 c = search needs
 
-slice-aggregate-put-figure-3 : tie.Need-slice-aggregate-put-figure-3
-slice-aggregate-put-figure-3 c = search needs
+slice-aggregate-put-length-4 : tie.Need-slice-aggregate-put-length-4
+slice-aggregate-put-length-4 c = search needs
 
-sub-put-figure-2 : tie.Need-sub-put-figure-2
-sub-put-figure-2 c = search needs
+put-length-requires-2 : tie.Need-put-length-requires-2
+put-length-requires-2 c κs = search needs
 
-slice-aggregate-put-figure-4 : tie.Need-slice-aggregate-put-figure-4
-slice-aggregate-put-figure-4 c = search needs
+slice-aggregate-put-length-5 : tie.Need-slice-aggregate-put-length-5
+slice-aggregate-put-length-5 c = search needs
 
-put-figure-requires-2 : tie.Need-put-figure-requires-2
-put-figure-requires-2 c κs = search needs
+slice-aggregate-put-length-6 : tie.Need-slice-aggregate-put-length-6
+slice-aggregate-put-length-6 c = search needs
 
-slice-aggregate-put-figure-5 : tie.Need-slice-aggregate-put-figure-5
-slice-aggregate-put-figure-5 c = search needs
+put-length-requires-3 : tie.Need-put-length-requires-3
+put-length-requires-3 c κs = search needs
 
-sub-put-figure-3 : tie.Need-sub-put-figure-3
-sub-put-figure-3 c = search needs
+slice-aggregate-put-length-7 : tie.Need-slice-aggregate-put-length-7
+slice-aggregate-put-length-7 c = search needs
 
-slice-aggregate-put-figure-6 : tie.Need-slice-aggregate-put-figure-6
-slice-aggregate-put-figure-6 c = search needs
+slice-aggregate-put-length-8 : tie.Need-slice-aggregate-put-length-8
+slice-aggregate-put-length-8 c = search needs
 
-put-figure-requires-3 : tie.Need-put-figure-requires-3
-put-figure-requires-3 c κs = search needs
-
-slice-aggregate-put-figure-7 : tie.Need-slice-aggregate-put-figure-7
-slice-aggregate-put-figure-7 c = search needs
-
-largest-requires : tie.Need-largest-requires
-largest-requires c κs = search needs
-
-sub-put-figure-4 : tie.Need-sub-put-figure-4
-sub-put-figure-4 c =
-    let middle = c .before .before .before .before .before .before .before .before .before .before .before .before in
-    let start = middle .before .before .before .before .before .before .before .before .before .before .before .before .before in
-    omega (arith, c .largest .ensures, largest-range (sizes (start .args .s)) (start .pre .1))
-
-slice-aggregate-put-figure-8 : tie.Need-slice-aggregate-put-figure-8
-slice-aggregate-put-figure-8 c = search needs
-
-put-figure-requires-4 : tie.Need-put-figure-requires-4
-put-figure-requires-4 c κs =
-    let c3 = c .before .before .before .before .before .before in
-    let c2 = c3 .before .before .before .before .before .before .before in
-    let c1 = c2 .before .before .before .before .before .before .before in
-    let start = c1 .before .before .before .before .before .before .before in (
-      lit≤ tt,
-      room-after 1 (c3 .put-figure3 .ensures)
-          (room-after 2 (c2 .put-figure2 .ensures) (room-after 3 (c1 .put-figure .ensures) (start .pre .0))),
-    )
+put-length-requires-4 : tie.Need-put-length-requires-4
+put-length-requires-4 c κs = search needs
 
 same-length : tie.Need-same-length
 same-length c = search needs
 
 returns : tie.Need-returns
-unfolding figureText figuresText nameText sourceText lineText lengths
+unfolding figureText figuresText nameText sourceText lineText
 returns c =
-    let c5 = c .before .before in
-    let c4 = c5 .before .before .before in
-    let c3 = c4 .before .before .before .before in
-    let c2 = c3 .before .before .before .before .before .before .before in
-    let c1 = c2 .before .before .before .before .before .before .before in
-    let last = rw (c4 .largest .ensures) at (c5 .put-figure4 .ensures) in
-    lines-then (c1 .put-figure .ensures)
-    (lines-then (c2 .put-figure2 .ensures) (lines-then (c3 .put-figure3 .ensures) (lines-end last)))
+    let c4 = c .before .before in
+    let c3 = c4 .before .before .before .before .before .before in
+    let c2 = c3 .before .before .before .before .before .before in
+    let c1 = c2 .before .before .before .before .before .before in
+    lines-then (c1 .put-length .ensures) (lines-then (c2 .put-length2 .ensures) (lines-then (c3 .put-length3 .ensures) (lines-end (c4 .put-length4 .ensures))))
 
 pub put-matrix-messages-spec : {M : Type 1} → statement M
 put-matrix-messages-spec =
     tie.close
     (tie.spec
-    slice-aggregate-put-figure
-    sub-put-figure
-    slice-aggregate-put-figure-2
-    put-figure-requires
-    slice-aggregate-put-figure-3
-    sub-put-figure-2
-    slice-aggregate-put-figure-4
-    put-figure-requires-2
-    slice-aggregate-put-figure-5
-    sub-put-figure-3
-    slice-aggregate-put-figure-6
-    put-figure-requires-3
-    slice-aggregate-put-figure-7
-    largest-requires
-    sub-put-figure-4
-    slice-aggregate-put-figure-8
-    put-figure-requires-4
+    slice-aggregate-put-length
+    slice-aggregate-put-length-2
+    put-length-requires
+    slice-aggregate-put-length-3
+    slice-aggregate-put-length-4
+    put-length-requires-2
+    slice-aggregate-put-length-5
+    slice-aggregate-put-length-6
+    put-length-requires-3
+    slice-aggregate-put-length-7
+    slice-aggregate-put-length-8
+    put-length-requires-4
     same-length
     returns)

@@ -1,70 +1,87 @@
--- `figures::groups::record_bytes` meets its contract. Assumes nothing.
+-- `figures::groups::record_bytes` meets its contract: no sum is above that of all bytes, which are few. Assumes nothing.
+use mathlib.Core.Path.{_≡_, ap}
+use Prim.Native.Nat.{ℕ, _+_, _*_, _<_, _^_}
 use native.Mathlib.Omega.{arith}
-use Rattle.protocol.specs.Meanings.{sizes}
-use Rattle.figures.proofs.RangeLaws.{largest-range, record-words}
 use borrow.Author.Needs.{needs}
+use Rattle.protocol.specs.Circuit.{Sizes}
+use Rattle.protocol.specs.Meanings.{sizes, messageLengths}
+use Rattle.protocol.specs.Messages.{Messages}
+use Rattle.protocol.specs.Record.{sectionBytes}
+use Rattle.figures.proofs.RangeLaws.{rowWords, lineWords, matrixWords, words-add-up, few-bytes}
 use Rattle.figures.proofs.groups.record_bytes.Statement.{statement}
 use Rattle.figures.proofs.groups.record_bytes.Tie as tie
 
-mul-result : tie.Need-mul-result
-mul-result c = search needs
+-- the bytes of the sections, by the table and by the sizes
+module _ (b : tie.After-message-lengths) where
+  abbrev s : Sizes
+  s = sizes (b .before .args .s)
 
-sub-result : tie.Need-sub-result
-sub-result c = search needs
+  abbrev table : Messages ℕ ℕ
+  table = messageLengths (b .message-lengths .result)
+
+  added : 4 * (rowWords table + lineWords table + matrixWords table) ≡ sectionBytes s
+  added = words-add-up s table (b .message-lengths .ensures)
+
+  few : sectionBytes s < 2 ^ 40
+  few = few-bytes s (omega (arith, b .before .good))
+
+message-lengths-requires : tie.Need-message-lengths-requires
+message-lengths-requires c κs = search needs
+
+add-rows : tie.Need-add-rows
+add-rows c = let b = c .before .before in omega (arith, added b, few b)
+
+add-rows-2 : tie.Need-add-rows-2
+add-rows-2 c = let b = c .before .before .before in omega (arith, added b, few b)
+
+add-rows-3 : tie.Need-add-rows-3
+add-rows-3 c = let b = c .before .before .before in omega (arith, added b, few b)
+
+add-lines : tie.Need-add-lines
+add-lines c = let b = c .before .before .before .before in omega (arith, added b, few b)
+
+add-lines-2 : tie.Need-add-lines-2
+add-lines-2 c = let b = c .before .before .before .before in omega (arith, added b, few b)
+
+add-matrices : tie.Need-add-matrices
+add-matrices c = let b = c .before .before .before .before .before in omega (arith, added b, few b)
+
+add-matrices-2 : tie.Need-add-matrices-2
+add-matrices-2 c = let b = c .before .before .before .before .before .before in omega (arith, added b, few b)
+
+add-matrices-3 : tie.Need-add-matrices-3
+add-matrices-3 c = let b = c .before .before .before .before .before .before .before in omega (arith, added b, few b)
 
 add-result : tie.Need-add-result
-add-result c = search needs
+add-result c = let b = c .before .before .before .before .before .before .before in omega (arith, added b, few b)
 
 add-result-2 : tie.Need-add-result-2
-add-result-2 c = search needs
+add-result-2 c = let b = c .before .before .before .before .before .before .before in omega (arith, added b, few b)
+
+mul-result : tie.Need-mul-result
+mul-result c = let b = c .before .before .before .before .before .before .before in omega (arith, added b, few b)
 
 add-result-3 : tie.Need-add-result-3
-add-result-3 c = search needs
-
-add-result-4 : tie.Need-add-result-4
-add-result-4 c = search needs
-
-largest-requires : tie.Need-largest-requires
-largest-requires c κs = search needs
-
-add-result-5 : tie.Need-add-result-5
-add-result-5 c =
-    let start = c .before .before .before .before .before .before .before .before in
-    omega (arith, start .pre, c .largest .ensures, largest-range (sizes (start .args .s)) (start .pre))
-
-add-result-6 : tie.Need-add-result-6
-add-result-6 c =
-    let start = c .before .before .before .before .before .before .before .before in
-    omega (arith, start .pre, c .largest .ensures, largest-range (sizes (start .args .s)) (start .pre))
-
-mul-result-2 : tie.Need-mul-result-2
-mul-result-2 c =
-    let start = c .before .before .before .before .before .before .before .before in
-    omega (arith, start .pre, c .largest .ensures, largest-range (sizes (start .args .s)) (start .pre))
-
-add-result-7 : tie.Need-add-result-7
-add-result-7 c =
-    let start = c .before .before .before .before .before .before .before .before in
-    omega (arith, start .pre, c .largest .ensures, largest-range (sizes (start .args .s)) (start .pre))
+add-result-3 c = let b = c .before .before .before .before .before .before .before in omega (arith, added b, few b)
 
 returns : tie.Need-returns
-returns c =
-    let start = c .before .before .before .before .before .before .before .before in
-    simp (c .largest .ensures, record-words (sizes (start .args .s)) (start .pre))
+returns c = ap (λ n. n + 72) (added (c .before .before .before .before .before .before .before))
 
 pub record-bytes-spec : {M : Type 1} → statement M
 record-bytes-spec =
     tie.close
     (tie.spec
-    mul-result
-    sub-result
+    message-lengths-requires
+    add-rows
+    add-rows-2
+    add-rows-3
+    add-lines
+    add-lines-2
+    add-matrices
+    add-matrices-2
+    add-matrices-3
     add-result
     add-result-2
+    mul-result
     add-result-3
-    add-result-4
-    largest-requires
-    add-result-5
-    add-result-6
-    mul-result-2
-    add-result-7
     returns)
