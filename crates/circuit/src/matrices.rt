@@ -1,4 +1,4 @@
-// What is read off an entry list: |K_M|, |K|, and the sums M·z of the rows.
+// What is read off entry lists: |K_M|, |K|, a circuit's six sizes and its messages' lengths, and the sums M·z of the rows.
 ghost use mathlib.Core.Path.{_≡_};
 ghost use mathlib.Core.List.{map};
 ghost use Prim.Native.Nat.{_<_};
@@ -10,9 +10,14 @@ ghost use Rattle.field.specs.Element.{of, words};
 ghost use Rattle.domain.specs.Size.{sizeFor};
 ghost use Rattle.protocol.specs.Three.{MatrixName, at};
 ghost use Rattle.protocol.specs.Circuit.{Circuit, sizesOf, largest, rowSum};
-ghost use Rattle.protocol.specs.Calls.{entriesOf};
-ghost use Rattle.circuit.specs.Given.{entryLists, Within};
+ghost use Rattle.protocol.specs.Calls.{entriesOf, circuitOf};
+ghost use Rattle.protocol.specs.Messages.{lengths};
+ghost use Rattle.protocol.specs.Meanings.{sizes as sizesMeaning, messageLengths};
+ghost use Rattle.circuit.specs.Given.{given, entryLists, Within};
+use protocol::Sizes;
 use protocol::Triple;
+use protocol::lengths::Lengths;
+use protocol::lengths::message_lengths;
 use protocol::six_sizes::largest;
 
 // |K_M|: the smallest size not below the entry count, and the largest size where no size is.
@@ -24,6 +29,28 @@ pub fn size_of(entries: &[u32]) -> u32
         return domain::MAX_SIZE;
     }
     domain::size_for(count as u32)
+}
+
+// |R|, |C|, |X| and the three |K_M| of a circuit, and the lengths that the table of messages gives for them.
+pub fn sizes_of(r: u32, c: u32, x: u32, ea: &[u32], eb: &[u32], ec: &[u32]) -> Sizes
+    ensures { λ s. ⌜ sizesMeaning s ≡ sizesOf (circuitOf (given r c x (now (ea .entry)) (now (eb .entry)) (now (ec .entry)))) ⌝ }
+{
+    Sizes {
+        r,
+        c,
+        x,
+        k: Triple {
+            a: size_of(ea),
+            b: size_of(eb),
+            c: size_of(ec),
+        },
+    }
+}
+
+pub fn lengths_of(r: u32, c: u32, x: u32, ea: &[u32], eb: &[u32], ec: &[u32]) -> Lengths
+    ensures { λ l. ⌜ messageLengths l ≡ lengths (sizesOf (circuitOf (given r c x (now (ea .entry)) (now (eb .entry)) (now (ec .entry))))) ⌝ }
+{
+    message_lengths(sizes_of(r, c, x, ea, eb, ec))
 }
 
 // K: the largest |K_M|.

@@ -7,10 +7,7 @@ use Rattle.protocol.specs.declared.Fault.{Fault}
 use Rattle.protocol.specs.Meanings.{faultRefusal}
 use Rattle.protocol.specs.Three.{Three}
 use Rattle.protocol.specs.Refusals.{Refusal, Done, judged}
-use Rattle.varuna.specs.declared.answers.Word.the-variants as word
-use Rattle.varuna.specs.declared.answers.ThreeWords.the-variants as three-words
-use Rattle.varuna.specs.declared.answers.Filled.the-variants as filled
-use Rattle.varuna.specs.Answers.{wordAnswer, threeAnswer, filling, fills, fillsThree}
+use Rattle.varuna.specs.Answers.{filling, fills, fillsThree}
 use Rattle.varuna.specs.Inputs.{threeOf}
 
 -- a judgement that is matched: where the code is told that it is g, Fine or Refused, the first refusal is g's
@@ -20,23 +17,20 @@ matched told e = sym e ∙ ap faultRefusal told
 pub three-same : {T : Type 0} {a b c : T} (w : Three T) → a ≡ w .a → b ≡ w .b → c ≡ w .c → threeOf a b c ≡ w
 three-same {T} {a} {b} {c} w at-a at-b at-c = ap (λ (n : T). threeOf n b c) at-a ∙ ap₂ (λ (m n : T). threeOf (w .a) m n) at-b at-c
 
-module _ {o : Option Refusal} where
-  pub word-done : {v w : ℕ} → o ≡ none → v ≡ w → word.Value v ≡ wordAnswer (judged o w)
-  word-done {v} {w} fine same = sym (ap₂ (λ (o : Option Refusal) (w : ℕ). wordAnswer (judged o w)) fine (sym same))
+pub done : {T : Type 0} {o : Option Refusal} {v : T} (w : T) → o ≡ none → v ≡ w → Done v ≡ judged o w
+done {T} {o} {v} w fine same = sym (ap₂ (λ (o : Option Refusal) (w : T). judged o w) fine (sym same))
 
-  pub fill-done : {S : Type 0} {after result : S} (before : S) → o ≡ none → after ≡ result → filling filled.Done after ≡ fills (judged o result) before
+module _ {o : Option Refusal} where
+  pub fill-done : {S : Type 0} {after result : S} (before : S) → o ≡ none → after ≡ result → filling (Done tt) after ≡ fills (judged o result) before
   fill-done {S} {after} {result} before fine same = sym (ap₂ (λ (o : Option Refusal) (w : S). fills (judged o w) before) fine (sym same))
 
   module _ {a b c : ℕ} (w : Three ℕ) (fine : o ≡ none) (at-a : a ≡ w .a) (at-b : b ≡ w .b) (at-c : c ≡ w .c) where
-    pub three-done : three-words.Value (record { a = a; b = b; c = c }) ≡ threeAnswer (judged o w)
-    three-done = sym (ap₂ (λ (o : Option Refusal) (w : Three ℕ). threeAnswer (judged o w)) fine (sym (three-same w at-a at-b at-c)))
+    pub three-done : Done (threeOf a b c) ≡ judged o w
+    three-done = done w fine (three-same w at-a at-b at-c)
 
     pub fill-three-done : {S : Type 0} {after result : S} (before : S) → after ≡ result
-        → filling (three-words.Value (record { a = a; b = b; c = c })) after ≡ fillsThree (judged o (w, result)) before
+        → filling (Done (threeOf a b c)) after ≡ fillsThree (judged o (w, result)) before
     fill-three-done {S} {after} {result} before same =
         sym
         (ap (λ (o : Option Refusal). fillsThree (judged o (w, result)) before) fine
-        ∙ ap₂ (λ (w : Three ℕ) (l : S). filling (threeAnswer (Done w)) l) (sym (three-same w at-a at-b at-c)) (sym same))
-
-pub done : {T : Type 0} {o : Option Refusal} {v : T} (w : T) → o ≡ none → v ≡ w → Done v ≡ judged o w
-done {T} {o} {v} w fine same = sym (ap₂ (λ (o : Option Refusal) (w : T). judged o w) fine (sym same))
+        ∙ ap₂ (λ (w : Three ℕ) (l : S). filling (Done w) l) (sym (three-same w at-a at-b at-c)) (sym same))

@@ -9,19 +9,18 @@ use Rattle.protocol.specs.declared.Fault.the-variants as fault
 use Rattle.protocol.specs.Meanings.{faultRefusal}
 use Rattle.protocol.specs.Refusals.{Refusal, Outcome, Done, Refused}
 use Rattle.record.specs.Answers.{LentAnswer}
-use Rattle.varuna.specs.declared.answers.Filled.the-variants as filled
 use Rattle.varuna.specs.Answers.{filling, fills}
 
 pub lent-done : (o : Outcome (List ℕ)) {f : Fault} {before after : List ℕ} → fault.Fine ≡ f → LentAnswer o (faultRefusal f) before after
-    → filling filled.Done after ≡ fills o before
-lent-done (Done w) {f} {before} {after} told h = ap (filling filled.Done) (h .lent)
+    → filling (Done tt) after ≡ fills o before
+lent-done (Done w) {f} {before} {after} told h = ap (filling (Done tt)) (h .lent)
 lent-done (Refused r) {f} {before} {after} told h =
     let never : none ≡ some r = ap faultRefusal told ∙ h .answer in
     let z : _≡_ {A = ℕ} 0 1 = cc in
     absurd (omega arith)
 
 pub lent-refused : (o : Outcome (List ℕ)) {f : Fault} {number position : ℕ} {before after : List ℕ} → fault.Refused number position ≡ f
-    → LentAnswer o (faultRefusal f) before after → filling (filled.Refused number position) after ≡ fills o before
+    → LentAnswer o (faultRefusal f) before after → filling (Refused (record { number = number; position = position })) after ≡ fills o before
 lent-refused (Done w) {f} {number} {position} {before} {after} told h =
     let given : Refusal = record { number = number; position = position } in
     let never : some given ≡ none = ap faultRefusal told ∙ h .answer in
@@ -31,5 +30,4 @@ lent-refused (Refused r) {f} {number} {position} {before} {after} told h =
     let given : Refusal = record { number = number; position = position } in
     let same : some given ≡ some r = ap faultRefusal told ∙ h .answer in
     let inner : given ≡ r = cc in
-    ap (λ (r : Refusal). filling (filled.Refused (r .number) (r .position)) after) inner
-    ∙ ap (filling (filled.Refused (r .number) (r .position))) (h .lent)
+    ap (λ (r : Refusal). filling (Refused r) after) inner ∙ ap (filling (Refused r)) (h .lent)

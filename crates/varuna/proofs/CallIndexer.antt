@@ -11,12 +11,11 @@ use Rattle.protocol.specs.Meanings.{faultRefusal}
 use Rattle.protocol.specs.Three.{MatrixName, A, B, C, Three, each, mapThree}
 use Rattle.protocol.specs.Circuit.{sizesOf}
 use Rattle.protocol.specs.Index.{Index, mapIndex, index}
+use Rattle.protocol.specs.Refusals.{Done, Refused}
 use Rattle.protocol.specs.Calls.{CircuitWords, circuitOf, indexCall}
 use Rattle.circuit.specs.IndexLists.{twelveLengths}
 use Rattle.circuit.specs.Judgement.{indexDue, indexRefusal}
 use Rattle.circuit.proofs.Fitting.{IndexFits, index-fits}
-use Rattle.varuna.specs.declared.answers.Filled.{Filled}
-use Rattle.varuna.specs.declared.answers.Filled.the-variants as filled
 use Rattle.varuna.specs.Answers.{Filling, filling, fills}
 use Rattle.varuna.specs.Inputs.{threeOf}
 use Rattle.varuna.proofs.AnswerLaws.{matched, fill-done, three-same}
@@ -26,7 +25,7 @@ module _ (k : CircuitWords) (before : Three (Index (List ℕ))) where
   abbrev polynomials : MatrixName → Index (List ℕ)
   polynomials M = mapIndex words (index {q = babyBear} (circuitOf k) M)
 
-  abbrev answers : Filling Filled (Three (Index (List ℕ))) → Type 0
+  abbrev answers : Filling (Unit {0}) (Three (Index (List ℕ))) → Type 0
   answers l = l ≡ fills (indexCall babyBear k (mapThree (mapIndex length) before)) before
 
   abbrev pub CallFits : Type 0
@@ -38,10 +37,10 @@ module _ (k : CircuitWords) (before : Three (Index (List ℕ))) where
     call-fits told = index-fits (k .|R|) (k .|C|) (k .|X|) (k .matrices .a) (k .matrices .b) (k .matrices .c) babyBear before (matched told judgement)
 
     pub index-done : {a b c : Index (List ℕ)} → f ≡ fault.Fine → a ≡ polynomials A → b ≡ polynomials B → c ≡ polynomials C
-        → answers (filling filled.Done (threeOf a b c))
+        → answers (filling (Done tt) (threeOf a b c))
     unfolding indexCall indexRefusal indexDue circuitOf sizesOf
     index-done told at-a at-b at-c = fill-done before (matched told judgement) (three-same (each polynomials) at-a at-b at-c)
 
-    pub index-refused : {number position : ℕ} → f ≡ fault.Refused number position → answers (filling (filled.Refused number position) before)
+    pub index-refused : {number position : ℕ} → f ≡ fault.Refused number position → answers (filling (Refused (record { number = number; position = position })) before)
     unfolding indexCall indexRefusal indexDue circuitOf sizesOf
     index-refused told = rw (matched told judgement)

@@ -6,6 +6,7 @@ use Rattle.protocol.specs.declared.Opened.{Opened}
 use Rattle.protocol.specs.Three.{Three}
 use Rattle.protocol.specs.Checks.{listOpenings}
 use Rattle.protocol.specs.Refusals.{Outcome, Done, Refused}
+use Rattle.protocol.specs.Meanings.{three}
 use Rattle.protocol.specs.Meanings as meanings
 use Rattle.openings.specs.OpeningsGiven.{messageList, indexList}
 use Rattle.varuna.specs.declared.answers.Word.{Word}
@@ -18,34 +19,37 @@ use Rattle.varuna.specs.declared.answers.IndexesOpened.{IndexesOpened}
 use Rattle.varuna.specs.declared.answers.Openings as declared-openings
 use Rattle.varuna.specs.declared.answers.Openings.the-variants as openings
 
--- the answer of a call that gives one word
-abbrev pub wordAnswer : Outcome ℕ → Word
-wordAnswer (Done w) = word.Value w
-wordAnswer (Refused r) = word.Refused (r .number) (r .position)
+-- what each case of an answer means, in document 01's numbers and values
+abbrev pub wordMeaning : Word → Outcome ℕ
+wordMeaning (word.Value w) = Done w
+wordMeaning (word.Refused number position) = Refused (record { number = number; position = position })
 
--- one word for each matrix
-abbrev pub threeAnswer : Outcome (Three ℕ) → ThreeWords
-threeAnswer (Done t) = three-words.Value (record { a = t .a; b = t .b; c = t .c })
-threeAnswer (Refused r) = three-words.Refused (r .number) (r .position)
+abbrev pub threeMeaning : ThreeWords → Outcome (Three ℕ)
+threeMeaning (three-words.Value t) = Done (three t)
+threeMeaning (three-words.Refused number position) = Refused (record { number = number; position = position })
 
--- the answer of a call with lent slices, and the slices when it returns
-pub record Filling (A S : Type 0) : Type 0 where
-  pub answer : A
+abbrev pub filledMeaning : Filled → Outcome (Unit {0})
+filledMeaning filled.Done = Done tt
+filledMeaning (filled.Refused number position) = Refused (record { number = number; position = position })
+
+-- the meaning of the answer of a call with lent slices, and the slices when it returns
+pub record Filling (T S : Type 0) : Type 0 where
+  pub answer : Outcome T
   pub slice : S
 
 module _ {S : Type 0} where
-  abbrev pub filling : {A : Type 0} → A → S → Filling A S
+  abbrev pub filling : {T : Type 0} → Outcome T → S → Filling T S
   filling answer slice = record { answer = answer; slice = slice }
 
   -- the slices hold the result, or what they held before
-  abbrev pub fills : Outcome S → S → Filling Filled S
-  fills (Done result) before = filling filled.Done result
-  fills (Refused r) before = filling (filled.Refused (r .number) (r .position)) before
+  abbrev pub fills : Outcome S → S → Filling (Unit {0}) S
+  fills (Done result) before = filling (Done tt) result
+  fills (Refused r) before = filling (Refused r) before
 
   -- with one word for each matrix
-  abbrev pub fillsThree : Outcome (Three ℕ × S) → S → Filling ThreeWords S
-  fillsThree (Done result) before = filling (threeAnswer (Done (result .0))) (result .1)
-  fillsThree (Refused r) before = filling (three-words.Refused (r .number) (r .position)) before
+  abbrev pub fillsThree : Outcome (Three ℕ × S) → S → Filling (Three ℕ) S
+  fillsThree (Done result) before = filling (Done (result .0)) (result .1)
+  fillsThree (Refused r) before = filling (Refused r) before
 
 -- the openings of the index polynomials in order, and as the session's last step takes them
 abbrev pub indexesList : IndexesOpened → List ℕ

@@ -5,7 +5,7 @@ ghost use Rattle.domain.specs.BabyBear.{babyBear};
 ghost use Rattle.protocol.specs.Refusals.{wordRefusal};
 ghost use Rattle.protocol.specs.Calls.{addCall, subtractCall, multiplyCall, powerCall, inverseCall};
 ghost use Rattle.protocol.specs.Meanings.{faultRefusal};
-ghost use Rattle.varuna.specs.Answers.{wordAnswer};
+ghost use Rattle.varuna.specs.Answers.{wordMeaning};
 use crate::answers::Word;
 use field::MODULE_PRIME;
 use protocol::Fault;
@@ -35,7 +35,7 @@ fn check_pair(a: u32, b: u32) -> Fault
 
 // a + b
 pub fn add(a: u32, b: u32) -> Word
-    ensures { λ r. ⌜ r ≡ wordAnswer (addCall babyBear a b) ⌝ }
+    ensures { λ r. ⌜ wordMeaning r ≡ addCall babyBear a b ⌝ }
 {
     let fault = check_pair(a, b);
     match fault {
@@ -46,7 +46,7 @@ pub fn add(a: u32, b: u32) -> Word
 
 // a - b
 pub fn subtract(a: u32, b: u32) -> Word
-    ensures { λ r. ⌜ r ≡ wordAnswer (subtractCall babyBear a b) ⌝ }
+    ensures { λ r. ⌜ wordMeaning r ≡ subtractCall babyBear a b ⌝ }
 {
     let fault = check_pair(a, b);
     match fault {
@@ -57,7 +57,7 @@ pub fn subtract(a: u32, b: u32) -> Word
 
 // a · b
 pub fn multiply(a: u32, b: u32) -> Word
-    ensures { λ r. ⌜ r ≡ wordAnswer (multiplyCall babyBear a b) ⌝ }
+    ensures { λ r. ⌜ wordMeaning r ≡ multiplyCall babyBear a b ⌝ }
 {
     let fault = check_pair(a, b);
     match fault {
@@ -68,7 +68,7 @@ pub fn multiply(a: u32, b: u32) -> Word
 
 // a^n, for any n
 pub fn power(a: u32, n: u32) -> Word
-    ensures { λ r. ⌜ r ≡ wordAnswer (powerCall babyBear a n) ⌝ }
+    ensures { λ r. ⌜ wordMeaning r ≡ powerCall babyBear a n ⌝ }
 {
     let fault = check_word(a);
     match fault {
@@ -79,7 +79,7 @@ pub fn power(a: u32, n: u32) -> Word
 
 // 1/a, and 0 for 0
 pub fn inverse(a: u32) -> Word
-    ensures { λ r. ⌜ r ≡ wordAnswer (inverseCall babyBear a) ⌝ }
+    ensures { λ r. ⌜ wordMeaning r ≡ inverseCall babyBear a ⌝ }
 {
     let fault = check_word(a);
     match fault {

@@ -8,7 +8,7 @@ ghost use Rattle.protocol.specs.Three.{Three, mapThree};
 ghost use Rattle.protocol.specs.Index.{Index, mapIndex};
 ghost use Rattle.protocol.specs.Calls.{indexCall};
 ghost use Rattle.circuit.specs.Given.{given};
-ghost use Rattle.varuna.specs.Answers.{filling, fills};
+ghost use Rattle.varuna.specs.Answers.{filledMeaning, filling, fills};
 ghost use Rattle.varuna.specs.Inputs.{twelve};
 use crate::answers::Filled;
 use circuit::judging::judge_index;
@@ -42,7 +42,7 @@ pub fn index(
         twelve (now (rowA .entry)) (now (colA .entry)) (now (rowcolA .entry)) (now (rowcolvalA .entry))
         (now (rowB .entry)) (now (colB .entry)) (now (rowcolB .entry)) (now (rowcolvalB .entry))
         (now (rowC .entry)) (now (colC .entry)) (now (rowcolC .entry)) (now (rowcolvalC .entry)) in
-        filling f
+        filling (filledMeaning f)
         (twelve (now (rowA .exit)) (now (colA .exit)) (now (rowcolA .exit)) (now (rowcolvalA .exit))
         (now (rowB .exit)) (now (colB .exit)) (now (rowcolB .exit)) (now (rowcolvalB .exit))
         (now (rowC .exit)) (now (colC .exit)) (now (rowcolC .exit)) (now (rowcolvalC .exit)))

@@ -8,7 +8,7 @@ ghost use Rattle.domain.specs.Size.{isSize};
 ghost use Rattle.protocol.specs.Refusals.{first, sizeRefusal, listRefusal, wordRefusal};
 ghost use Rattle.protocol.specs.Calls.{maxWords, domainCall, evaluateCall, interpolateCall};
 ghost use Rattle.protocol.specs.Meanings.{faultRefusal};
-ghost use Rattle.varuna.specs.Answers.{wordAnswer, filling, fills};
+ghost use Rattle.varuna.specs.Answers.{wordMeaning, filledMeaning, filling, fills};
 use crate::answers::Filled;
 use crate::answers::Word;
 use field::MODULE_PRIME;
@@ -21,7 +21,7 @@ const MAX_WORDS: usize = 2048;
 
 // The n elements of a domain in order into a slice of n words. Refusals: 4 for n, 5 for the slice.
 pub fn list_domain(n: u32, out: &mut [u32]) -> Filled
-    ensures { λ r. ⌜ filling r (now (out .exit)) ≡ fills (domainCall babyBear n (length (now (out .entry)))) (now (out .entry)) ⌝ }
+    ensures { λ r. ⌜ filling (filledMeaning r) (now (out .exit)) ≡ fills (domainCall babyBear n (length (now (out .entry)))) (now (out .entry)) ⌝ }
 {
     if !domain::is_size(n) {
         return Filled::Refused(4, 0);
@@ -54,7 +54,7 @@ fn judge_evaluation(f: &[u32], y: u32) -> Fault
 
 // The value at y of the polynomial with coefficients f, the constant first. Refusals: 5 over 2,048 words, 6 for a word.
 pub fn evaluate(f: &[u32], y: u32) -> Word
-    ensures { λ r. ⌜ r ≡ wordAnswer (evaluateCall babyBear (now (f .entry)) y) ⌝ }
+    ensures { λ r. ⌜ wordMeaning r ≡ evaluateCall babyBear (now (f .entry)) y ⌝ }
 {
     let fault = judge_evaluation(f, y);
     match fault {
@@ -84,7 +84,7 @@ fn judge_interpolation(n: u32, values: &[u32], lent: usize) -> Fault
 // The n coefficients of the polynomial with the given values on the domain of size n into a slice. Refusals: 4 for n, 5 for the
 // values and the slice, 6 for a value.
 pub fn interpolate(n: u32, values: &[u32], out: &mut [u32]) -> Filled
-    ensures { λ r. ⌜ filling r (now (out .exit))
+    ensures { λ r. ⌜ filling (filledMeaning r) (now (out .exit))
         ≡ fills (interpolateCall babyBear n (now (values .entry)) (length (now (out .entry)))) (now (out .entry)) ⌝ }
 {
     let fault = judge_interpolation(n, values, out.len());

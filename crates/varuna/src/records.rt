@@ -2,16 +2,17 @@
 ghost use mathlib.Core.Path.{_≡_};
 ghost use lib.ListN.{length};
 ghost use Rattle.domain.specs.BabyBear.{babyBear};
-ghost use Rattle.protocol.specs.Calls.{writeCall, sectionCall};
+ghost use Rattle.protocol.specs.Calls.{writeCall, sectionCall, placeCall};
 ghost use Rattle.protocol.specs.Meanings.{sizes as sizesMeaning};
 ghost use Rattle.protocol.specs.Record.{readRecord};
-ghost use Rattle.record.specs.Answers.{readingMeaning, sizesFound};
+ghost use Rattle.record.specs.Answers.{readingMeaning, sizesFound, placeMeaning};
 ghost use Rattle.record.specs.Layout.{eachSection};
-ghost use Rattle.varuna.specs.Answers.{filling, fills};
+ghost use Rattle.varuna.specs.Answers.{filledMeaning, filling, fills};
 use crate::answers::Filled;
 use field::MODULE_PRIME;
 use protocol::Fault;
 use protocol::Sizes;
+use record::Place;
 use record::Reading;
 
 // A record of eleven sections into lent bytes. Refusals: 4 for a size, 5 for a section or the lent bytes, 6 for a word.
@@ -30,7 +31,7 @@ pub fn write_record(
     h2: &[u32],
     out: &mut [u8],
 ) -> Filled
-    ensures { λ r. ⌜ filling r (now (out .exit))
+    ensures { λ r. ⌜ filling (filledMeaning r) (now (out .exit))
         ≡ fills (writeCall babyBear (sizesMeaning sizes)
         (eachSection (now (w .entry)) (now (m .entry)) (now (h0 .entry)) (now (s .entry)) (now (g1 .entry))
         (now (h1 .entry)) (now (o .entry)) (now (ga .entry)) (now (gb .entry)) (now (gc .entry)) (now (h2 .entry)))
@@ -63,6 +64,14 @@ pub fn read_record(bytes: &[u8]) -> Reading
     ensures { λ r. ⌜ readingMeaning r ≡ sizesFound (readRecord (now (bytes .entry)) babyBear) ⌝ }
 {
     record::read(MODULE_PRIME, bytes)
+}
+
+// Where section k of a record stands: its start and its length in bytes. Refusals: 2 for the record's end, 3 for its trailer, 5 for a
+// section number above 10, 6 for a word.
+pub fn find_section(bytes: &[u8], k: usize) -> Place
+    ensures { λ r. ⌜ placeMeaning r ≡ placeCall babyBear (now (bytes .entry)) k ⌝ }
+{
+    record::find_section(MODULE_PRIME, bytes, k)
 }
 
 // Section k of a record as that part of the caller's bytes: empty where the record is refused or has no such section.

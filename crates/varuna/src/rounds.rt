@@ -6,7 +6,7 @@ ghost use lib.ListN.{length};
 ghost use Rattle.domain.specs.BabyBear.{babyBear};
 ghost use Rattle.protocol.specs.Meanings.{three};
 ghost use Rattle.protocol.specs.Calls.{firstRoundCall, secondRoundCall, thirdRoundCall, fourthRoundCall, fifthRoundCall, openingsCall};
-ghost use Rattle.varuna.specs.Answers.{threeAnswer, filling, fills, fillsThree, openingsMeaning};
+ghost use Rattle.varuna.specs.Answers.{threeMeaning, filledMeaning, filling, fills, fillsThree, openingsMeaning};
 ghost use Rattle.circuit.specs.Given.{proverInput};
 ghost use Rattle.varuna.specs.Inputs.{threeOf};
 use crate::answers::Filled;
@@ -38,16 +38,17 @@ pub fn first_round(
     witness: &mut [u32],
     rowQuotient: &mut [u32],
 ) -> Filled
-    ensures { λ f. ⌜ filling f (now (witness .exit), now (rowQuotient .exit))
+    ensures { λ f. ⌜ filling (filledMeaning f) (now (witness .exit), now (rowQuotient .exit))
         ≡ fills (firstRoundCall babyBear
         (proverInput r c x (now (ea .entry)) (now (eb .entry)) (now (ec .entry)) (now (z .entry)) mask (now (m .entry)))
         (length (now (witness .entry))) (length (now (rowQuotient .entry)))) (now (witness .entry), now (rowQuotient .entry)) ⌝ }
 {
     let p = MODULE_PRIME;
     let lent = [witness.len(), rowQuotient.len()];
-    let due = [judging::less(c, x) + 1, judging::less(r, 1)];
+    let due = matrices::lengths_of(r, c, x, ea, eb, ec);
+    let lengths = [due.witness, due.rowQuotient];
     let none = &z[..0];
-    let fault = judging::judge_round(p, r, c, x, ea, eb, ec, z, mask, m, &lent, &due, none, none);
+    let fault = judging::judge_round(p, r, c, x, ea, eb, ec, z, mask, m, &lent, &lengths, none, none);
     match fault {
         Fault::Fine => {
             prover::witness::witness_into(p, c, x, z, mask, witness);
@@ -71,9 +72,9 @@ pub fn second_round(
     m: &[u32],
     alpha: u32,
 ) -> ThreeWords
-    ensures { λ f. ⌜ f
-        ≡ threeAnswer (secondRoundCall babyBear
-        (proverInput r c x (now (ea .entry)) (now (eb .entry)) (now (ec .entry)) (now (z .entry)) mask (now (m .entry))) alpha) ⌝ }
+    ensures { λ f. ⌜ threeMeaning f
+        ≡ secondRoundCall babyBear
+        (proverInput r c x (now (ea .entry)) (now (eb .entry)) (now (ec .entry)) (now (z .entry)) mask (now (m .entry))) alpha ⌝ }
 {
     let p = MODULE_PRIME;
     let lengths = [0usize; 1];
@@ -106,7 +107,7 @@ pub fn third_round(
     remainder: &mut [u32],
     quotient: &mut [u32],
 ) -> Filled
-    ensures { λ f. ⌜ filling f (now (remainder .exit), now (quotient .exit))
+    ensures { λ f. ⌜ filling (filledMeaning f) (now (remainder .exit), now (quotient .exit))
         ≡ fills (thirdRoundCall babyBear
         (proverInput r c x (now (ea .entry)) (now (eb .entry)) (now (ec .entry)) (now (z .entry)) mask (now (m .entry)))
         alpha (three eta) (length (now (remainder .entry))) (length (now (quotient .entry))))
@@ -114,10 +115,11 @@ pub fn third_round(
 {
     let p = MODULE_PRIME;
     let lent = [remainder.len(), quotient.len()];
-    let due = [judging::less(c, 1), c as usize];
+    let due = matrices::lengths_of(r, c, x, ea, eb, ec);
+    let lengths = [due.lineRemainder, due.lineQuotient];
     let words = [alpha, eta.a, eta.b, eta.c];
     let at = [alpha];
-    let fault = judging::judge_round(p, r, c, x, ea, eb, ec, z, mask, m, &lent, &due, &words, &at);
+    let fault = judging::judge_round(p, r, c, x, ea, eb, ec, z, mask, m, &lent, &lengths, &words, &at);
     match fault {
         Fault::Fine => {
             let n = 2 * (c as usize);
@@ -150,7 +152,7 @@ pub fn fourth_round(
     gb: &mut [u32],
     gc: &mut [u32],
 ) -> ThreeWords
-    ensures { λ f. ⌜ filling f (threeOf (now (ga .exit)) (now (gb .exit)) (now (gc .exit)))
+    ensures { λ f. ⌜ filling (threeMeaning f) (threeOf (now (ga .exit)) (now (gb .exit)) (now (gc .exit)))
         ≡ fillsThree (fourthRoundCall babyBear
         (proverInput r c x (now (ea .entry)) (now (eb .entry)) (now (ec .entry)) (now (z .entry)) mask (now (m .entry)))
         alpha (three eta) beta (threeOf (length (now (ga .entry))) (length (now (gb .entry))) (length (now (gc .entry)))))
@@ -158,14 +160,11 @@ pub fn fourth_round(
 {
     let p = MODULE_PRIME;
     let lent = [ga.len(), gb.len(), gc.len()];
-    let due = [
-        judging::less(matrices::size_of(ea), 1),
-        judging::less(matrices::size_of(eb), 1),
-        judging::less(matrices::size_of(ec), 1),
-    ];
+    let due = matrices::lengths_of(r, c, x, ea, eb, ec).matrixRemainders;
+    let lengths = [due.a, due.b, due.c];
     let words = [alpha, eta.a, eta.b, eta.c, beta];
     let at = [alpha, beta];
-    let fault = judging::judge_round(p, r, c, x, ea, eb, ec, z, mask, m, &lent, &due, &words, &at);
+    let fault = judging::judge_round(p, r, c, x, ea, eb, ec, z, mask, m, &lent, &lengths, &words, &at);
     match fault {
         Fault::Fine => {
             matrix_remainder_into(p, r, c, ea, alpha, beta, ga);
@@ -198,17 +197,17 @@ pub fn fifth_round(
     delta: Triple,
     out: &mut [u32],
 ) -> Filled
-    ensures { λ f. ⌜ filling f (now (out .exit))
+    ensures { λ f. ⌜ filling (filledMeaning f) (now (out .exit))
         ≡ fills (fifthRoundCall babyBear
         (proverInput r c x (now (ea .entry)) (now (eb .entry)) (now (ec .entry)) (now (z .entry)) mask (now (m .entry)))
         alpha (three eta) beta (three delta) (length (now (out .entry)))) (now (out .entry)) ⌝ }
 {
     let p = MODULE_PRIME;
     let lent = [out.len()];
-    let due = [judging::less(matrices::largest_size(ea, eb, ec), 1)];
+    let lengths = [matrices::lengths_of(r, c, x, ea, eb, ec).joinedQuotient];
     let words = [alpha, eta.a, eta.b, eta.c, beta, delta.a, delta.b, delta.c];
     let at = [alpha, beta];
-    let fault = judging::judge_round(p, r, c, x, ea, eb, ec, z, mask, m, &lent, &due, &words, &at);
+    let fault = judging::judge_round(p, r, c, x, ea, eb, ec, z, mask, m, &lent, &lengths, &words, &at);
     match fault {
         Fault::Fine => {
             joined_quotient_into(p, r, c, ea, eb, ec, alpha, beta, delta, out);

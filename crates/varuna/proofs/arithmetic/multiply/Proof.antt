@@ -3,7 +3,7 @@ use borrow.Author.Needs.{needs}
 use mathlib.Core.Path.{refl}
 use Rattle.domain.specs.BabyBear.{babyBear}
 use Rattle.protocol.specs.Calls.{operationCall}
-use Rattle.varuna.proofs.AnswerLaws.{matched, word-done}
+use Rattle.varuna.proofs.AnswerLaws.{matched, done}
 use Rattle.varuna.proofs.arithmetic.multiply.Statement.{statement}
 use Rattle.varuna.proofs.arithmetic.multiply.Tie as tie
 
@@ -21,7 +21,7 @@ enum-known-fault c = search needs
 
 returns : tie.Need-returns
 unfolding operationCall
-returns c = word-done (matched (c .before .enum-told .given .1) (c .before .before .before .check-pair .ensures)) (c .multiply .ensures babyBear refl)
+returns c = done _ (matched (c .before .enum-told .given .1) (c .before .before .before .check-pair .ensures)) (c .multiply .ensures babyBear refl)
 
 returns-2 : tie.Need-returns-2
 unfolding operationCall

@@ -2,7 +2,7 @@
 use mathlib.Core.Path.{refl}
 use Rattle.domain.specs.BabyBear.{babyBear}
 use Rattle.protocol.specs.Calls.{evaluateCall}
-use Rattle.varuna.proofs.AnswerLaws.{matched, word-done}
+use Rattle.varuna.proofs.AnswerLaws.{matched, done}
 use borrow.Author.Needs.{needs}
 use Rattle.varuna.proofs.polynomials.evaluate.Statement.{statement}
 use Rattle.varuna.proofs.polynomials.evaluate.Tie as tie
@@ -21,7 +21,7 @@ enum-known-fault c = search needs
 
 returns : tie.Need-returns
 unfolding evaluateCall
-returns c = word-done (matched (c .before .enum-told .given .1) (c .before .before .before .judge-evaluation .ensures)) (c .evaluate .ensures babyBear refl)
+returns c = done _ (matched (c .before .enum-told .given .1) (c .before .before .before .judge-evaluation .ensures)) (c .evaluate .ensures babyBear refl)
 
 returns-2 : tie.Need-returns-2
 unfolding evaluateCall
