@@ -82,21 +82,21 @@ fn judge_contents(
         → k .matrices ≡ entryLists (now (ea .entry)) (now (eb .entry)) (now (ec .entry))
         → faultRefusal f ≡ contentsRefusal q k (now (z .entry)) mask (now (m .entry)) (now (challenges .entry)) (now (points .entry))) ⌝ }
 {
-    let words = checks::check_call_words(p, ea, eb, ec, z, mask, m, challenges);
-    if !is_fine(words) {
-        return words;
+    let in_words = checks::check_call_words(p, ea, eb, ec, z, mask, m, challenges);
+    if !is_fine(in_words) {
+        return in_words;
     }
-    let entries = checks::check_three_entries(r, c, ea, eb, ec);
-    if !is_fine(entries) {
-        return entries;
+    let in_entries = checks::check_three_entries(r, c, ea, eb, ec);
+    if !is_fine(in_entries) {
+        return in_entries;
     }
-    let sum = checks::check_mask(p, c, m);
-    if !is_fine(sum) {
-        return sum;
+    let in_mask = checks::check_mask(p, c, m);
+    if !is_fine(in_mask) {
+        return in_mask;
     }
-    let rows = checks::check_assignment(p, r, ea, eb, ec, z);
-    if !is_fine(rows) {
-        return rows;
+    let in_rows = checks::check_assignment(p, r, ea, eb, ec, z);
+    if !is_fine(in_rows) {
+        return in_rows;
     }
     checks::check_points(p, r, c, matrices::largest_size(ea, eb, ec), points)
 }
