@@ -1,9 +1,15 @@
-// What public calls answer. A refusal carries its number and position; specs/Answers.antt gives the meaning of each case.
+// What public calls answer and what they are given, and the types of other crates among these. A refusal carries its number and
+// position; specs/Answers.antt gives the meaning of each case.
 ghost use mathlib.Core.Path.{_≡_};
 ghost use Rattle.varuna.specs.Answers.{indexArrays};
-use openings::IndexOpened;
-use protocol::Opened;
-use protocol::Triple;
+pub use openings::IndexOpened;
+pub use protocol::Check;
+pub use protocol::Opened;
+pub use protocol::Sizes;
+pub use protocol::Triple;
+pub use protocol::Verdict;
+pub use record::Place;
+pub use record::Reading;
 
 // One word.
 pub enum Word {

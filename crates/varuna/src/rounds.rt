@@ -48,7 +48,22 @@ pub fn first_round(
     let due = matrices::lengths_of(r, c, x, ea, eb, ec);
     let lengths = [due.witness, due.rowQuotient];
     let none = &z[..0];
-    let fault = judging::judge_round(p, r, c, x, ea, eb, ec, z, mask, m, &lent, &lengths, none, none);
+    let fault = judging::judge_round(
+        p,
+        r,
+        c,
+        x,
+        ea,
+        eb,
+        ec,
+        z,
+        mask,
+        m,
+        &lent,
+        &lengths,
+        none,
+        none,
+    );
     match fault {
         Fault::Fine => {
             prover::witness::witness_into(p, c, x, z, mask, witness);
@@ -119,7 +134,22 @@ pub fn third_round(
     let lengths = [due.lineRemainder, due.lineQuotient];
     let words = [alpha, eta.a, eta.b, eta.c];
     let at = [alpha];
-    let fault = judging::judge_round(p, r, c, x, ea, eb, ec, z, mask, m, &lent, &lengths, &words, &at);
+    let fault = judging::judge_round(
+        p,
+        r,
+        c,
+        x,
+        ea,
+        eb,
+        ec,
+        z,
+        mask,
+        m,
+        &lent,
+        &lengths,
+        &words,
+        &at,
+    );
     match fault {
         Fault::Fine => {
             let n = 2 * (c as usize);
@@ -164,7 +194,22 @@ pub fn fourth_round(
     let lengths = [due.a, due.b, due.c];
     let words = [alpha, eta.a, eta.b, eta.c, beta];
     let at = [alpha, beta];
-    let fault = judging::judge_round(p, r, c, x, ea, eb, ec, z, mask, m, &lent, &lengths, &words, &at);
+    let fault = judging::judge_round(
+        p,
+        r,
+        c,
+        x,
+        ea,
+        eb,
+        ec,
+        z,
+        mask,
+        m,
+        &lent,
+        &lengths,
+        &words,
+        &at,
+    );
     match fault {
         Fault::Fine => {
             matrix_remainder_into(p, r, c, ea, alpha, beta, ga);
@@ -207,7 +252,22 @@ pub fn fifth_round(
     let lengths = [matrices::lengths_of(r, c, x, ea, eb, ec).joinedQuotient];
     let words = [alpha, eta.a, eta.b, eta.c, beta, delta.a, delta.b, delta.c];
     let at = [alpha, beta];
-    let fault = judging::judge_round(p, r, c, x, ea, eb, ec, z, mask, m, &lent, &lengths, &words, &at);
+    let fault = judging::judge_round(
+        p,
+        r,
+        c,
+        x,
+        ea,
+        eb,
+        ec,
+        z,
+        mask,
+        m,
+        &lent,
+        &lengths,
+        &words,
+        &at,
+    );
     match fault {
         Fault::Fine => {
             joined_quotient_into(p, r, c, ea, eb, ec, alpha, beta, delta, out);

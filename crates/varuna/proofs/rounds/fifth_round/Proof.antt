@@ -8,7 +8,7 @@ use Rattle.domain.specs.Size.{sizeFor}
 use Rattle.domain.specs.BabyBear.{babyBear}
 use Rattle.domain.proofs.Qualification.{babyBear-qualifies}
 use Rattle.protocol.specs.Circuit.{Circuit, sizesOf, largest}
-use Rattle.protocol.specs.Messages.{lengths}
+use Rattle.protocol.specs.Messages.{Messages, lengths}
 use Rattle.protocol.specs.Meanings.{faultRefusal}
 use Rattle.protocol.specs.Calls.{ProverInput, circuitOf, entriesOf, roundRefusal, fifthRoundCall}
 use Rattle.circuit.specs.Given.{given, proverInput}
@@ -30,10 +30,14 @@ input s =
 abbrev lent : tie.Start → List ℕ
 lent s = length (s .args .out .now) ∷ []
 
+abbrev table : tie.Start → Messages ℕ ℕ
+table s = lengths (sizesOf (circuitOf (input s .circuit)))
+
+abbrev dueBy : Messages ℕ ℕ → List ℕ
+dueBy l = l .joinedQuotient ∷ []
+
 abbrev due : tie.Start → List ℕ
-due s =
-    let size : List ℕ → ℕ = λ l. sizeFor (length (entriesOf l)) in
-    (max (size (s .args .ea .now)) (max (size (s .args .eb .now)) (size (s .args .ec .now))) - 1) ∷ []
+due s = dueBy (table s)
 
 abbrev challenges : tie.Start → List ℕ
 challenges s =
@@ -43,23 +47,20 @@ challenges s =
 abbrev points : tie.Start → List ℕ
 points s = s .args .alpha ∷ s .args .beta ∷ []
 
--- the start, from the judgement
+-- the lengths due, from the judgement, and the start
+abbrev at-lengths : tie.After-judge-round → tie.After-lengths-of
+at-lengths c = c .before .before .before .before .before
+
 abbrev start : tie.After-judge-round → tie.Start
-start c = c .before .before .before .before .before .before .before .before .before .before .before .before .before
+start c = at-lengths c .before .before .before .before .before .before .before
 
 judgement : (c : tie.After-judge-round)
     → faultRefusal (c .judge-round .result)
     ≡ roundRefusal babyBear (input (start c)) (lent (start c)) (due (start c)) (challenges (start c)) (points (start c))
-unfolding circuitOf
 judgement c =
     let s = start c in
-    let k : Circuit = circuitOf (input s .circuit) in
-    let less = c .before .before .before .before .before in
     c .judge-round .ensures babyBear babyBear-qualifies refl
-    ∙ ap (λ (n : ℕ). roundRefusal babyBear (input s) (lent s) (n ∷ []) (challenges s) (points s))
-    (less .less .ensures
-    ∙ ap (λ (n : ℕ). n - 1)
-    (less .before .largest-size .ensures k refl ∙ largest-by-counts k (s .args .ea .now) (s .args .eb .now) (s .args .ec .now) refl))
+    ∙ ap (λ (l : Messages ℕ ℕ). roundRefusal babyBear (input s) (lent s) (dueBy l) (challenges s) (points s)) (at-lengths c .lengths-of .ensures)
 
 -- nothing was refused
 fits : (c : tie.After-enum-told)
@@ -69,11 +70,8 @@ fits c =
     let s = start j in
     input-fits (input s) (lent s) (due s) (challenges s) (points s) (j .judge-round .result) (judgement j) (c .enum-told .given .1)
 
-largest-size-requires : tie.Need-largest-size-requires
-largest-size-requires c κs = tt
-
-less-requires : tie.Need-less-requires
-less-requires c κs = tt
+lengths-of-requires : tie.Need-lengths-of-requires
+lengths-of-requires c κs = tt
 
 slice-aggregate-judge-round : tie.Need-slice-aggregate-judge-round
 slice-aggregate-judge-round c = refl
@@ -94,7 +92,7 @@ enum-told : tie.Need-enum-told
 enum-told c = search needs
 
 joined-quotient-into-requires : tie.Need-joined-quotient-into-requires
-unfolding largest
+unfolding lengths sizesOf circuitOf largest
 joined-quotient-into-requires c κs =
     let F = fits (c .before) in
     (lit< tt, (shaped (F .fits), one-below-largest _ _ _ _ (F .lent-fit .0)))
@@ -126,8 +124,7 @@ pub fifth-round-spec : {M : Type 1} → statement M
 fifth-round-spec =
     tie.close
     (tie.spec
-    largest-size-requires
-    less-requires
+    lengths-of-requires
     slice-aggregate-judge-round
     slice-aggregate-judge-round-2
     slice-aggregate-judge-round-3

@@ -1,5 +1,5 @@
 -- `varuna::rounds::first_round` meets its contract. Assumes nothing.
-use mathlib.Core.Path.{_≡_, refl, ap₂, _∙_}
+use mathlib.Core.Path.{_≡_, refl, ap, ap₂, _∙_}
 use mathlib.Core.List.{List, [], _∷_}
 use Prim.Native.Nat.{ℕ, _+_, _-_}
 use lib.Dec.{lit<}
@@ -8,7 +8,7 @@ use borrow.Author.Tests.{eqb-true}
 use Rattle.domain.specs.BabyBear.{babyBear}
 use Rattle.domain.proofs.Qualification.{babyBear-qualifies}
 use Rattle.protocol.specs.Circuit.{Circuit, sizesOf}
-use Rattle.protocol.specs.Messages.{lengths, witness, rowQuotient}
+use Rattle.protocol.specs.Messages.{Messages, lengths, witness, rowQuotient}
 use Rattle.protocol.specs.Meanings.{faultRefusal}
 use Rattle.protocol.specs.Calls.{ProverInput, circuitOf, roundRefusal, firstRoundCall}
 use Rattle.circuit.specs.Given.{given, proverInput}
@@ -30,8 +30,14 @@ input s =
 abbrev lent : tie.Start → List ℕ
 lent s = length (s .args .witness .now) ∷ length (s .args .rowQuotient .now) ∷ []
 
+abbrev table : tie.Start → Messages ℕ ℕ
+table s = lengths (sizesOf (circuitOf (input s .circuit)))
+
+abbrev dueBy : Messages ℕ ℕ → List ℕ
+dueBy l = l .witness ∷ l .rowQuotient ∷ []
+
 abbrev due : tie.Start → List ℕ
-due s = (s .args .c - s .args .x + 1) ∷ (s .args .r - 1) ∷ []
+due s = dueBy (table s)
 
 abbrev challenges : tie.Start → List ℕ
 challenges s = []
@@ -39,9 +45,12 @@ challenges s = []
 abbrev points : tie.Start → List ℕ
 points s = []
 
--- the start, from the judgement
+-- the lengths due, from the judgement, and the start
+abbrev at-lengths : tie.After-judge-round → tie.After-lengths-of
+at-lengths c = c .before .before .before .before
+
 abbrev start : tie.After-judge-round → tie.Start
-start c = c .before .before .before .before .before .before .before .before .before .before .before .before .before
+start c = at-lengths c .before .before .before .before .before .before .before .before
 
 judgement : (c : tie.After-judge-round)
     → faultRefusal (c .judge-round .result)
@@ -49,8 +58,7 @@ judgement : (c : tie.After-judge-round)
 judgement c =
     let s = start c in
     c .judge-round .ensures babyBear babyBear-qualifies refl
-    ∙ ap₂ (λ (m n : ℕ). roundRefusal babyBear (input s) (lent s) ((m + 1) ∷ n ∷ []) [] [])
-    (c .before .before .before .before .before .less .ensures) (c .before .before .before .before .less2 .ensures)
+    ∙ ap (λ (l : Messages ℕ ℕ). roundRefusal babyBear (input s) (lent s) (dueBy l) (challenges s) (points s)) (at-lengths c .lengths-of .ensures)
 
 -- nothing was refused
 fits : (c : tie.After-enum-told)
@@ -60,14 +68,8 @@ fits c =
     let s = start j in
     input-fits (input s) (lent s) (due s) (challenges s) (points s) (j .judge-round .result) (judgement j) (c .enum-told .given .1)
 
-less-requires : tie.Need-less-requires
-less-requires c κs = tt
-
-add-t20 : tie.Need-add-t20
-add-t20 c = search needs
-
-less-requires-2 : tie.Need-less-requires-2
-less-requires-2 c κs = tt
+lengths-of-requires : tie.Need-lengths-of-requires
+lengths-of-requires c κs = tt
 
 slice-aggregate-none : tie.Need-slice-aggregate-none
 slice-aggregate-none c = search needs
@@ -85,11 +87,13 @@ enum-told : tie.Need-enum-told
 enum-told c = search needs
 
 witness-into-requires : tie.Need-witness-into-requires
+unfolding lengths sizesOf circuitOf
 witness-into-requires c κs =
     let F = fits (c .before) in
     (lit< tt, ((C-fits (F .fits), X-fits (F .fits), X-below (F .fits)), (F .fits .z-length, eqb-true _ _ (F .lent-fit .0))))
 
 row-quotient-into-requires : tie.Need-row-quotient-into-requires
+unfolding lengths sizesOf circuitOf
 row-quotient-into-requires c κs =
     let F = fits (c .before .before .before .before .before) in
     (lit< tt, (R-fits (F .fits), (eqb-true _ _ (F .lent-fit .1 .0), shares (F .fits))))
@@ -104,7 +108,7 @@ same-length-2 : tie.Need-same-length-2
 same-length-2 c = c .before .before .row-quotient-into .kept .1 .1 .1 .1 .1 .1 .0
 
 returns : tie.Need-returns
-unfolding firstRoundCall lengths sizesOf circuitOf
+unfolding firstRoundCall circuitOf
 returns c =
     let d = c .before .before .before .before .before .before .before .before in
     let s = start (d .before .before) in
@@ -119,16 +123,14 @@ returns c =
     (assignment-on-C (F .fits) refl babyBear-qualifies (a .mask))))
 
 returns-2 : tie.Need-returns-2
-unfolding firstRoundCall lengths sizesOf circuitOf
+unfolding firstRoundCall circuitOf
 returns-2 c = rw (matched (c .before .fault .given .1) (judgement (c .before .before .before)))
 
 pub first-round-spec : {M : Type 1} → statement M
 first-round-spec =
     tie.close
     (tie.spec
-    less-requires
-    add-t20
-    less-requires-2
+    lengths-of-requires
     slice-aggregate-none
     slice-aggregate-judge-round
     slice-aggregate-judge-round-2

@@ -10,7 +10,7 @@ use Rattle.domain.specs.BabyBear.{babyBear}
 use Rattle.domain.proofs.Qualification.{babyBear-qualifies}
 use Rattle.protocol.specs.Three.{A, B, C, each, mapThree}
 use Rattle.protocol.specs.Circuit.{Circuit, sizesOf}
-use Rattle.protocol.specs.Messages.{lengths, values, matrixRemainder}
+use Rattle.protocol.specs.Messages.{Messages, lengths, values, matrixRemainder}
 use Rattle.protocol.specs.Meanings.{faultRefusal}
 use Rattle.protocol.specs.Calls.{ProverInput, circuitOf, entriesOf, roundRefusal, fourthRoundCall}
 use Rattle.circuit.specs.Given.{given, proverInput}
@@ -32,10 +32,14 @@ input s =
 abbrev lent : tie.Start → List ℕ
 lent s = length (s .args .ga .now) ∷ length (s .args .gb .now) ∷ length (s .args .gc .now) ∷ []
 
+abbrev table : tie.Start → Messages ℕ ℕ
+table s = lengths (sizesOf (circuitOf (input s .circuit)))
+
+abbrev dueBy : Messages ℕ ℕ → List ℕ
+dueBy l = l .matrixRemainders .a ∷ l .matrixRemainders .b ∷ l .matrixRemainders .c ∷ []
+
 abbrev due : tie.Start → List ℕ
-due s =
-    (sizeFor (length (entriesOf (s .args .ea .now))) - 1) ∷ (sizeFor (length (entriesOf (s .args .eb .now))) - 1)
-    ∷ (sizeFor (length (entriesOf (s .args .ec .now))) - 1) ∷ []
+due s = dueBy (table s)
 
 abbrev challenges : tie.Start → List ℕ
 challenges s = s .args .alpha ∷ (s .args .eta) .a ∷ (s .args .eta) .b ∷ (s .args .eta) .c ∷ s .args .beta ∷ []
@@ -43,28 +47,20 @@ challenges s = s .args .alpha ∷ (s .args .eta) .a ∷ (s .args .eta) .b ∷ (s
 abbrev points : tie.Start → List ℕ
 points s = s .args .alpha ∷ s .args .beta ∷ []
 
-three-listed : {l m n l′ m′ n′ : ℕ} → l ≡ l′ → m ≡ m′ → n ≡ n′ → _≡_ {A = List ℕ} (l ∷ m ∷ n ∷ []) (l′ ∷ m′ ∷ n′ ∷ [])
-three-listed at-l at-m at-n = cc
+-- the lengths due, from the judgement, and the start
+abbrev at-lengths : tie.After-judge-round → tie.After-lengths-of
+at-lengths c = c .before .before .before .before .before .before
 
--- the start, from the judgement
 abbrev start : tie.After-judge-round → tie.Start
-start c =
-    let lengths = c .before .before .before .before .before .before .before .before .before .before in
-    lengths .before .before .before .before .before .before .before .before .before
+start c = at-lengths c .before .before .before .before .before .before .before .before .before
 
 judgement : (c : tie.After-judge-round)
     → faultRefusal (c .judge-round .result)
     ≡ roundRefusal babyBear (input (start c)) (lent (start c)) (due (start c)) (challenges (start c)) (points (start c))
 judgement c =
     let s = start c in
-    let less3 = c .before .before .before .before .before in
-    let less2 = less3 .before .before in
-    let less = less2 .before .before in
     c .judge-round .ensures babyBear babyBear-qualifies refl
-    ∙ ap (λ (l : List ℕ). roundRefusal babyBear (input s) (lent s) l (challenges s) (points s))
-    (three-listed (less .less .ensures ∙ ap (λ (n : ℕ). n - 1) (less .before .size-of .ensures))
-    (less2 .less2 .ensures ∙ ap (λ (n : ℕ). n - 1) (less2 .before .size-of2 .ensures))
-    (less3 .less3 .ensures ∙ ap (λ (n : ℕ). n - 1) (less3 .before .size-of3 .ensures)))
+    ∙ ap (λ (l : Messages ℕ ℕ). roundRefusal babyBear (input s) (lent s) (dueBy l) (challenges s) (points s)) (at-lengths c .lengths-of .ensures)
 
 -- nothing was refused
 fits : (c : tie.After-enum-told)
@@ -84,23 +80,8 @@ at-b c = at-c c .before .before .before .before
 abbrev at-a : tie.After-matrix-value3 → tie.After-matrix-remainder-into
 at-a c = at-b c .before .before .before .before
 
-size-of-requires : tie.Need-size-of-requires
-size-of-requires c κs = tt
-
-less-requires : tie.Need-less-requires
-less-requires c κs = tt
-
-size-of-requires-2 : tie.Need-size-of-requires-2
-size-of-requires-2 c κs = tt
-
-less-requires-2 : tie.Need-less-requires-2
-less-requires-2 c κs = tt
-
-size-of-requires-3 : tie.Need-size-of-requires-3
-size-of-requires-3 c κs = tt
-
-less-requires-3 : tie.Need-less-requires-3
-less-requires-3 c κs = tt
+lengths-of-requires : tie.Need-lengths-of-requires
+lengths-of-requires c κs = tt
 
 slice-aggregate-judge-round : tie.Need-slice-aggregate-judge-round
 slice-aggregate-judge-round c = refl
@@ -121,16 +102,19 @@ enum-told : tie.Need-enum-told
 enum-told c = search needs
 
 matrix-remainder-into-requires : tie.Need-matrix-remainder-into-requires
+unfolding lengths sizesOf circuitOf
 matrix-remainder-into-requires c κs =
     let F = fits (c .before) in
     (lit< tt, ((R-fits (F .fits), C-fits (F .fits)), (F .fits .lists .list-a, one-below _ _ (F .lent-fit .0))))
 
 matrix-remainder-into-requires-2 : tie.Need-matrix-remainder-into-requires-2
+unfolding lengths sizesOf circuitOf
 matrix-remainder-into-requires-2 c κs =
     let F = fits (c .before .before .before .before .before) in
     (lit< tt, ((R-fits (F .fits), C-fits (F .fits)), (F .fits .lists .list-b, one-below _ _ (F .lent-fit .1 .0))))
 
 matrix-remainder-into-requires-3 : tie.Need-matrix-remainder-into-requires-3
+unfolding lengths sizesOf circuitOf
 matrix-remainder-into-requires-3 c κs =
     let F = fits (c .before .before .before .before .before .before .before .before .before) in
     (lit< tt, ((R-fits (F .fits), C-fits (F .fits)), (F .fits .lists .list-c, one-below _ _ (F .lent-fit .1 .1 .0))))
@@ -191,12 +175,7 @@ pub fourth-round-spec : {M : Type 1} → statement M
 fourth-round-spec =
     tie.close
     (tie.spec
-    size-of-requires
-    less-requires
-    size-of-requires-2
-    less-requires-2
-    size-of-requires-3
-    less-requires-3
+    lengths-of-requires
     slice-aggregate-judge-round
     slice-aggregate-judge-round-2
     slice-aggregate-judge-round-3

@@ -10,7 +10,7 @@ use Rattle.domain.specs.Polynomial.{Poly}
 use Rattle.domain.specs.BabyBear.{babyBear}
 use Rattle.domain.proofs.Qualification.{babyBear-qualifies}
 use Rattle.protocol.specs.Circuit.{Circuit, sizesOf}
-use Rattle.protocol.specs.Messages.{lengths, lineRemainder, lineQuotient}
+use Rattle.protocol.specs.Messages.{Messages, lengths, lineRemainder, lineQuotient}
 use Rattle.protocol.specs.Meanings.{faultRefusal, three}
 use Rattle.protocol.specs.Calls.{ProverInput, circuitOf, roundRefusal, thirdRoundCall}
 use Rattle.circuit.specs.Given.{given, proverInput}
@@ -33,8 +33,14 @@ input s =
 abbrev lent : tie.Start → List ℕ
 lent s = length (s .args .remainder .now) ∷ length (s .args .quotient .now) ∷ []
 
+abbrev table : tie.Start → Messages ℕ ℕ
+table s = lengths (sizesOf (circuitOf (input s .circuit)))
+
+abbrev dueBy : Messages ℕ ℕ → List ℕ
+dueBy l = l .lineRemainder ∷ l .lineQuotient ∷ []
+
 abbrev due : tie.Start → List ℕ
-due s = (s .args .c - 1) ∷ s .args .c ∷ []
+due s = dueBy (table s)
 
 abbrev challenges : tie.Start → List ℕ
 challenges s = s .args .alpha ∷ (s .args .eta) .a ∷ (s .args .eta) .b ∷ (s .args .eta) .c ∷ []
@@ -42,9 +48,12 @@ challenges s = s .args .alpha ∷ (s .args .eta) .a ∷ (s .args .eta) .b ∷ (s
 abbrev points : tie.Start → List ℕ
 points s = s .args .alpha ∷ []
 
--- the start, from the judgement
+-- the lengths due, from the judgement, and the start
+abbrev at-lengths : tie.After-judge-round → tie.After-lengths-of
+at-lengths c = c .before .before .before .before .before
+
 abbrev start : tie.After-judge-round → tie.Start
-start c = c .before .before .before .before .before .before .before .before .before .before .before .before .before
+start c = at-lengths c .before .before .before .before .before .before .before .before
 
 judgement : (c : tie.After-judge-round)
     → faultRefusal (c .judge-round .result)
@@ -52,8 +61,7 @@ judgement : (c : tie.After-judge-round)
 judgement c =
     let s = start c in
     c .judge-round .ensures babyBear babyBear-qualifies refl
-    ∙ ap (λ (n : ℕ). roundRefusal babyBear (input s) (lent s) (n ∷ s .args .c ∷ []) (challenges s) (points s))
-    (c .before .before .before .before .before .less .ensures)
+    ∙ ap (λ (l : Messages ℕ ℕ). roundRefusal babyBear (input s) (lent s) (dueBy l) (challenges s) (points s)) (at-lengths c .lengths-of .ensures)
 
 -- nothing was refused
 fits : (c : tie.After-enum-told)
@@ -70,8 +78,8 @@ line c = c .line-of .last .1 .1 .1 .1 .1 .1 .1 .1 .1 .1 .1 .1 .0
 bounded : (c : tie.After-line-of) → 2 * start (c .before .before .before .before) .args .c ≤ 2048
 bounded c = line-bound (fits (c .before .before) .fits)
 
-less-requires : tie.Need-less-requires
-less-requires c κs = tt
+lengths-of-requires : tie.Need-lengths-of-requires
+lengths-of-requires c κs = tt
 
 slice-aggregate-judge-round : tie.Need-slice-aggregate-judge-round
 slice-aggregate-judge-round c = refl
@@ -116,6 +124,7 @@ slice-aggregate-line-remainder-into c =
     filled-length _ _ (bounded l) (line l) (l .line-of .kept .1 .1 .1 .1 .1 .1 .1 .1 .1 .1 .1 .1 .0)
 
 line-remainder-into-requires : tie.Need-line-remainder-into-requires
+unfolding lengths sizesOf circuitOf
 line-remainder-into-requires c κs =
     let F = fits (c .before .before .before .before .before) in
     (lit< tt, (C-fits (F .fits), eqb-true _ _ (F .lent-fit .0)))
@@ -131,6 +140,7 @@ slice-aggregate-line-quotient-into c =
     filled-length _ _ (bounded l) (line l) (l .line-of .kept .1 .1 .1 .1 .1 .1 .1 .1 .1 .1 .1 .1 .0)
 
 line-quotient-into-requires : tie.Need-line-quotient-into-requires
+unfolding lengths sizesOf circuitOf
 line-quotient-into-requires c κs =
     let l = c .before .before .before .before .before .before .before .before in
     let F = fits (l .before .before) in
@@ -171,7 +181,7 @@ pub third-round-spec : {M : Type 1} → statement M
 third-round-spec =
     tie.close
     (tie.spec
-    less-requires
+    lengths-of-requires
     slice-aggregate-judge-round
     slice-aggregate-judge-round-2
     slice-aggregate-judge-round-3
