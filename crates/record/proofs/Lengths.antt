@@ -1,7 +1,7 @@
 -- The lengths of the sections and of the lent bytes in a call to write a record, as rows against those that the sizes give. What
 -- is known where the sizes and the lengths are not refused, and what the call answers. Assumes nothing.
 use mathlib.Core.Path.{_≡_, refl, sym, ap, ap₂, _∙_}
-use mathlib.Core.Bool.{Bool, true}
+use mathlib.Core.Bool.{Bool, true, false}
 use mathlib.Core.List.{List, [], _∷_, _++_, map}
 use mathlib.Core.Option.{Option, none, some}
 use Prim.Native.Nat.{ℕ, _+_, _*_, _≤_}
@@ -13,7 +13,10 @@ use borrow.Author.Tests.{eqb-true}
 use Rattle.algebra.specs.Counting.{All}
 use Rattle.algebra.proofs.Counting.{append-all}
 use Rattle.field.specs.Prime.{Prime}
+use Rattle.protocol.specs.declared.Fault.{Fault}
+use Rattle.protocol.specs.declared.Fault.the-variants as fault
 use Rattle.protocol.specs.Circuit.{Sizes}
+use Rattle.protocol.specs.Meanings.{faultRefusal, isFine}
 use Rattle.protocol.specs.Refusals.{Refusal, judged, first, refuse, pairs, sixSizeTests, sizeRefusal, listRefusal, wordRefusal, trailerBytes}
 use Rattle.protocol.specs.Record.{sectionLengths, sectionBytes, writeRecord}
 use Rattle.protocol.specs.Calls.{writeCall}
@@ -102,9 +105,10 @@ module _ (q : Prime) (s : Sizes) (parts : List (List ℕ)) (lent : ℕ) where
       ap (λ o. judged o (writeRecord s parts))
       (first-before-last (sizeRefusal (sixSizeTests s) ∷ lengthRefusals s (map length parts) lent ∷ []) (wordRefusal q (joined parts)))
 
-  pub write-refused : (r : Refusal) (before : List ℕ) → first (shape ∷ wordRefusal q (joined parts) ∷ []) ≡ some r
-      → LentAnswer (writeCall q s parts lent) (some r) before before
-  write-refused r before e = rw (write-rows, e) (record { answer = refl; lent = refl })
+  pub write-refused : (f : Fault) (before : List ℕ) → isFine f ≡ false → faultRefusal f ≡ first (shape ∷ wordRefusal q (joined parts) ∷ [])
+      → LentAnswer (writeCall q s parts lent) (faultRefusal f) before before
+  write-refused fault.Fine before stop e = let z : _≡_ {A = ℕ} 0 1 = cc in absurd (omega arith)
+  write-refused (fault.Refused number position) before stop e = rw (write-rows, sym e) (record { answer = refl; lent = refl })
 
   pub write-done : (before after : List ℕ) → shape ≡ none → wordRefusal q (joined parts) ≡ none → after ≡ writeRecord s parts
       → LentAnswer (writeCall q s parts lent) none before after

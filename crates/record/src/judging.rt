@@ -12,6 +12,7 @@ use crate::layout::section_bounds;
 use crate::layout::section_lengths;
 use protocol::Fault;
 use protocol::Sizes;
+use protocol::is_fine;
 use protocol::scans::judge_words;
 use protocol::six_sizes::judge_sizes;
 
@@ -45,8 +46,9 @@ pub fn shape_fault(s: Sizes, found: &[usize], lent: usize) -> Fault
     requires { ⌜ length (now found) ≡ 11 ⌝ }
     ensures { λ r. ⌜ faultRefusal r ≡ shapeRefusal (sizesMeaning s) (now (found .entry)) lent ⌝ }
 {
-    if let Fault::Refused(number, position) = judge_sizes(BAD_SIZE, 0, s) {
-        return Fault::Refused(number, position);
+    let size = judge_sizes(BAD_SIZE, 0, s);
+    if !is_fine(size) {
+        return size;
     }
     lengths_fault(s, found, lent)
 }
@@ -66,9 +68,9 @@ fn scan_words(p: u32, scan: Scan, ws: &[u32]) -> Scan
     let fault = scan.fault;
     let start = scan.count;
     let count = start + ws.len();
-    if let Fault::Refused(number, position) = fault {
+    if !is_fine(fault) {
         return Scan {
-            fault: Fault::Refused(number, position),
+            fault: fault,
             count: count,
         };
     }

@@ -17,6 +17,7 @@ use crate::layout::section_bounds;
 use protocol::Fault;
 use protocol::Sizes;
 use protocol::Triple;
+use protocol::is_fine;
 use protocol::six_sizes::judge_sizes;
 
 // The rows of the table of refusals that a record can fail.
@@ -125,8 +126,9 @@ fn trailer_fault(bytes: &[u8]) -> Fault
     ensures { λ r. ⌜ faultRefusal r ≡ trailerRow (now (bytes .entry)) ⌝ }
 {
     let s = sizes_in(bytes);
-    if let Fault::Refused(number, position) = judge_sizes(BAD_TRAILER, SECTIONS, s) {
-        return Fault::Refused(number, position);
+    let size = judge_sizes(BAD_TRAILER, SECTIONS, s);
+    if !is_fine(size) {
+        return size;
     }
     starts_fault(bytes, s)
 }
@@ -135,8 +137,9 @@ fn trailer_fault(bytes: &[u8]) -> Fault
 pub fn layout_fault(bytes: &[u8]) -> Fault
     ensures { λ r. ⌜ faultRefusal r ≡ layoutRefusal (now (bytes .entry)) ⌝ }
 {
-    if let Fault::Refused(number, position) = end_fault(bytes) {
-        return Fault::Refused(number, position);
+    let end = end_fault(bytes);
+    if !is_fine(end) {
+        return end;
     }
     trailer_fault(bytes)
 }

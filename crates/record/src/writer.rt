@@ -18,6 +18,7 @@ use crate::layout::WORD_BYTES;
 use crate::layout::section_bounds;
 use protocol::Fault;
 use protocol::Sizes;
+use protocol::is_fine;
 
 // The four bytes of a word.
 fn put_word(out: &mut [u8], at: usize, word: u32)
@@ -168,24 +169,13 @@ pub fn write(
         gc.len(),
         h2.len(),
     ];
-    if let Fault::Refused(number, position) = shape_fault(sizes, &found, out.len()) {
-        return Fault::Refused(number, position);
+    let shape = shape_fault(sizes, &found, out.len());
+    if !is_fine(shape) {
+        return shape;
     }
-    if let Fault::Refused(number, position) = sections_fault(
-        p,
-        w,
-        m,
-        h0,
-        s,
-        g1,
-        h1,
-        o,
-        ga,
-        gb,
-        gc,
-        h2,
-    ) {
-        return Fault::Refused(number, position);
+    let word = sections_fault(p, w, m, h0, s, g1, h1, o, ga, gb, gc, h2);
+    if !is_fine(word) {
+        return word;
     }
     fill_record(sizes, w, m, h0, s, g1, h1, o, ga, gb, gc, h2, out);
     Fault::Fine

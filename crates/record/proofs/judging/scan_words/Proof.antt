@@ -1,43 +1,41 @@
 -- `record::judging::scan_words` meets its contract. Assumes nothing.
-use mathlib.Core.List.{[], _∷_}
-use mathlib.Core.Path.{refl, sym, ap, _∙_}
+use mathlib.Core.Path.{refl, sym, _∙_}
+use mathlib.Core.List.{List, [], _∷_}
+use mathlib.Core.Option.{Option}
 use borrow.Author.Needs.{needs}
-use Rattle.protocol.specs.Meanings.{faultRefusal}
-use Rattle.protocol.proofs.Rows.{first-stop, first-pass}
+use borrow.Author.Tests.{not-true, not-false}
+use Rattle.protocol.specs.Refusals.{Refusal}
+use Rattle.protocol.proofs.EarlyReturns.{stops, goes-on, last-answer}
 use Rattle.record.specs.Layout.{refuseWords}
 use Rattle.record.proofs.judging.scan_words.Statement.{statement}
 use Rattle.record.proofs.judging.scan_words.Tie as tie
 
+-- the row of these words
+abbrev here : tie.Start → List (Option Refusal)
+here s = let a = s .args in refuseWords (a .p) (a .scan .count) (a .ws .now) ∷ []
+
 add-count : tie.Need-add-count
 add-count c = search needs
 
-enum-known-fault : tie.Need-enum-known-fault
-enum-known-fault c = search needs
+is-fine-requires : tie.Need-is-fine-requires
+is-fine-requires c κs = search needs
 
 returns : tie.Need-returns
 returns c =
-    let a = c .before .before .before .before .args in (
-      refl,
-      sym (first-stop (refuseWords (a .p) (a .scan .count) (a .ws .now) ∷ [])
-          (ap faultRefusal (c .before .fault .given .1))),
-    )
-
-enum-told : tie.Need-enum-told
-enum-told c = search needs
+    let s = c .before .before .before in
+    (refl, stops (s .args .scan .fault) refl (here s) (sym (c .before .is-fine .ensures) ∙ not-true _ (c .if1 .taken)))
 
 judge-words-requires : tie.Need-judge-words-requires
 judge-words-requires c κs = search needs
 
 returns-2 : tie.Need-returns-2
 returns-2 c =
-    let a = c .before .before .before .before .args in (
+    let d = c .before in
+    let s = d .before .before .before in (
       refl,
-      c .judge-words .ensures
-          ∙ sym (first-pass (refuseWords (a .p) (a .scan .count) (a .ws .now))
-          (ap faultRefusal (c .before .enum-told .given .1))),
+      goes-on (s .args .scan .fault) refl (here s) (sym (d .before .is-fine .ensures) ∙ not-false _ (d .if1 .left)) (last-answer (c .judge-words .ensures)),
     )
 
 pub scan-words-spec : {M : Type 1} → statement M
 scan-words-spec =
-    tie.close
-    (tie.spec add-count enum-known-fault returns enum-told judge-words-requires returns-2)
+    tie.close (tie.spec add-count is-fine-requires returns judge-words-requires returns-2)

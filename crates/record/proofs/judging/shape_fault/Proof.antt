@@ -1,55 +1,51 @@
--- `record::judging::shape_fault` meets its contract. Assumes nothing.
-use mathlib.Core.List.{[], _∷_}
-use mathlib.Core.Option.{none}
-use mathlib.Core.Path.{_≡_, sym, ap, _∙_}
+-- `record::judging::shape_fault` meets its contract: the sizes, then the lengths. Assumes nothing.
+use mathlib.Core.Path.{_≡_, sym, _∙_}
+use mathlib.Core.Bool.{true}
+use mathlib.Core.List.{List, [], _∷_}
+use mathlib.Core.Option.{Option}
 use borrow.Author.Needs.{needs}
+use borrow.Author.Tests.{not-true, not-false}
+use Rattle.protocol.specs.Meanings.{sizes, isFine}
+use Rattle.protocol.specs.Refusals.{Refusal, sixSizeTests, sizeRefusal}
+use Rattle.protocol.proofs.EarlyReturns.{stops, goes-on, fine-none, last-answer}
 use Rattle.protocol.proofs.RefusalLaws.{refuse-none}
-use Rattle.protocol.specs.Meanings.{faultRefusal, sizes}
-use Rattle.protocol.specs.Refusals.{sixSizeTests, sizeRefusal}
-use Rattle.protocol.proofs.Rows.{first-stop, first-pass}
 use Rattle.record.specs.Layout.{lengthRefusals, shapeRefusal}
 use Rattle.record.proofs.judging.shape_fault.Statement.{statement}
 use Rattle.record.proofs.judging.shape_fault.Tie as tie
 
+-- the row after the sizes
+abbrev rest : tie.Start → List (Option Refusal)
+rest s = let a = s .args in lengthRefusals (sizes (a .s)) (a .found .now) (a .lent) ∷ []
+
+fine : (c : tie.Else1) → isFine (c .before .before .judge-sizes .result) ≡ true
+fine c = sym (c .before .is-fine .ensures) ∙ not-false _ (c .if1 .left)
+
 judge-sizes-requires : tie.Need-judge-sizes-requires
 judge-sizes-requires c κs = search needs
 
-enum-known-number : tie.Need-enum-known-number
-enum-known-number c = search needs
+is-fine-requires : tie.Need-is-fine-requires
+is-fine-requires c κs = search needs
 
 returns : tie.Need-returns
 unfolding shapeRefusal sizeRefusal
 returns c =
-    let a = c .before .before .before .before .before .args in
-    sym (first-stop (lengthRefusals (sizes (a .s)) (a .found .now) (a .lent) ∷ [])
-    (sym (c .before .before .before .judge-sizes .ensures) ∙ ap faultRefusal (c .before .number .given .1)))
-
-enum-told : tie.Need-enum-told
-enum-told c = search needs
+    let j = c .before .before in
+    stops (j .judge-sizes .result) (j .judge-sizes .ensures) (rest (j .before .before)) (sym (c .before .is-fine .ensures) ∙ not-true _ (c .if1 .taken))
 
 lengths-fault-requires : tie.Need-lengths-fault-requires
 lengths-fault-requires c κs =
-    let a = c .before .before .before .before .args in (
-      refuse-none 4 0 (sixSizeTests (sizes (a .s)))
-          (sym (c .before .before .judge-sizes .ensures) ∙ ap faultRefusal (c .enum-told .given .1)),
-      c .before .before .before .before .pre,
-    )
+    let j = c .before .before in
+    let s = j .before .before in
+    (refuse-none 4 0 (sixSizeTests (sizes (s .args .s))) (fine-none (j .judge-sizes .result) (j .judge-sizes .ensures) (fine c)), s .pre)
 
 returns-2 : tie.Need-returns-2
 unfolding shapeRefusal sizeRefusal
 returns-2 c =
-    let a = c .before .before .before .before .before .args in
-    let free : sizeRefusal (sixSizeTests (sizes (a .s))) ≡ none = sym (c .before .before .before .judge-sizes .ensures)
-    ∙ ap faultRefusal (c .before .enum-told .given .1) in
-    c .lengths-fault .ensures ∙ sym (first-pass _ free)
+    let d = c .before in
+    let j = d .before .before in
+    goes-on (j .judge-sizes .result) (j .judge-sizes .ensures) (rest (j .before .before)) (fine d) (last-answer (c .lengths-fault .ensures))
 
 pub shape-fault-spec : {M : Type 1} → statement M
 shape-fault-spec =
     tie.close
-    (tie.spec
-    judge-sizes-requires
-    enum-known-number
-    returns
-    enum-told
-    lengths-fault-requires
-    returns-2)
+    (tie.spec judge-sizes-requires is-fine-requires returns lengths-fault-requires returns-2)

@@ -1,53 +1,49 @@
--- `record::reader::layout_fault` meets its contract. Assumes nothing.
+-- `record::reader::layout_fault` meets its contract: the end, then the trailer. Assumes nothing.
+use mathlib.Core.Path.{_≡_, sym, _∙_}
+use mathlib.Core.Bool.{true}
 use mathlib.Core.List.{[], _∷_}
-use mathlib.Core.Option.{none}
-use mathlib.Core.Path.{_≡_, sym, ap, _∙_}
 use lib.ListN.{length}
 use borrow.Author.Needs.{needs}
-use Rattle.protocol.specs.Meanings.{faultRefusal}
-use Rattle.protocol.specs.Record.{trailerWord, endRow, trailerRow}
+use borrow.Author.Tests.{not-true, not-false}
+use Rattle.protocol.specs.Meanings.{isFine}
+use Rattle.protocol.specs.Record.{trailerWord, trailerRow}
+use Rattle.protocol.proofs.EarlyReturns.{stops, goes-on, fine-none, last-answer}
 use Rattle.record.specs.Layout.{layoutRefusal}
 use Rattle.record.proofs.Rows.{end-long}
-use Rattle.protocol.proofs.Rows.{first-stop, first-pass}
 use Rattle.record.proofs.reader.layout_fault.Statement.{statement}
 use Rattle.record.proofs.reader.layout_fault.Tie as tie
+
+fine : (c : tie.Else1) → isFine (c .before .before .end-fault .result) ≡ true
+fine c = sym (c .before .is-fine .ensures) ∙ not-false _ (c .if1 .left)
 
 end-fault-requires : tie.Need-end-fault-requires
 end-fault-requires c κs = search needs
 
-enum-known-number : tie.Need-enum-known-number
-enum-known-number c = search needs
+is-fine-requires : tie.Need-is-fine-requires
+is-fine-requires c κs = search needs
 
 returns : tie.Need-returns
 unfolding layoutRefusal
 returns c =
-    let bytes = c .before .before .before .before .before .args .bytes .now in
-    sym (first-stop (trailerRow bytes ∷ [])
-    (sym (c .before .before .before .end-fault .ensures) ∙ ap faultRefusal (c .before .number .given .1)))
-
-enum-told : tie.Need-enum-told
-enum-told c = search needs
+    let e = c .before .before in
+    stops (e .end-fault .result) (e .end-fault .ensures) (trailerRow (e .before .before .args .bytes .now) ∷ [])
+    (sym (c .before .is-fine .ensures) ∙ not-true _ (c .if1 .taken))
 
 trailer-fault-requires : tie.Need-trailer-fault-requires
 trailer-fault-requires c κs =
-    let bytes = c .before .before .before .before .args .bytes .now in
-    end-long (length bytes) (trailerWord bytes 17) (sym (c .before .before .end-fault .ensures) ∙ ap faultRefusal (c .enum-told .given .1))
+    let e = c .before .before in
+    let bytes = e .before .before .args .bytes .now in
+    end-long (length bytes) (trailerWord bytes 17) (fine-none (e .end-fault .result) (e .end-fault .ensures) (fine c))
 
 returns-2 : tie.Need-returns-2
 unfolding layoutRefusal
 returns-2 c =
-    let bytes = c .before .before .before .before .before .args .bytes .now in
-    let none-before : endRow bytes ≡ none =
-    sym (c .before .before .before .end-fault .ensures) ∙ ap faultRefusal (c .before .enum-told .given .1) in
-    c .trailer-fault .ensures ∙ sym (first-pass _ none-before)
+    let d = c .before in
+    let e = d .before .before in
+    goes-on (e .end-fault .result) (e .end-fault .ensures) (trailerRow (e .before .before .args .bytes .now) ∷ []) (fine d)
+    (last-answer (c .trailer-fault .ensures))
 
 pub layout-fault-spec : {M : Type 1} → statement M
 layout-fault-spec =
     tie.close
-    (tie.spec
-    end-fault-requires
-    enum-known-number
-    returns
-    enum-told
-    trailer-fault-requires
-    returns-2)
+    (tie.spec end-fault-requires is-fine-requires returns trailer-fault-requires returns-2)

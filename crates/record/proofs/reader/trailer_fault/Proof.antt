@@ -1,17 +1,30 @@
--- `record::reader::trailer_fault` meets its contract. Assumes nothing.
-use mathlib.Core.List.{[], _∷_}
-use mathlib.Core.Option.{none}
+-- `record::reader::trailer_fault` meets its contract: the sizes, then the starts and the total length. Assumes nothing.
 use mathlib.Core.Path.{_≡_, sym, ap, _∙_}
+use mathlib.Core.Bool.{true}
+use mathlib.Core.List.{List, [], _∷_}
+use mathlib.Core.Option.{Option}
 use borrow.Author.Needs.{needs}
-use Rattle.protocol.proofs.RefusalLaws.{refuse-none}
-use Rattle.protocol.specs.Meanings.{faultRefusal, sizes}
+use borrow.Author.Tests.{not-true, not-false}
+use Rattle.protocol.specs.Meanings.{faultRefusal, sizes, isFine}
 use Rattle.protocol.specs.Record.{sizesRead}
-use Rattle.protocol.specs.Refusals.{refuse, sixSizeTests}
-use Rattle.record.proofs.Starts.{trailer-rows}
-use Rattle.protocol.proofs.Rows.{first-stop, first-pass}
+use Rattle.protocol.specs.Refusals.{Refusal, refuse, sixSizeTests}
+use Rattle.protocol.proofs.EarlyReturns.{stops, goes-on, fine-none, last-answer}
+use Rattle.protocol.proofs.RefusalLaws.{refuse-none}
 use Rattle.record.specs.Layout.{startsRefusal}
+use Rattle.record.proofs.Starts.{trailer-rows}
 use Rattle.record.proofs.reader.trailer_fault.Statement.{statement}
 use Rattle.record.proofs.reader.trailer_fault.Tie as tie
+
+-- the row after the sizes
+abbrev rest : tie.Start → List (Option Refusal)
+rest s = let bytes = s .args .bytes .now in startsRefusal bytes (sizesRead bytes) ∷ []
+
+-- the sizes read are those that are judged
+judged : (j : tie.After-judge-sizes) → faultRefusal (j .judge-sizes .result) ≡ refuse 3 11 (sixSizeTests (sizesRead (j .before .before .before .args .bytes .now)))
+judged j = j .judge-sizes .ensures ∙ ap (λ s. refuse 3 11 (sixSizeTests s)) (j .before .sizes-in .ensures)
+
+fine : (c : tie.Else1) → isFine (c .before .before .judge-sizes .result) ≡ true
+fine c = sym (c .before .is-fine .ensures) ∙ not-false _ (c .if1 .left)
 
 sizes-in-requires : tie.Need-sizes-in-requires
 sizes-in-requires c κs = search needs
@@ -19,36 +32,30 @@ sizes-in-requires c κs = search needs
 judge-sizes-requires : tie.Need-judge-sizes-requires
 judge-sizes-requires c κs = search needs
 
-enum-known-number : tie.Need-enum-known-number
-enum-known-number c = search needs
+is-fine-requires : tie.Need-is-fine-requires
+is-fine-requires c κs = search needs
 
 returns : tie.Need-returns
 returns c =
-    let bytes = c .before .before .before .before .before .before .args .bytes .now in
-    let read = ap (λ s. refuse 3 11 (sixSizeTests s)) (c .before .before .before .before .sizes-in .ensures) in
-    sym (trailer-rows bytes
-    ∙ first-stop (startsRefusal bytes (sizesRead bytes) ∷ [])
-    (sym read ∙ sym (c .before .before .before .judge-sizes .ensures) ∙ ap faultRefusal (c .before .number .given .1)))
-
-enum-told : tie.Need-enum-told
-enum-told c = search needs
+    let j = c .before .before in
+    let s = j .before .before .before in
+    stops (j .judge-sizes .result) (judged j) (rest s) (sym (c .before .is-fine .ensures) ∙ not-true _ (c .if1 .taken))
+    ∙ sym (trailer-rows (s .args .bytes .now))
 
 starts-fault-requires : tie.Need-starts-fault-requires
 starts-fault-requires c κs =
-    let s = c .before .before .before .sizes-in .result in (
-      search needs,
-      refuse-none 3 11 (sixSizeTests (sizes s))
-          (sym (c .before .before .judge-sizes .ensures) ∙ ap faultRefusal (c .enum-told .given .1)),
-    )
+    let j = c .before .before in
+    let s = j .before .sizes-in .result in
+    (search needs, refuse-none 3 11 (sixSizeTests (sizes s)) (fine-none (j .judge-sizes .result) (j .judge-sizes .ensures) (fine c)))
 
 returns-2 : tie.Need-returns-2
 returns-2 c =
-    let bytes = c .before .before .before .before .before .before .args .bytes .now in
-    let read = c .before .before .before .before .sizes-in .ensures in
-    let none-before : refuse 3 11 (sixSizeTests (sizesRead bytes)) ≡ none =
-    sym (ap (λ s. refuse 3 11 (sixSizeTests s)) read) ∙ sym (c .before .before .before .judge-sizes .ensures)
-    ∙ ap faultRefusal (c .before .enum-told .given .1) in
-    c .starts-fault .ensures ∙ ap (startsRefusal bytes) read ∙ sym (trailer-rows bytes ∙ first-pass _ none-before)
+    let d = c .before in
+    let j = d .before .before in
+    let s = j .before .before .before in
+    goes-on (j .judge-sizes .result) (judged j) (rest s) (fine d)
+    (last-answer (c .starts-fault .ensures ∙ ap (startsRefusal (s .args .bytes .now)) (j .before .sizes-in .ensures)))
+    ∙ sym (trailer-rows (s .args .bytes .now))
 
 pub trailer-fault-spec : {M : Type 1} → statement M
 trailer-fault-spec =
@@ -56,8 +63,7 @@ trailer-fault-spec =
     (tie.spec
     sizes-in-requires
     judge-sizes-requires
-    enum-known-number
+    is-fine-requires
     returns
-    enum-told
     starts-fault-requires
     returns-2)

@@ -1,40 +1,53 @@
--- `record::writer::write` meets its contract. Assumes nothing.
-use mathlib.Core.Option.{none}
+-- `record::writer::write` meets its contract: sizes and lengths, then the words, then the record. Assumes nothing.
+use mathlib.Core.Path.{_≡_, refl, sym, _∙_}
+use mathlib.Core.Bool.{true}
 use mathlib.Core.List.{List, [], _∷_, map}
-use mathlib.Core.Path.{_≡_, refl, sym, ap, _∙_}
+use mathlib.Core.Option.{Option, none}
 use Prim.Native.Nat.{ℕ}
 use native.Mathlib.Omega.{arith}
 use lib.ListN.{length}
 use borrow.Author.Needs.{needs}
+use borrow.Author.Tests.{not-true, not-false}
+use Rattle.field.specs.Prime.{Prime}
 use Rattle.protocol.specs.Circuit.{Sizes}
-use Rattle.protocol.specs.declared.Fault.the-variants as fault
-use Rattle.protocol.specs.Meanings.{faultRefusal, sizes}
-use Rattle.protocol.specs.Refusals.{wordRefusal}
-use Rattle.protocol.proofs.Rows.{first-stop, first-pass, word-row}
-use Rattle.record.proofs.Lengths.{Shaped, shaped, few-bytes, room-given, write-refused, write-done}
+use Rattle.protocol.specs.Meanings.{sizes, isFine}
+use Rattle.protocol.specs.Refusals.{Refusal, wordRefusal}
+use Rattle.protocol.proofs.EarlyReturns.{stops, goes-on, fine-none, last-answer}
+use Rattle.protocol.proofs.Rows.{word-row}
 use Rattle.record.specs.Layout.{joined, eachSection, shapeRefusal}
+use Rattle.record.proofs.Lengths.{Shaped, shaped, few-bytes, room-given, write-refused, write-done}
 use Rattle.record.proofs.writer.write.Statement.{statement}
 use Rattle.record.proofs.writer.write.Tie as tie
 
--- the sizes, the sections and the lent bytes of the call, from where sizes and lengths are judged
-abbrev given : tie.After-shape-fault → Sizes
-given j = sizes (j .before .before .before .before .before .before .before .before .before .before .before .before .before .before .args .sizes)
+-- the start, and the sizes, the sections and the lent bytes of the call
+abbrev start : tie.After-shape-fault → tie.Start
+start j = j .before .before .before .before .before .before .before .before .before .before .before .before .before .before
 
-abbrev parts : tie.After-shape-fault → List (List ℕ)
-parts j =
-    let a = j .before .before .before .before .before .before .before .before .before .before .before .before .before .before .args in
-    eachSection (a .w .now) (a .m .now) (a .h0 .now) (a .s .now) (a .g1 .now) (a .h1 .now) (a .o .now) (a .ga .now) (a .gb .now)
-    (a .gc .now) (a .h2 .now)
+module _ (j : tie.After-shape-fault) where
+  abbrev given : Sizes
+  given = sizes (start j .args .sizes)
 
-abbrev lent : tie.After-shape-fault → List ℕ
-lent j = j .before .before .before .before .before .before .before .before .before .before .before .before .before .before .args .out .now
+  abbrev parts : List (List ℕ)
+  parts =
+      let a = start j .args in
+      eachSection (a .w .now) (a .m .now) (a .h0 .now) (a .s .now) (a .g1 .now) (a .h1 .now) (a .o .now) (a .ga .now) (a .gb .now)
+      (a .gc .now) (a .h2 .now)
 
-shape-free : (j : tie.After-shape-fault) → j .shape-fault .result ≡ fault.Fine
-    → shapeRefusal (given j) (map length (parts j)) (length (lent j)) ≡ none
-shape-free j told = sym (j .shape-fault .ensures) ∙ ap faultRefusal told
+  abbrev lent : List ℕ
+  lent = start j .args .out .now
 
-shape : (j : tie.After-shape-fault) → j .shape-fault .result ≡ fault.Fine → Shaped (given j) (map length (parts j)) (length (lent j))
-shape j told = shaped (given j) (map length (parts j)) (length (lent j)) refl (shape-free j told)
+-- the row of the words
+abbrev words-row : Prime → tie.After-shape-fault → List (Option Refusal)
+words-row q j = wordRefusal q (joined (parts j)) ∷ []
+
+shape-fine : (c : tie.Else1) → isFine (c .before .before .shape-fault .result) ≡ true
+shape-fine c = sym (c .before .is-fine .ensures) ∙ not-false _ (c .if1 .left)
+
+shape-free : (c : tie.Else1) → let j = c .before .before in shapeRefusal (given j) (map length (parts j)) (length (lent j)) ≡ none
+shape-free c = let j = c .before .before in fine-none (j .shape-fault .result) (j .shape-fault .ensures) (shape-fine c)
+
+shape : (c : tie.Else1) → let j = c .before .before in Shaped (given j) (map length (parts j)) (length (lent j))
+shape c = let j = c .before .before in shaped (given j) (map length (parts j)) (length (lent j)) refl (shape-free c)
 
 slice-aggregate-shape-fault : tie.Need-slice-aggregate-shape-fault
 slice-aggregate-shape-fault c = search needs
@@ -42,44 +55,38 @@ slice-aggregate-shape-fault c = search needs
 shape-fault-requires : tie.Need-shape-fault-requires
 shape-fault-requires c κs = search needs
 
-enum-known-number : tie.Need-enum-known-number
-enum-known-number c = search needs
+is-fine-requires : tie.Need-is-fine-requires
+is-fine-requires c κs = search needs
 
 returns : tie.Need-returns
 returns c q e =
-    let j = c .before .before .before in
-    let stopped = sym (j .shape-fault .ensures) ∙ ap faultRefusal (c .before .number .given .1) in
-    write-refused q (given j) (parts j) (length (lent j)) _ (lent j) (first-stop (wordRefusal q (joined (parts j)) ∷ []) stopped)
-
-enum-told : tie.Need-enum-told
-enum-told c = search needs
+    let j = c .before .before in
+    let stop = sym (c .before .is-fine .ensures) ∙ not-true _ (c .if1 .taken) in
+    write-refused q (given j) (parts j) (length (lent j)) (j .shape-fault .result) (lent j) stop
+    (stops (j .shape-fault .result) (j .shape-fault .ensures) (words-row q j) stop)
 
 sections-fault-requires : tie.Need-sections-fault-requires
 sections-fault-requires c κs =
     let j = c .before .before in
-    omega (arith, few-bytes (given j) (map length (parts j)) (length (lent j)) (shape j (c .enum-told .given .1)))
+    omega (arith, few-bytes (given j) (map length (parts j)) (length (lent j)) (shape c))
 
-enum-known-number-2 : tie.Need-enum-known-number-2
-enum-known-number-2 c = search needs
+is-fine-requires-2 : tie.Need-is-fine-requires-2
+is-fine-requires-2 c κs = search needs
 
 returns-2 : tie.Need-returns-2
 returns-2 c q e =
-    let scanned = c .before .before .before in
-    let j = scanned .before .before .before in
-    let stopped = sym (word-row q e (joined (parts j)))
-    ∙ sym (scanned .sections-fault .ensures) ∙ ap faultRefusal (c .before .number2 .given .1) in
-    write-refused q (given j) (parts j) (length (lent j)) _ (lent j)
-    (first-pass (wordRefusal q (joined (parts j))) (shape-free j (scanned .before .enum-told .given .1)) ∙ stopped)
-
-enum-told-2 : tie.Need-enum-told-2
-enum-told-2 c = search needs
+    let w = c .before .before in
+    let j = w .before .before .before in
+    let stop = sym (c .before .is-fine2 .ensures) ∙ not-true _ (c .if2 .taken) in
+    write-refused q (given j) (parts j) (length (lent j)) (w .sections-fault .result) (lent j) stop
+    (goes-on (j .shape-fault .result) (j .shape-fault .ensures) (words-row q j) (shape-fine (w .before))
+    (last-answer (w .sections-fault .ensures ∙ word-row q e (joined (parts j)))))
 
 fill-record-requires : tie.Need-fill-record-requires
 fill-record-requires c κs =
-    let scanned = c .before .before .before in
-    let j = scanned .before .before .before in
-    let told = scanned .before .enum-told .given .1 in
-    (shape j told .allowed, room-given (given j) (map length (parts j)) (length (lent j)) (shape j told))
+    let d = c .before .before .before .before in
+    let j = d .before .before in
+    (shape d .allowed, room-given (given j) (map length (parts j)) (length (lent j)) (shape d))
 
 same-length : tie.Need-same-length
 same-length c = search needs
@@ -87,12 +94,13 @@ same-length c = search needs
 returns-3 : tie.Need-returns-3
 returns-3 c q e =
     let filled = c .before .before in
-    let scanned = filled .before .before .before .before in
-    let j = scanned .before .before .before in
-    let words-free = sym (word-row q e (joined (parts j)))
-    ∙ sym (scanned .sections-fault .ensures) ∙ ap faultRefusal (filled .before .before .enum-told2 .given .1) in
+    let n = filled .before .before in
+    let w = n .before .before in
+    let j = w .before .before .before in
+    let words-fine = sym (n .before .is-fine2 .ensures) ∙ not-false _ (n .if2 .left) in
     write-done q (given j) (parts j) (length (lent j)) (lent j) (filled .fill-record .last .1 .1 .1 .1 .1 .1 .1 .1 .1 .1 .1 .1 .0)
-    (shape-free j (scanned .before .enum-told .given .1)) words-free (filled .fill-record .ensures)
+    (shape-free (w .before)) (fine-none (w .sections-fault .result) (w .sections-fault .ensures ∙ word-row q e (joined (parts j))) words-fine)
+    (filled .fill-record .ensures)
 
 pub write-spec : {M : Type 1} → statement M
 write-spec =
@@ -100,13 +108,11 @@ write-spec =
     (tie.spec
     slice-aggregate-shape-fault
     shape-fault-requires
-    enum-known-number
+    is-fine-requires
     returns
-    enum-told
     sections-fault-requires
-    enum-known-number-2
+    is-fine-requires-2
     returns-2
-    enum-told-2
     fill-record-requires
     same-length
     returns-3)
