@@ -11,21 +11,20 @@ use borrow.Author.Tests.{leb-true, le-leb}
 use Rattle.algebra.specs.Counting.{All}
 use Rattle.algebra.proofs.Counting.{append-all, all-append}
 use Rattle.field.specs.Prime.{Prime}
-use Rattle.field.specs.Element.{Elem, of, wordOf, words}
+use Rattle.field.specs.Element.{of, wordOf, words}
 use Rattle.field.proofs.Words.{words-back}
 use Rattle.domain.specs.Size.{maxSize}
 use Rattle.domain.specs.Qualifies.{Qualifies}
-use Rattle.domain.specs.Polynomial.{Poly}
 use Rattle.protocol.specs.Three.{Three, listed, mapThree}
 use Rattle.protocol.specs.Circuit.{Circuit, sizesOf, largest}
 use Rattle.protocol.specs.Checks.{Openings, mapOpenings, listOpenings}
 use Rattle.protocol.specs.Messages.{Messages, mapMessages, lengths, messages}
-use Rattle.protocol.specs.Refusals.{Refusal, Outcome, Done, judged, listRefusal, maskRefusal, assignmentRefusal, challengeRefusal}
+use Rattle.protocol.specs.Refusals.{Refusal, Done, judged, listRefusal, maskRefusal, assignmentRefusal, challengeRefusal}
 use Rattle.protocol.specs.Admission.{countTests, assignmentTests, circuitRefusals, proverRefusal}
 use Rattle.protocol.specs.Calls.{ProverInput, CircuitWords, entriesOf, circuitOf, entryListTests, roundRefusal}
 use Rattle.protocol.specs.Calls.{firstRoundCall, secondRoundCall, thirdRoundCall, fourthRoundCall, fifthRoundCall, openingsCall}
 use Rattle.protocol.specs.Job.{Job, challengeWords, challengePoints, jobRefusal, proof, trueOpenings, conversation, conversationOn, honestConversation}
-use Rattle.protocol.specs.Demand2.{jobOf, CallsDone, CallsGiveProof, CallsAccepted, accepted}
+use Rattle.protocol.specs.Demand2.{jobOf, CallsDone, CallsGiveProof, CallsAccepted}
 use Rattle.protocol.proofs.AdmissionLaws.{job-fits}
 use Rattle.protocol.proofs.Honest.{honest-accepted}
 use Rattle.protocol.proofs.RefusalLaws.{first-none, none-first, refuse-none, none-refuse, and-true}

@@ -17,10 +17,10 @@ use Rattle.domain.specs.Polynomial.{Poly}
 use Rattle.protocol.specs.Three.{A, B, C, Three, listed, mapThree}
 use Rattle.protocol.specs.Circuit.{Circuit, Sizes, sizesOf, publicPart}
 use Rattle.protocol.specs.Index.{Index, mapIndex}
-use Rattle.protocol.specs.Checks.{Transcript, Openings, mapTranscript, mapOpenings, listTranscript, listOpenings, verdict}
+use Rattle.protocol.specs.Checks.{Transcript, Openings, mapTranscript, mapOpenings, listOpenings, verdict}
 use Rattle.protocol.specs.Messages.{Messages, mapMessages}
 use Rattle.protocol.specs.Refusals.{sizeTests, sixSizeTests}
-use Rattle.protocol.specs.Session.{Taken, Judged, unopened, openStep, verdictOf}
+use Rattle.protocol.specs.Session.{Taken, Judged, unopened, verdictOf}
 use Rattle.protocol.specs.Job.{Job, challengeWords, publicWords, conversation, conversationOn}
 use Rattle.protocol.proofs.AdmissionLaws.{WellFormed, JobFits}
 use Rattle.protocol.proofs.IndexPolynomials.{K-size}

@@ -3,7 +3,7 @@ use mathlib.Core.Path.{_≡_, refl, sym, ap, ap₂, _∙_}
 use mathlib.Core.Bool.{true, not, _&&_}
 use mathlib.Core.List.{List, [], _∷_, _++_, map}
 use mathlib.Core.Option.{Option, none, some}
-use Prim.Native.Nat.{ℕ, suc, _-_, _<_, _≤_}
+use Prim.Native.Nat.{ℕ, _-_, _<_, _≤_}
 use lib.Dec.{eqb, ltb, leb}
 use lib.ListN.{length, take, drop, replicate, take-append-drop, length-drop}
 use lib.Seq.{take-at, drop-at, length-take-le}
@@ -20,15 +20,15 @@ use Rattle.protocol.specs.Three.{A, B, C, Three, each, listed}
 use Rattle.protocol.specs.Circuit.{Sizes, largest}
 use Rattle.protocol.specs.Checks.{Transcript, Openings, Verdict, listTranscript, listOpenings}
 use Rattle.protocol.specs.Messages.{Messages, lengths}
-use Rattle.protocol.specs.Refusals.{Refusal, first, pairs, sizeTests, sixSizeTests, turnRefusal, sizeRefusal, listRefusal, wordRefusal, challengeRefusal, lengthRefusal}
-use Rattle.protocol.specs.Session.{Session, Stepped, Step, Open, Alpha, Eta, Beta, Delta, Gamma, Last, Judged, unopened, blank, unless, all, inTurn}
-use Rattle.protocol.specs.Session.{allBelow, publicFits, transcriptFits, leftBySteps, verdictOf, stepped, after}
+use Rattle.protocol.specs.Refusals.{Refusal, first, sizeTests, sixSizeTests, turnRefusal, sizeRefusal, listRefusal, wordRefusal, challengeRefusal, lengthRefusal}
+use Rattle.protocol.specs.Session.{Session, Stepped, Step, Open, Alpha, Eta, Beta, Delta, Gamma, Last, Judged, unopened, unless, all, inTurn}
+use Rattle.protocol.specs.Session.{allBelow, publicFits, transcriptFits, leftBySteps, stepped, after}
 use Rattle.protocol.specs.Session.{openRefusal, alphaRefusal, etaRefusal, betaRefusal, deltaRefusal, gammaRefusal, openingsRefusal}
 use Rattle.protocol.specs.Session.{openStep, alphaStep, etaStep, betaStep, deltaStep, gammaStep, openingsStep}
-use Rattle.protocol.specs.Verdicts.{AllowedVerdict, VerdictsAllowed, StepsPass, OnlyStepsPass}
+use Rattle.protocol.specs.Verdicts.{VerdictsAllowed, StepsPass, OnlyStepsPass}
 use Rattle.protocol.proofs.RefusalLaws.{first-none, refuse-none, and-true, all-true, true-all, words-below, wordRefusal-none}
-use Rattle.protocol.proofs.TakenSteps.{Heard, HeardWords, Short, all-below, zeros-pass, heard-words}
-use Rattle.protocol.proofs.TakenSteps.{state, open-taken, alpha-taken, eta-taken, beta-taken, delta-taken, gamma-taken}
+use Rattle.protocol.proofs.TakenSteps.{Heard, Short, all-below, zeros-pass}
+use Rattle.protocol.proofs.TakenSteps.{open-taken, alpha-taken, eta-taken, beta-taken, delta-taken, gamma-taken}
 
 -- what the last step's test says of a session
 pub record LeftBySteps (q : Prime) (s : Session) : Type 0 where

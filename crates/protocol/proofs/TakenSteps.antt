@@ -1,7 +1,7 @@
 -- The steps of a session that nothing refuses: with allowed sizes, field words, challenges outside their domains and declared lengths
 -- within the table every step is taken, and the last answer is the verdict. Assumes nothing.
 use mathlib.Core.Path.{_≡_, refl, ap, ap₂, _∙_}
-use mathlib.Core.Bool.{Bool, true, not, _&&_}
+use mathlib.Core.Bool.{true, not, _&&_}
 use mathlib.Core.List.{List, [], _∷_, _++_, map}
 use mathlib.Core.Option.{Option, none}
 use Prim.Native.Nat.{ℕ, zero, suc, _-_, _<_, _≤_}
@@ -19,8 +19,8 @@ use Rattle.protocol.specs.Three.{MatrixName, A, B, C, at, listed}
 use Rattle.protocol.specs.Circuit.{Sizes, largest}
 use Rattle.protocol.specs.Checks.{Transcript, Openings, listTranscript, listOpenings, withα, withη, withβ, withδ}
 use Rattle.protocol.specs.Messages.{Messages, lengths}
-use Rattle.protocol.specs.Refusals.{Refusal, pairs, sixSizeTests, turnRefusal, sizeRefusal, listRefusal, wordRefusal, challengeRefusal, lengthRefusal}
-use Rattle.protocol.specs.Session.{Session, Stepped, Taken, Judged, unopened, blank, unless, onward, all, inTurn, allBelow, publicFits, transcriptFits, leftBySteps}
+use Rattle.protocol.specs.Refusals.{Refusal, sixSizeTests, turnRefusal, sizeRefusal, listRefusal, wordRefusal, challengeRefusal, lengthRefusal}
+use Rattle.protocol.specs.Session.{Session, Stepped, Taken, Judged, blank, unless, onward, all, inTurn, allBelow, publicFits, transcriptFits, leftBySteps}
 use Rattle.protocol.specs.Session.{openRefusal, alphaRefusal, etaRefusal, betaRefusal, deltaRefusal, gammaRefusal, openingsRefusal}
 use Rattle.protocol.specs.Session.{openStep, alphaStep, etaStep, betaStep, deltaStep, gammaStep, openingsStep, verdictOf}
 use Rattle.protocol.proofs.RefusalLaws.{none-first, none-refuse, all-true, below-words, none-wordRefusal, none-lengthRefusal}

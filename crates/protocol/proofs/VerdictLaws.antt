@@ -1,13 +1,13 @@
 -- What each verdict says of the three equations. Assumes nothing.
 use mathlib.Core.Path.{_≡_, refl}
 use mathlib.Core.Bool.{Bool, true, false}
-use mathlib.Core.List.{List, [], _∷_}
+use mathlib.Core.List.{List}
 use Rattle.algebra.specs.Lists.{pick}
 use Rattle.field.specs.Prime.{Prime}
 use Rattle.field.specs.Element.{Elem}
 use Rattle.field.proofs.Field.{equal-true, equal-false, true-equal}
 use Rattle.protocol.specs.Circuit.{Sizes}
-use Rattle.protocol.specs.Checks.{Transcript, Openings, Accept, Fails, Row, Line, Matrix, Holds, passes, firstFailing, verdict}
+use Rattle.protocol.specs.Checks.{Transcript, Openings, Accept, Fails, Row, Line, Matrix, Holds, passes, verdict}
 use Rattle.protocol.specs.Demand2.{Says, VerdictMeans}
 
 module _ {q : Prime} (s : Sizes) (x : List (Elem q)) (t : Transcript (Elem q)) (o : Openings (Elem q)) where

@@ -1,5 +1,5 @@
 -- The prover's messages, their lengths and their openings (document 01, "Prover"). Assumes nothing.
-use mathlib.Core.List.{List, [], _∷_, tail}
+use mathlib.Core.List.{List, tail}
 use Prim.Native.Nat.{ℕ, _+_, _-_, _*_}
 use Rattle.field.specs.Prime.{Prime}
 use Rattle.field.specs.Element.{Elem, of, _⊗_}

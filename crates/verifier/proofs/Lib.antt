@@ -1,4 +1,3 @@
 pub mod Padding
 pub mod SessionWords
-pub mod StepTurns
 pub mod Turns

@@ -13,6 +13,9 @@ use Rattle.field.specs.Prime.{Prime}
 use Rattle.field.specs.Element.{of}
 use Rattle.domain.specs.Size.{maxSize}
 use Rattle.domain.proofs.SizeLaws.{size-bound}
+use Rattle.protocol.specs.declared.Fault.{Fault}
+use Rattle.protocol.specs.Meanings.{faultRefusal, isFine}
+use Rattle.protocol.proofs.EarlyReturns.{fine-none}
 use Rattle.protocol.specs.Three.{Three, listed}
 use Rattle.protocol.specs.Circuit.{Sizes, largest}
 use Rattle.protocol.specs.Checks.{Openings, listOpenings}
@@ -21,7 +24,15 @@ use Rattle.protocol.specs.Refusals.{Refusal, first, sixSizeTests, turnRefusal, 
 use Rattle.protocol.specs.Session.{Session, inTurn, leftBySteps, openRefusal, alphaRefusal, etaRefusal, betaRefusal, deltaRefusal, gammaRefusal, openingsRefusal}
 use Rattle.protocol.proofs.RefusalLaws.{first-none, refuse-none, and-true, all-true}
 use Rattle.protocol.proofs.Sessions.{InTurn, in-turn, turn-passes}
-use Rattle.verdict.proofs.AllowedSizes.{allowed}
+use Rattle.verdict.proofs.AllowedSizes.{allowed, Allowed, in-turn-allowed}
+
+-- by the code's answer on the turn
+turn-true : (b : Bool) → turnRefusal b ≡ none → b ≡ true
+unfolding turnRefusal
+turn-true b e = refuse-none 1 0 (b ∷ []) e .0
+
+pub turn-allowed : (n stage : ℕ) (s : Sizes) (f : Fault) → faultRefusal f ≡ turnRefusal (inTurn n stage s) → isFine f ≡ true → Allowed s
+turn-allowed n stage s f says fine = in-turn-allowed n stage s (turn-true (inTurn n stage s) (fine-none f says fine))
 
 module _ (q : Prime) (stage : ℕ) (s : Sizes) where
   turn : (n : ℕ) (rows : List (Option Refusal)) → first (turnRefusal (inTurn n stage s) ∷ rows) ≡ none → InTurn n stage s

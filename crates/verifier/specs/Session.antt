@@ -1,5 +1,5 @@
 -- What the values of the session's declared types mean (protocol's Session), and a session as a list of words. Assumes nothing.
-use mathlib.Core.List.{List, [], _∷_, _++_}
+use mathlib.Core.List.{List, _∷_, _++_}
 use Prim.Native.Nat.{ℕ, _+_}
 use lib.ListN.{take, drop, getD}
 use Rattle.domain.specs.Size.{maxSize}

@@ -4,9 +4,9 @@ use borrow.Author.Needs.{needs}
 use borrow.Rule.Slice.PartMut.{same-len-mid}
 use mathlib.Core.Path.{_≡_, refl, sym, ap, _∙_, subst}
 use mathlib.Core.List.{List, _++_, map}
-use Prim.Native.Nat.{ℕ, zero, suc, _+_, _-_, _≤_, _<_}
+use Prim.Native.Nat.{ℕ, suc, _+_, _-_, _≤_, _<_}
 use native.Mathlib.Omega.{arith}
-use lib.ListN.{length, take, drop, getD, replicate, length-map}
+use lib.ListN.{length, take, drop, getD, length-map}
 use lib.Seq.{drop-cons, drop-length, ext-getD}
 use Rattle.algebra.proofs.PolynomialLaws.{length-scale, length-product}
 use Rattle.field.specs.Prime.{Prime}

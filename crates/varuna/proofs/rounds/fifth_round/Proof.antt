@@ -1,18 +1,16 @@
 -- `varuna::rounds::fifth_round` meets its contract. Assumes nothing.
 use mathlib.Core.Path.{_≡_, refl, ap, _∙_}
 use mathlib.Core.List.{List, [], _∷_}
-use Prim.Native.Nat.{ℕ, _-_, max}
+use Prim.Native.Nat.{ℕ}
 use lib.Dec.{lit<}
 use lib.ListN.{length}
-use Rattle.domain.specs.Size.{sizeFor}
 use Rattle.domain.specs.BabyBear.{babyBear}
 use Rattle.domain.proofs.Qualification.{babyBear-qualifies}
 use Rattle.protocol.specs.Circuit.{Circuit, sizesOf, largest}
 use Rattle.protocol.specs.Messages.{Messages, lengths}
 use Rattle.protocol.specs.Meanings.{faultRefusal}
-use Rattle.protocol.specs.Calls.{ProverInput, circuitOf, entriesOf, roundRefusal, fifthRoundCall}
+use Rattle.protocol.specs.Calls.{ProverInput, circuitOf, roundRefusal, fifthRoundCall}
 use Rattle.circuit.specs.Given.{given, proverInput}
-use Rattle.circuit.proofs.Parts.{largest-by-counts}
 use Rattle.varuna.proofs.AnswerLaws.{matched, fill-done}
 use Rattle.circuit.proofs.Fitting.{shaped}
 use Rattle.matrix_sumcheck.proofs.GivenLaws.{challenged, matrix-given}

@@ -1,18 +1,17 @@
 -- `varuna::rounds::fourth_round` meets its contract. Assumes nothing.
 use mathlib.Core.Path.{_≡_, refl, ap, _∙_}
 use mathlib.Core.List.{List, [], _∷_}
-use Prim.Native.Nat.{ℕ, _-_}
+use Prim.Native.Nat.{ℕ}
 use lib.Dec.{lit<}
 use lib.ListN.{length}
 use Rattle.field.specs.Element.{Elem, of, words}
-use Rattle.domain.specs.Size.{sizeFor}
 use Rattle.domain.specs.BabyBear.{babyBear}
 use Rattle.domain.proofs.Qualification.{babyBear-qualifies}
 use Rattle.protocol.specs.Three.{A, B, C, each, mapThree}
 use Rattle.protocol.specs.Circuit.{Circuit, sizesOf}
 use Rattle.protocol.specs.Messages.{Messages, lengths, values, matrixRemainder}
 use Rattle.protocol.specs.Meanings.{faultRefusal}
-use Rattle.protocol.specs.Calls.{ProverInput, circuitOf, entriesOf, roundRefusal, fourthRoundCall}
+use Rattle.protocol.specs.Calls.{ProverInput, circuitOf, roundRefusal, fourthRoundCall}
 use Rattle.circuit.specs.Given.{given, proverInput}
 use Rattle.varuna.specs.Inputs.{threeOf}
 use Rattle.varuna.proofs.AnswerLaws.{matched, fill-three-done, three-same}

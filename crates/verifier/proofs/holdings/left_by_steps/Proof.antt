@@ -1,12 +1,12 @@
 -- `verifier::holdings::left_by_steps` meets its contract. Assumes nothing.
-use mathlib.Core.Path.{_≡_, sym, ap, ap₂, _∙_}
+use mathlib.Core.Path.{sym, ap, ap₂, _∙_}
 use mathlib.Core.Bool.{_&&_}
 use native.Mathlib.Omega.{arith}
 use borrow.Author.Needs.{needs}
 use borrow.Author.Tests.{not-true, not-false}
 use Rattle.domain.proofs.SizeLaws.{size-bound}
 use Rattle.protocol.specs.Meanings.{sizes, transcript}
-use Rattle.protocol.specs.Session.{publicFits, transcriptFits, leftBySteps}
+use Rattle.protocol.specs.Session.{transcriptFits, leftBySteps}
 use Rattle.verdict.proofs.AllowedSizes.{allowed}
 use Rattle.verifier.proofs.holdings.left_by_steps.Statement.{statement}
 use Rattle.verifier.proofs.holdings.left_by_steps.Tie as tie

@@ -14,7 +14,7 @@ use Rattle.protocol.specs.Refusals.{Refusal, first, wordRefusal, challengeRefus
 use Rattle.protocol.specs.Session.{alphaRefusal}
 use Rattle.protocol.proofs.EarlyReturns.{stops, goes-on, stops-among, goes-past, last-answer}
 use Rattle.verdict.proofs.AllowedSizes.{Allowed}
-use Rattle.verifier.proofs.StepTurns.{turn-allowed}
+use Rattle.verifier.proofs.Turns.{turn-allowed}
 use Rattle.verifier.proofs.refusals.judge_alpha.Statement.{statement}
 use Rattle.verifier.proofs.refusals.judge_alpha.Tie as tie
 
