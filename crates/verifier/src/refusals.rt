@@ -12,7 +12,7 @@ ghost use Rattle.domain.specs.Size.{isSize, maxSize};
 ghost use Rattle.domain.specs.Qualifies.{Qualifies};
 ghost use Rattle.protocol.specs.Index.{listIndex};
 ghost use Rattle.protocol.specs.Checks.{listOpenings};
-ghost use Rattle.protocol.specs.Refusals.{first, refuse, turnRefusal, wordRefusal, challengeRefusal};
+ghost use Rattle.protocol.specs.Refusals.{first, refuse, turnRefusal, wordRefusal, challengeRefusal, lengthRefusal};
 ghost use Rattle.protocol.specs.Session.{inTurn, openRefusal, alphaRefusal, etaRefusal, betaRefusal, deltaRefusal, gammaRefusal, openingsRefusal};
 ghost use Rattle.protocol.specs.Meanings.{faultRefusal, three, sizes, transcript, indexWords, openings};
 use crate::holdings::left_by_steps;
@@ -23,7 +23,6 @@ use protocol::Transcript;
 use protocol::Triple;
 use protocol::is_fine;
 use protocol::lengths::message_lengths;
-use protocol::scans::first_failed;
 use protocol::scans::judge_words;
 use protocol::six_sizes::judge_sizes;
 use protocol::six_sizes::largest;
@@ -49,21 +48,45 @@ fn judge_turn(n: u32, stage: u32, s: Sizes) -> Fault
     }
 }
 
-// 6 and 10: the challenge y is no field word, or lies in the domain of size n.
-fn judge_challenge(p: u32, position: usize, n: u32, y: u32) -> Fault
+// 11: a declared length is above the table's.
+fn judge_lengths(declared: &[u32], most: &[usize]) -> Fault
+    requires { ⌜ length (now most) ≡ length (now declared) ⌝ }
+    ensures { λ r. ⌜ faultRefusal r ≡ lengthRefusal (now (declared .entry)) (now (most .entry)) ⌝ }
+{
+    let mut i = 0;
+    while i < declared.len() {
+        if most[i] < declared[i] as usize {
+            return Fault::Refused(11, i);
+        }
+        i += 1;
+    }
+    Fault::Fine
+}
+
+// 6, 10 and 11 of a step with a challenge: y is no field word, or lies in the domain of size n; a declared length is above the table's.
+fn judge_challenge(
+    p: u32,
+    position: usize,
+    n: u32,
+    y: u32,
+    declared: &[u32],
+    most: &[usize],
+) -> Fault
     requires { ⌜ 1 < p ⌝ }
     requires { ⌜ isSize n ≡ true ⌝ }
+    requires { ⌜ length (now most) ≡ length (now declared) ⌝ }
     ensures { λ r. ⌜ ((q : Prime) → Qualifies q → q .p ≡ p
-        → faultRefusal r ≡ first (wordRefusal q (y ∷ []) ∷ challengeRefusal {q = q} position (n ∷ []) (of y ∷ []) ∷ [])) ⌝ }
+        → faultRefusal r
+        ≡ first (wordRefusal q (y ∷ []) ∷ challengeRefusal {q = q} position (n ∷ []) (of y ∷ [])
+        ∷ lengthRefusal (now (declared .entry)) (now (most .entry)) ∷ [])) ⌝ }
 {
     if p <= y {
         return Fault::Refused(6, 0);
     }
     if domain::is_inside(p, n, y) {
-        Fault::Refused(10, position)
-    } else {
-        Fault::Fine
+        return Fault::Refused(10, position);
     }
+    judge_lengths(declared, most)
 }
 
 pub fn judge_open(p: u32, s: Sizes, x: &[u32]) -> Fault
@@ -95,17 +118,10 @@ pub fn judge_alpha(
     if !is_fine(turn) {
         return turn;
     }
-    let challenge = judge_challenge(p, 0, s.r, alpha);
-    if !is_fine(challenge) {
-        return challenge;
-    }
-    let most = message_lengths(s);
-    let tests = [
-        witness as usize <= most.witness,
-        mask as usize <= most.mask,
-        quotient as usize <= most.rowQuotient,
-    ];
-    first_failed(11, 0, &tests)
+    let table = message_lengths(s);
+    let declared = [witness, mask, quotient];
+    let most = [table.witness, table.mask, table.rowQuotient];
+    judge_challenge(p, 0, s.r, alpha, &declared, &most)
 }
 
 pub fn judge_eta(p: u32, stage: u32, s: Sizes, sums: Triple, eta: Triple) -> Fault
@@ -127,16 +143,10 @@ pub fn judge_beta(p: u32, stage: u32, s: Sizes, remainder: u32, quotient: u32, b
     if !is_fine(turn) {
         return turn;
     }
-    let challenge = judge_challenge(p, 1, s.c, beta);
-    if !is_fine(challenge) {
-        return challenge;
-    }
-    let most = message_lengths(s);
-    let tests = [
-        remainder as usize <= most.lineRemainder,
-        quotient as usize <= most.lineQuotient,
-    ];
-    first_failed(11, 0, &tests)
+    let table = message_lengths(s);
+    let declared = [remainder, quotient];
+    let most = [table.lineRemainder, table.lineQuotient];
+    judge_challenge(p, 1, s.c, beta, &declared, &most)
 }
 
 pub fn judge_delta(
@@ -158,13 +168,10 @@ pub fn judge_delta(
     if !is_fine(word) {
         return word;
     }
-    let most = message_lengths(s).matrixRemainders;
-    let tests = [
-        remainders.a as usize <= most.a,
-        remainders.b as usize <= most.b,
-        remainders.c as usize <= most.c,
-    ];
-    first_failed(11, 0, &tests)
+    let table = message_lengths(s).matrixRemainders;
+    let declared = [remainders.a, remainders.b, remainders.c];
+    let most = [table.a, table.b, table.c];
+    judge_lengths(&declared, &most)
 }
 
 pub fn judge_gamma(p: u32, stage: u32, s: Sizes, quotient: u32, gamma: u32) -> Fault
@@ -175,12 +182,9 @@ pub fn judge_gamma(p: u32, stage: u32, s: Sizes, quotient: u32, gamma: u32) -> F
     if !is_fine(turn) {
         return turn;
     }
-    let challenge = judge_challenge(p, 2, largest(s.k), gamma);
-    if !is_fine(challenge) {
-        return challenge;
-    }
-    let tests = [quotient as usize <= message_lengths(s).joinedQuotient];
-    first_failed(11, 0, &tests)
+    let declared = [quotient];
+    let most = [message_lengths(s).joinedQuotient];
+    judge_challenge(p, 2, largest(s.k), gamma, &declared, &most)
 }
 
 // 6, for the four openings of one matrix's index polynomials.

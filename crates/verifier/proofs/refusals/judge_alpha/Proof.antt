@@ -1,7 +1,7 @@
--- `verifier::refusals::judge_alpha` meets its contract: the turn, the challenge, the declared lengths. Assumes nothing.
-use mathlib.Core.Path.{_≡_, sym, ap, _∙_}
+-- `verifier::refusals::judge_alpha` meets its contract: the turn, then the challenge and the declared lengths. Assumes nothing.
+use mathlib.Core.Path.{_≡_, refl, sym, ap, _∙_}
 use mathlib.Core.Bool.{true}
-use mathlib.Core.List.{List, [], _∷_, _++_}
+use mathlib.Core.List.{List, [], _∷_}
 use mathlib.Core.Option.{Option}
 use Prim.Native.Nat.{ℕ}
 use borrow.Author.Needs.{needs}
@@ -12,39 +12,23 @@ use Rattle.protocol.specs.Meanings.{sizes, isFine}
 use Rattle.protocol.specs.Messages.{Messages, lengths}
 use Rattle.protocol.specs.Refusals.{Refusal, first, wordRefusal, challengeRefusal, lengthRefusal}
 use Rattle.protocol.specs.Session.{alphaRefusal}
-use Rattle.protocol.proofs.EarlyReturns.{stops, goes-on, stops-among, goes-past, last-answer}
-use Rattle.verdict.proofs.AllowedSizes.{Allowed}
+use Rattle.protocol.proofs.EarlyReturns.{stops, goes-on}
 use Rattle.verifier.proofs.Turns.{turn-allowed}
 use Rattle.verifier.proofs.refusals.judge_alpha.Statement.{statement}
 use Rattle.verifier.proofs.refusals.judge_alpha.Tie as tie
 
--- the rows of the challenge, and of the lengths by a table
+-- the rows after the turn, by the size of the domain and a table of lengths
 module _ (s : tie.Start) where
-  abbrev challenge : Prime → List (Option Refusal)
-  challenge q = wordRefusal q (s .args .alpha ∷ []) ∷ challengeRefusal {q = q} 0 (s .args .s .r ∷ []) (of (s .args .alpha) ∷ []) ∷ []
+  abbrev rowsBy : Prime → ℕ → Messages ℕ ℕ → List (Option Refusal)
+  rowsBy q n l =
+      let a = s .args in
+      wordRefusal q (a .alpha ∷ []) ∷ challengeRefusal {q = q} 0 (n ∷ []) (of (a .alpha) ∷ []) ∷ lengthRefusal (a .witness ∷ a .mask ∷ a .quotient ∷ []) (l .witness ∷ l .mask ∷ l .rowQuotient ∷ []) ∷ []
 
-  abbrev most : Messages ℕ ℕ → Option Refusal
-  most l = let a = s .args in lengthRefusal (a .witness ∷ a .mask ∷ a .quotient ∷ []) (l .witness ∷ l .mask ∷ l .rowQuotient ∷ [])
-
-  abbrev lengths-row : List (Option Refusal)
-  lengths-row = most (lengths (sizes (s .args .s))) ∷ []
+  abbrev rows : Prime → List (Option Refusal)
+  rows q = rowsBy q (s .args .s .r) (lengths (sizes (s .args .s)))
 
 fine : (c : tie.Else1) → isFine (c .before .before .judge-turn .result) ≡ true
 fine c = sym (c .before .is-fine .ensures) ∙ not-false _ (c .if1 .left)
-
-sized : (c : tie.Else1) → Allowed (sizes (c .before .before .before .args .s))
-sized c =
-    let j = c .before .before in
-    let a = j .before .args in
-    turn-allowed 1 (a .stage) (sizes (a .s)) (j .judge-turn .result) (j .judge-turn .ensures) (fine c)
-
--- past the turn
-past-turn : (q : Prime) (c : tie.Else1) {x : Option Refusal} → let s = c .before .before .before in let a = s .args in
-    x ≡ first (challenge s q ++ lengths-row s) → x ≡ alphaRefusal q (a .stage) (sizes (a .s)) (a .witness) (a .mask) (a .quotient) (a .alpha)
-unfolding alphaRefusal
-past-turn q c =
-    let j = c .before .before in
-    goes-on (j .judge-turn .result) (j .judge-turn .ensures) (challenge (j .before) q ++ lengths-row (j .before)) (fine c)
 
 judge-turn-requires : tie.Need-judge-turn-requires
 judge-turn-requires c κs = search needs
@@ -56,42 +40,34 @@ returns : tie.Need-returns
 unfolding alphaRefusal
 returns c q Q e =
     let j = c .before .before in
-    stops (j .judge-turn .result) (j .judge-turn .ensures) (challenge (j .before) q ++ lengths-row (j .before))
-    (sym (c .before .is-fine .ensures) ∙ not-true _ (c .if1 .taken))
-
-judge-challenge-requires : tie.Need-judge-challenge-requires
-judge-challenge-requires c κs = (search needs, sized c .R-size)
-
-is-fine-requires-2 : tie.Need-is-fine-requires-2
-is-fine-requires-2 c κs = search needs
-
-returns-2 : tie.Need-returns-2
-returns-2 c q Q e =
-    let k = c .before .before in
-    let s = k .before .before .before .before in
-    past-turn q (k .before)
-    (stops-among (k .judge-challenge .result) (challenge s q) (k .judge-challenge .ensures q Q e) (lengths-row s)
-    (sym (c .before .is-fine2 .ensures) ∙ not-true _ (c .if2 .taken)))
+    stops (j .judge-turn .result) (j .judge-turn .ensures) (rows (j .before) q) (sym (c .before .is-fine .ensures) ∙ not-true _ (c .if1 .taken))
 
 message-lengths-requires : tie.Need-message-lengths-requires
 message-lengths-requires c κs = search needs
 
-slice-aggregate-first-failed : tie.Need-slice-aggregate-first-failed
-slice-aggregate-first-failed c = search needs
+slice-aggregate-judge-challenge : tie.Need-slice-aggregate-judge-challenge
+slice-aggregate-judge-challenge c = refl
 
-first-failed-requires : tie.Need-first-failed-requires
-first-failed-requires c κs = search needs
+slice-aggregate-judge-challenge-2 : tie.Need-slice-aggregate-judge-challenge-2
+slice-aggregate-judge-challenge-2 c = refl
 
-returns-3 : tie.Need-returns-3
-unfolding lengthRefusal
-returns-3 c q Q e =
-    let l = c .before .before .before .before .before in
+judge-challenge-requires : tie.Need-judge-challenge-requires
+judge-challenge-requires c κs =
+    let d = c .before .before .before in
+    let j = d .before .before in
+    let a = j .before .args in
+    let sized = turn-allowed 1 (a .stage) (sizes (a .s)) (j .judge-turn .result) (j .judge-turn .ensures) (fine d) in
+    (search needs, (sized .R-size, refl))
+
+returns-2 : tie.Need-returns-2
+unfolding alphaRefusal
+returns-2 c q Q e =
+    let l = c .before .before .before in
     let d = l .before in
-    let k = d .before .before in
-    let s = k .before .before .before .before in
-    past-turn q (k .before)
-    (goes-past (k .judge-challenge .result) (challenge s q) (k .judge-challenge .ensures q Q e) (lengths-row s) (sym (d .before .is-fine2 .ensures) ∙ not-false _ (d .if2 .left))
-    (last-answer (c .first-failed .ensures ∙ ap (most s) (l .message-lengths .ensures))))
+    let j = d .before .before in
+    let s = j .before in
+    goes-on (j .judge-turn .result) (j .judge-turn .ensures) (rows s q) (fine d)
+    (c .judge-challenge .ensures q Q e ∙ ap (λ l. first (rowsBy s q (s .args .s .r) l)) (l .message-lengths .ensures))
 
 pub judge-alpha-spec : {M : Type 1} → statement M
 judge-alpha-spec =
@@ -100,10 +76,8 @@ judge-alpha-spec =
     judge-turn-requires
     is-fine-requires
     returns
-    judge-challenge-requires
-    is-fine-requires-2
-    returns-2
     message-lengths-requires
-    slice-aggregate-first-failed
-    first-failed-requires
-    returns-3)
+    slice-aggregate-judge-challenge
+    slice-aggregate-judge-challenge-2
+    judge-challenge-requires
+    returns-2)

@@ -1,5 +1,5 @@
 -- `verifier::refusals::judge_delta` meets its contract: the turn, the words, the declared lengths. Assumes nothing.
-use mathlib.Core.Path.{_≡_, sym, ap, _∙_}
+use mathlib.Core.Path.{_≡_, refl, sym, ap, _∙_}
 use mathlib.Core.List.{List, [], _∷_, _++_}
 use mathlib.Core.Option.{Option}
 use Prim.Native.Nat.{ℕ}
@@ -70,31 +70,24 @@ returns-2 c q e =
 message-lengths-requires : tie.Need-message-lengths-requires
 message-lengths-requires c κs = search needs
 
-cast-t17 : tie.Need-cast-t17
-cast-t17 c = search needs
+slice-aggregate-judge-lengths : tie.Need-slice-aggregate-judge-lengths
+slice-aggregate-judge-lengths c = refl
 
-cast-t18 : tie.Need-cast-t18
-cast-t18 c = search needs
+slice-aggregate-judge-lengths-2 : tie.Need-slice-aggregate-judge-lengths-2
+slice-aggregate-judge-lengths-2 c = refl
 
-cast-t19 : tie.Need-cast-t19
-cast-t19 c = search needs
-
-slice-aggregate-first-failed : tie.Need-slice-aggregate-first-failed
-slice-aggregate-first-failed c = search needs
-
-first-failed-requires : tie.Need-first-failed-requires
-first-failed-requires c κs = search needs
+judge-lengths-requires : tie.Need-judge-lengths-requires
+judge-lengths-requires c κs = refl
 
 returns-3 : tie.Need-returns-3
-unfolding lengthRefusal
 returns-3 c q e =
-    let l = c .before .before .before .before .before .before .before .before .before in
+    let l = c .before .before .before .before in
     let d = l .before in
     let w = d .before .before in
     let s = w .before .before .before .before .before in
     past-turn q (w .before .before)
     (goes-on (w .judge-words .result) (w .judge-words .ensures ∙ word-row q e (ws s)) (lengths-row s)
-    (sym (d .before .is-fine2 .ensures) ∙ not-false _ (d .if2 .left)) (last-answer (c .first-failed .ensures ∙ ap (most s) (l .message-lengths .ensures))))
+    (sym (d .before .is-fine2 .ensures) ∙ not-false _ (d .if2 .left)) (last-answer (c .judge-lengths .ensures ∙ ap (most s) (l .message-lengths .ensures))))
 
 pub judge-delta-spec : {M : Type 1} → statement M
 judge-delta-spec =
@@ -108,9 +101,7 @@ judge-delta-spec =
     is-fine-requires-2
     returns-2
     message-lengths-requires
-    cast-t17
-    cast-t18
-    cast-t19
-    slice-aggregate-first-failed
-    first-failed-requires
+    slice-aggregate-judge-lengths
+    slice-aggregate-judge-lengths-2
+    judge-lengths-requires
     returns-3)
