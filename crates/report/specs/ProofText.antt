@@ -10,7 +10,7 @@ use Rattle.protocol.specs.Checks.{Row, Line, Matrix, Verdict, Accept, Fails}
 use Rattle.protocol.specs.Refusals.{Refusal}
 use Rattle.protocol.specs.Record.{sections}
 use Rattle.protocol.specs.Session.{Answer, Taken, Judged, Refused}
-use Rattle.protocol.specs.Job.{Job, proof, honestConversation}
+use Rattle.protocol.specs.Job.{Job, jobRefusal, proof, honestConversation}
 use Rattle.text.specs.Ascii.{ascii}
 use Rattle.text.specs.Decimal.{decimal}
 
@@ -58,3 +58,7 @@ module _ (q : Prime) where
   -- the eleven sections and the verdict
   unfoldable pub proofText : Job → List ℕ
   proofText j = lines sectionNames (map words (sections (proof q j))) ++ answerText (getD (honestConversation q j) 6 Taken)
+
+  -- what is printed for a job: its refusal, or its proof and verdict
+  abbrev pub outcomeText : Job → List ℕ
+  outcomeText j = unlessRefused (jobRefusal q j) (proofText j)

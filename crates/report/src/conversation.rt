@@ -1,48 +1,53 @@
 // The verifier's session on messages of the lengths of the table.
 ghost use mathlib.Core.Path.{_≡_};
-ghost use Prim.Native.Nat.{_-_, _≤_};
+ghost use Prim.Native.Nat.{_≤_};
 ghost use Rattle.domain.specs.Size.{maxSize};
+ghost use Rattle.protocol.specs.Messages.{lengths};
 ghost use Rattle.protocol.specs.Meanings.{three, sizes};
 ghost use Rattle.protocol.specs.Meanings as meanings;
 ghost use Rattle.verifier.specs.Session.{sessionMeaning, lastMeaning};
 ghost use Rattle.report.specs.Stages.{afterSums, afterValues, answerAfter, lastAnswer};
+use crate::Challenges;
 use protocol::Opened;
 use protocol::Sizes;
 use protocol::Triple;
-use protocol::six_sizes::largest;
+use protocol::lengths::message_lengths;
 use varuna::session::LastAnswer;
 use varuna::session::Session;
-
-// a - b, and 0 where b is larger.
-fn less(a: u32, b: u32) -> u32
-    ensures { λ r. ⌜ r ≡ a - b ⌝ }
-{
-    if b <= a { a - b } else { 0 }
-}
 
 // The session after the σ and η.
 fn after_sums(s: Sizes, x: &[u32], alpha: u32, sums: Triple, eta: Triple) -> Session
     requires { ⌜ s .c ≤ maxSize ⌝ }
-    ensures { λ r. ⌜ sessionMeaning r ≡ afterSums (sizes s) (now (x .entry)) alpha (three sums) (three eta) ⌝ }
+    ensures { λ r. ⌜ sessionMeaning r
+        ≡ afterSums (sizes s) (lengths (sizes s)) (now (x .entry)) alpha (three sums) (three eta) ⌝ }
 {
-    let witness = less(s.c, s.x) + 1;
-    let quotient = less(s.r, 1);
+    let due = message_lengths(s);
     let opened = Session::new().open(s, x).session;
-    let first = opened.alpha(witness, 2 * s.c, quotient, alpha).session;
+    let first = opened
+        .alpha(
+            due.witness as u32,
+            due.mask as u32,
+            due.rowQuotient as u32,
+            alpha,
+        )
+        .session;
     first.eta(sums, eta).session
 }
 
 // The session after the ω and δ.
 fn after_values(before: Session, s: Sizes, beta: u32, values: Triple, delta: Triple) -> Session
-    ensures { λ r. ⌜ sessionMeaning r ≡ afterValues (sessionMeaning before) (sizes s) beta (three values) (three delta) ⌝ }
+    ensures { λ r. ⌜ sessionMeaning r ≡ afterValues (sessionMeaning before) (lengths (sizes s)) beta (three values) (three delta) ⌝ }
 {
-    let k = s.k;
+    let due = message_lengths(s);
+    let third = before
+        .beta(due.lineRemainder as u32, due.lineQuotient as u32, beta)
+        .session;
+    let g = due.matrixRemainders;
     let remainders = Triple {
-        a: less(k.a, 1),
-        b: less(k.b, 1),
-        c: less(k.c, 1),
+        a: g.a as u32,
+        b: g.b as u32,
+        c: g.c as u32,
     };
-    let third = before.beta(less(s.c, 1), s.c, beta).session;
     third.delta(values, remainders, delta).session
 }
 
@@ -54,10 +59,10 @@ fn answer_after(
     o: Opened,
     index: [[u32; 4]; 3],
 ) -> LastAnswer
-    ensures { λ r. ⌜ lastMeaning r ≡ answerAfter (sessionMeaning before) (sizes s) gamma (meanings.openings o index) ⌝ }
+    ensures { λ r. ⌜ lastMeaning r ≡ answerAfter (sessionMeaning before) (lengths (sizes s)) gamma (meanings.openings o index) ⌝ }
 {
-    let most = largest(s.k);
-    let last = before.gamma(less(most, 1), gamma).session;
+    let due = message_lengths(s);
+    let last = before.gamma(due.joinedQuotient as u32, gamma).session;
     last.openings(o, index).answer
 }
 
@@ -65,22 +70,17 @@ fn answer_after(
 pub fn last_answer(
     s: Sizes,
     x: &[u32],
-    alpha: u32,
+    drawn: Challenges,
     sums: Triple,
-    eta: Triple,
-    beta: u32,
     values: Triple,
-    delta: Triple,
-    gamma: u32,
     o: Opened,
     index: [[u32; 4]; 3],
 ) -> LastAnswer
     requires { ⌜ s .c ≤ maxSize ⌝ }
     ensures { λ r. ⌜ lastMeaning r
-        ≡ lastAnswer (sizes s) (now (x .entry)) alpha (three sums) (three eta) beta (three values) (three delta) gamma
-        (meanings.openings o index) ⌝ }
+        ≡ lastAnswer (sizes s) (lengths (sizes s)) (now (x .entry)) drawn (three sums) (three values) (meanings.openings o index) ⌝ }
 {
-    let summed = after_sums(s, x, alpha, sums, eta);
-    let valued = after_values(summed, s, beta, values, delta);
-    answer_after(valued, s, gamma, o, index)
+    let summed = after_sums(s, x, drawn.alpha, sums, drawn.eta);
+    let valued = after_values(summed, s, drawn.beta, values, drawn.delta);
+    answer_after(valued, s, drawn.gamma, o, index)
 }

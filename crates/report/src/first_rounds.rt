@@ -8,7 +8,7 @@ ghost use Rattle.circuit.specs.Given.{proverInput};
 ghost use Rattle.report.specs.Printed.{Printed};
 ghost use Rattle.report.specs.Stages.{Free, firstLines, firstText, thirdLines, thirdText, mostLine};
 use crate::lines::put_line;
-use circuit::judging::less;
+use circuit::matrices::lengths_of;
 use protocol::Triple;
 use varuna::rounds;
 
@@ -44,8 +44,9 @@ pub fn put_first(
         (firstText (proverInput r c x (now (ea .entry)) (now (eb .entry)) (now (ec .entry)) (now (z .entry)) mask (now (m .entry))))
         (4 * mostLine) p (now (out .exit)) ⌝ }
 {
-    let n = less(c, x) + 1;
-    let k = less(r, 1);
+    let due = lengths_of(r, c, x, ea, eb, ec);
+    let n = due.witness;
+    let k = due.rowQuotient;
     let mut witness = [0u32; 1024];
     let mut quotient = [0u32; 1024];
     rounds::first_round(
@@ -98,8 +99,9 @@ pub fn put_third(
         alpha (three eta))
         (2 * mostLine) p (now (out .exit)) ⌝ }
 {
-    let n = less(c, 1);
-    let k = c as usize;
+    let due = lengths_of(r, c, x, ea, eb, ec);
+    let n = due.lineRemainder;
+    let k = due.lineQuotient;
     let mut remainder = [0u32; 1024];
     let mut quotient = [0u32; 1024];
     rounds::third_round(

@@ -4,17 +4,15 @@ ghost use mathlib.Core.List.{[], _∷_, _++_};
 ghost use Prim.Native.Nat.{_+_, _≤_};
 ghost use lib.ListN.{length};
 ghost use Rattle.protocol.specs.Three.{listed};
-ghost use Rattle.protocol.specs.Circuit.{sizesOf, largest};
-ghost use Rattle.protocol.specs.Calls.{circuitOf};
 ghost use Rattle.protocol.specs.Meanings.{three};
-ghost use Rattle.circuit.specs.Given.{given, proverInput};
+ghost use Rattle.circuit.specs.Given.{proverInput};
 ghost use Rattle.varuna.specs.Inputs.{threeOf};
 ghost use Rattle.report.specs.Printed.{Printed};
 ghost use Rattle.report.specs.Stages.{Free, valueWords, fourthLines, fourthText, fifthText, mostLine, mostFourth};
 use crate::lines::put_line;
 use crate::lines::put_three;
 use crate::messages::words_or_zeros;
-use circuit::judging::less;
+use circuit::matrices::lengths_of;
 use protocol::Triple;
 use varuna::rounds;
 
@@ -44,7 +42,7 @@ pub struct FourthRound {
     pub place: usize,
 }
 
-// Round 4, by the sizes of K_A, K_B, K_C.
+// Round 4.
 pub fn put_fourth(
     r: u32,
     c: u32,
@@ -58,13 +56,11 @@ pub fn put_fourth(
     alpha: u32,
     eta: Triple,
     beta: u32,
-    k: Triple,
     out: &mut [u8],
     at: usize,
 ) -> FourthRound
     requires { ⌜ Free (proverInput r c x (now ea) (now eb) (now ec) (now z) mask (now m))
         (alpha ∷ (listed (three eta) ++ (beta ∷ []))) (alpha ∷ beta ∷ []) ⌝ }
-    requires { ⌜ three k ≡ sizesOf (circuitOf (given r c x (now ea) (now eb) (now ec))) .|K| ⌝ }
     requires { ⌜ at + mostFourth ≤ length (now out) ⌝ }
     ensures { λ f. ⌜ three (f .values)
         ≡ valueWords (proverInput r c x (now (ea .entry)) (now (eb .entry)) (now (ec .entry)) (now (z .entry)) mask (now (m .entry)))
@@ -74,9 +70,10 @@ pub fn put_fourth(
         alpha beta)
         mostFourth (f .place) (now (out .exit)) ⌝ }
 {
-    let na = less(k.a, 1);
-    let nb = less(k.b, 1);
-    let nc = less(k.c, 1);
+    let due = lengths_of(r, c, x, ea, eb, ec).matrixRemainders;
+    let na = due.a;
+    let nb = due.b;
+    let nc = due.c;
     let mut ga = [0u32; 1024];
     let mut gb = [0u32; 1024];
     let mut gc = [0u32; 1024];
@@ -102,7 +99,7 @@ pub fn put_fourth(
     FourthRound { values, place }
 }
 
-// Round 5: h2, of |K| - 1 words.
+// Round 5: h2.
 pub fn put_fifth(
     r: u32,
     c: u32,
@@ -117,20 +114,18 @@ pub fn put_fifth(
     eta: Triple,
     beta: u32,
     delta: Triple,
-    k: u32,
     out: &mut [u8],
     at: usize,
 ) -> usize
     requires { ⌜ Free (proverInput r c x (now ea) (now eb) (now ec) (now z) mask (now m))
         (alpha ∷ (listed (three eta) ++ (beta ∷ listed (three delta)))) (alpha ∷ beta ∷ []) ⌝ }
-    requires { ⌜ k ≡ largest (sizesOf (circuitOf (given r c x (now ea) (now eb) (now ec))) .|K|) ⌝ }
     requires { ⌜ at + mostLine ≤ length (now out) ⌝ }
     ensures { λ p. ⌜ Printed (now (out .entry)) at
         (fifthText (proverInput r c x (now (ea .entry)) (now (eb .entry)) (now (ec .entry)) (now (z .entry)) mask (now (m .entry)))
         alpha beta (three delta))
         mostLine p (now (out .exit)) ⌝ }
 {
-    let n = less(k, 1);
+    let n = lengths_of(r, c, x, ea, eb, ec).joinedQuotient;
     let mut quotient = [0u32; 1024];
     rounds::fifth_round(
         r,

@@ -1,36 +1,17 @@
-// Sizes and words of a job that is not refused, by the public calls of the prover's rounds.
+// The σ of a job that is not refused, and what a round answers, as three words.
 ghost use mathlib.Core.Path.{_≡_};
 ghost use mathlib.Core.List.{[], _∷_};
-ghost use Rattle.protocol.specs.Circuit.{sizesOf};
-ghost use Rattle.protocol.specs.Calls.{circuitOf};
-ghost use Rattle.protocol.specs.Meanings.{three, sizes as sizesMeaning};
-ghost use Rattle.circuit.specs.Given.{given, proverInput, ThreeLists};
+ghost use Rattle.protocol.specs.Meanings.{three};
+ghost use Rattle.circuit.specs.Given.{proverInput};
+ghost use Rattle.varuna.specs.Answers.{threeMeaning};
 ghost use Rattle.report.specs.Stages.{Free, sumWords, threeOrZeros};
-use circuit::matrices::size_of;
-use protocol::Sizes;
 use protocol::Triple;
 use varuna::answers::ThreeWords;
 use varuna::rounds;
 
-pub fn sizes_of(r: u32, c: u32, x: u32, ea: &[u32], eb: &[u32], ec: &[u32]) -> Sizes
-    requires { ⌜ ThreeLists (now ea) (now eb) (now ec) ⌝ }
-    ensures { λ s. ⌜ sizesMeaning s ≡ sizesOf (circuitOf (given r c x (now (ea .entry)) (now (eb .entry)) (now (ec .entry)))) ⌝ }
-{
-    Sizes {
-        r,
-        c,
-        x,
-        k: Triple {
-            a: size_of(ea),
-            b: size_of(eb),
-            c: size_of(ec),
-        },
-    }
-}
-
 // Three words; zeros where the call was refused.
 pub fn words_or_zeros(answer: ThreeWords) -> Triple
-    ensures { λ t. ⌜ three t ≡ threeOrZeros answer ⌝ }
+    ensures { λ t. ⌜ three t ≡ threeOrZeros (threeMeaning answer) ⌝ }
 {
     match answer {
         ThreeWords::Value(t) => t,

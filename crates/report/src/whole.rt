@@ -4,15 +4,15 @@ ghost use Prim.Native.Nat.{_+_, _≤_};
 ghost use lib.ListN.{length};
 ghost use mathlib.Core.Bool.{true};
 ghost use Rattle.domain.specs.Size.{isSize};
+ghost use Rattle.domain.specs.BabyBear.{babyBear};
 ghost use Rattle.protocol.specs.Admission.{countTests};
 ghost use Rattle.protocol.specs.Calls.{circuitOf, entryListTests};
 ghost use Rattle.protocol.specs.Meanings.{three, sizes};
 ghost use Rattle.circuit.specs.Given.{given, proverInput};
 ghost use Rattle.text.specs.Written.{Written};
-ghost use Rattle.report.specs.ProofText.{answerText};
+ghost use Rattle.report.specs.ProofText.{outcomeText};
 ghost use Rattle.report.specs.Printed.{Printed};
-ghost use Rattle.report.specs.Stages.{Free, challengeWords, challengePoints, lastAnswer, publicOf, openedMeaning, jobGiven, jobGivenText};
-ghost use Rattle.report.specs.Stages.{restText, stagesText, mostLast, mostRest, mostProof};
+ghost use Rattle.report.specs.Stages.{FreeJob, jobDrawn, openedMeaning, lastText, restText, stagesText, mostLast, mostRest, mostProof};
 use crate::Challenges;
 use crate::conversation::last_answer;
 use crate::first_rounds::put_first;
@@ -45,25 +45,12 @@ fn put_last(
     requires { ⌜ (isSize (s .c) ≡ true) × (isSize (s .x) ≡ true) × (s .x ≤ s .c) × (length (now z) ≡ s .c) ⌝ }
     requires { ⌜ at + mostLast ≤ length (now out) ⌝ }
     ensures { λ p. ⌜ Printed (now (out .entry)) at
-        (answerText (lastAnswer (sizes s) (publicOf (sizes s) (now (z .entry))) (drawn .alpha) (three sums) (three (drawn .eta)) (drawn .beta)
-        (three values) (three (drawn .delta)) (drawn .gamma) (openedMeaning o i))) mostLast p (now (out .exit)) ⌝ }
+        (lastText (sizes s) (now (z .entry)) drawn (three sums) (three values) (openedMeaning o i)) mostLast p (now (out .exit)) ⌝ }
 {
     let n = s.x as usize;
     let mut x = [0u32; 1024];
     prover::witness::public_words_into((s.c / s.x) as usize, z, &mut x[..n]);
-    let answer = last_answer(
-        s,
-        &x[..n],
-        drawn.alpha,
-        sums,
-        drawn.eta,
-        drawn.beta,
-        values,
-        drawn.delta,
-        drawn.gamma,
-        o,
-        i.arrays(),
-    );
+    let answer = last_answer(s, &x[..n], drawn, sums, values, o, i.arrays());
     put_answer(answer, out, at)
 }
 
@@ -85,16 +72,13 @@ fn put_rest(
     out: &mut [u8],
     at: usize,
 ) -> usize
-    requires { ⌜ Free (proverInput r c x (now ea) (now eb) (now ec) (now z) mask (now m))
-        (challengeWords drawn) (challengePoints drawn) ⌝ }
+    requires { ⌜ FreeJob (proverInput r c x (now ea) (now eb) (now ec) (now z) mask (now m)) drawn ⌝ }
     requires { ⌜ at + mostRest ≤ length (now out) ⌝ }
     ensures { λ p. ⌜ Printed (now (out .entry)) at
         (restText (proverInput r c x (now (ea .entry)) (now (eb .entry)) (now (ec .entry)) (now (z .entry)) mask (now (m .entry)))
-        (drawn .alpha) (three sums) (three (drawn .eta)) (drawn .beta) (three (drawn .delta)) (drawn .gamma)
-        (openedMeaning o i))
+        drawn (three sums) (openedMeaning o i))
         mostRest p (now (out .exit)) ⌝ }
 {
-    let s = messages::sizes_of(r, c, x, ea, eb, ec);
     let fourth = put_fourth(
         r,
         c,
@@ -108,11 +92,9 @@ fn put_rest(
         drawn.alpha,
         drawn.eta,
         drawn.beta,
-        s.k,
         out,
         at,
     );
-    let most = protocol::six_sizes::largest(s.k);
     let last = put_fifth(
         r,
         c,
@@ -127,10 +109,10 @@ fn put_rest(
         drawn.eta,
         drawn.beta,
         drawn.delta,
-        most,
         out,
         fourth.place,
     );
+    let s = circuit::matrices::sizes_of(r, c, x, ea, eb, ec);
     put_last(s, z, drawn, sums, fourth.values, o, i, out, last)
 }
 
@@ -151,13 +133,11 @@ fn put_proof(
     out: &mut [u8],
     at: usize,
 ) -> usize
-    requires { ⌜ Free (proverInput r c x (now ea) (now eb) (now ec) (now z) mask (now m))
-        (challengeWords drawn) (challengePoints drawn) ⌝ }
+    requires { ⌜ FreeJob (proverInput r c x (now ea) (now eb) (now ec) (now z) mask (now m)) drawn ⌝ }
     requires { ⌜ at + mostProof ≤ length (now out) ⌝ }
     ensures { λ p. ⌜ Printed (now (out .entry)) at
         (stagesText (proverInput r c x (now (ea .entry)) (now (eb .entry)) (now (ec .entry)) (now (z .entry)) mask (now (m .entry)))
-        (drawn .alpha) (three (drawn .eta)) (drawn .beta) (three (drawn .delta)) (drawn .gamma)
-        (openedMeaning o i))
+        drawn (openedMeaning o i))
         mostProof p (now (out .exit)) ⌝ }
 {
     let first = put_first(r, c, x, ea, eb, ec, z, mask, m, out, at);
@@ -214,9 +194,9 @@ pub fn put_job(
     requires { ⌜ entryListTests (given r c x (now ea) (now eb) (now ec))
         ≡ countTests (circuitOf (given r c x (now ea) (now eb) (now ec))) ⌝ }
     requires { ⌜ mostProof ≤ length (now out) ⌝ }
-    ensures { λ p. ⌜ Written (now (out .entry)) 0 (jobGivenText
-        (jobGiven (proverInput r c x (now (ea .entry)) (now (eb .entry)) (now (ec .entry)) (now (z .entry)) mask (now (m .entry)))
-        (drawn .alpha) (three (drawn .eta)) (drawn .beta) (three (drawn .delta)) (drawn .gamma))) p (now (out .exit)) ⌝ }
+    ensures { λ p. ⌜ Written (now (out .entry)) 0 (outcomeText babyBear
+        (jobDrawn (proverInput r c x (now (ea .entry)) (now (eb .entry)) (now (ec .entry)) (now (z .entry)) mask (now (m .entry))) drawn))
+        p (now (out .exit)) ⌝ }
 {
     let opened = rounds::openings(
         r,

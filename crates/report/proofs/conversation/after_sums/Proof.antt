@@ -1,8 +1,9 @@
 -- `report::conversation::after_sums` meets its contract. Assumes nothing.
 use mathlib.Core.Path.{ap, _∙_}
-use Prim.Native.Nat.{_+_, _*_}
+use Prim.Native.Nat.{ℕ}
+use native.Mathlib.Omega.{arith}
 use Rattle.domain.specs.BabyBear.{babyBear}
-use Rattle.protocol.specs.Messages.{lengths}
+use Rattle.protocol.specs.Messages.{Messages, lengths}
 use Rattle.protocol.specs.Session.{Session, Stepped, openStep, alphaStep, etaStep}
 use Rattle.protocol.specs.Meanings.{three, sizes}
 use Rattle.report.specs.Stages.{afterSums}
@@ -10,14 +11,15 @@ use borrow.Author.Needs.{needs}
 use Rattle.report.proofs.conversation.after_sums.Statement.{statement}
 use Rattle.report.proofs.conversation.after_sums.Tie as tie
 
-less-requires : tie.Need-less-requires
-less-requires c κs = search needs
+-- the lengths due, from the opened session, and the start
+abbrev at-lengths : tie.After-opened → tie.After-message-lengths
+at-lengths c = c .before .before .before
 
-add-witness : tie.Need-add-witness
-add-witness c = search needs
+abbrev start : tie.After-message-lengths → tie.Start
+start c = c .before .before
 
-less-requires-2 : tie.Need-less-requires-2
-less-requires-2 c κs = search needs
+message-lengths-requires : tie.Need-message-lengths-requires
+message-lengths-requires c κs = search needs
 
 new-requires : tie.Need-new-requires
 new-requires c κs = search needs
@@ -25,8 +27,23 @@ new-requires c κs = search needs
 open-requires : tie.Need-open-requires
 open-requires c κs = search needs
 
-mul-alpha : tie.Need-mul-alpha
-mul-alpha c = search needs
+cast-alpha : tie.Need-cast-alpha
+unfolding lengths
+cast-alpha c =
+    let n = at-lengths (c .before) in
+    omega (arith, start n .pre, ap (λ (l : Messages ℕ ℕ). l .witness) (n .message-lengths .ensures))
+
+cast-alpha-2 : tie.Need-cast-alpha-2
+unfolding lengths
+cast-alpha-2 c =
+    let n = at-lengths (c .before .before) in
+    omega (arith, start n .pre, ap (λ (l : Messages ℕ ℕ). l .mask) (n .message-lengths .ensures))
+
+cast-alpha-3 : tie.Need-cast-alpha-3
+unfolding lengths
+cast-alpha-3 c =
+    let n = at-lengths (c .before .before .before) in
+    omega (arith, start n .good, ap (λ (l : Messages ℕ ℕ). l .rowQuotient) (n .message-lengths .ensures))
 
 alpha-requires : tie.Need-alpha-requires
 alpha-requires c κs = search needs
@@ -35,33 +52,31 @@ eta-requires : tie.Need-eta-requires
 eta-requires c κs = search needs
 
 returns : tie.Need-returns
-unfolding afterSums lengths
+unfolding afterSums
 returns c =
     let at-alpha = c .before .before .before in
-    let at-open = at-alpha .before .before .before in
-    let at-new = at-open .before in
-    let at-less2 = at-new .before in
-    let at-less = at-less2 .before in
-    let start = at-less .before .before in
-    let a = start .args in
+    let at-open = at-alpha .before .before .before .before .before in
+    let n = at-open .before .before in
+    let a = start n .args in
+    let table = n .message-lengths .ensures in
     let next : Stepped → Session = λ s. s .session in
-    let opened = ap next (at-open .«open» .ensures ∙ ap (λ s. openStep babyBear s (sizes (a .s)) (a .x .now)) (at-new .new .ensures)) in
+    let opened = ap next (at-open .«open» .ensures ∙ ap (λ s. openStep babyBear s (sizes (a .s)) (a .x .now)) (at-open .before .new .ensures)) in
     let first =
     ap next
     (at-alpha .alpha .ensures
-    ∙ (λ t. alphaStep babyBear (opened t) (at-less .less .ensures t + 1) (2 * a .s .c) (at-less2 .less2 .ensures t) (a .alpha))) in
+    ∙ (λ t. alphaStep babyBear (opened t) (table t .witness) (table t .mask) (table t .rowQuotient) (a .alpha))) in
     ap next (c .before .eta .ensures ∙ ap (λ s. etaStep babyBear s (three (a .sums)) (three (a .eta))) first)
 
 pub after-sums-spec : {M : Type 1} → statement M
 after-sums-spec =
     tie.close
     (tie.spec
-    less-requires
-    add-witness
-    less-requires-2
+    message-lengths-requires
     new-requires
     open-requires
-    mul-alpha
+    cast-alpha
+    cast-alpha-2
+    cast-alpha-3
     alpha-requires
     eta-requires
     returns)

@@ -1,57 +1,84 @@
 -- `report::conversation::after_values` meets its contract. Assumes nothing.
 use mathlib.Core.Path.{ap, _∙_}
+use Prim.Native.Nat.{ℕ}
+use native.Mathlib.Omega.{arith}
 use Rattle.domain.specs.BabyBear.{babyBear}
-use Rattle.protocol.specs.Messages.{lengths}
+use Rattle.protocol.specs.Messages.{Messages, lengths}
 use Rattle.protocol.specs.Session.{Session, Stepped, betaStep, deltaStep}
-use Rattle.protocol.specs.Meanings.{three, sizes}
+use Rattle.protocol.specs.Meanings.{three}
 use Rattle.verifier.specs.Session.{sessionMeaning}
-use Rattle.varuna.proofs.AnswerLaws.{three-same}
 use Rattle.report.specs.Stages.{afterValues}
 use borrow.Author.Needs.{needs}
 use Rattle.report.proofs.conversation.after_values.Statement.{statement}
 use Rattle.report.proofs.conversation.after_values.Tie as tie
 
-less-requires : tie.Need-less-requires
-less-requires c κs = search needs
+-- the lengths due, from the session after β
+abbrev at-lengths : tie.After-beta → tie.After-message-lengths
+at-lengths c = c .before .before .before
 
-less-requires-2 : tie.Need-less-requires-2
-less-requires-2 c κs = search needs
+message-lengths-requires : tie.Need-message-lengths-requires
+message-lengths-requires c κs = search needs
 
-less-requires-3 : tie.Need-less-requires-3
-less-requires-3 c κs = search needs
+cast-beta : tie.Need-cast-beta
+unfolding lengths
+cast-beta c =
+    let n = c .before in
+    omega (arith, n .before .good, ap (λ (l : Messages ℕ ℕ). l .lineRemainder) (n .message-lengths .ensures))
 
-less-requires-4 : tie.Need-less-requires-4
-less-requires-4 c κs = search needs
+cast-beta-2 : tie.Need-cast-beta-2
+unfolding lengths
+cast-beta-2 c =
+    let n = c .before .before in
+    omega (arith, n .before .good, ap (λ (l : Messages ℕ ℕ). l .lineQuotient) (n .message-lengths .ensures))
 
 beta-requires : tie.Need-beta-requires
 beta-requires c κs = search needs
+
+cast-t11 : tie.Need-cast-t11
+unfolding lengths
+cast-t11 c =
+    let n = at-lengths (c .before .before .before) in
+    omega (arith, n .before .good, ap (λ (l : Messages ℕ ℕ). l .matrixRemainders .a) (n .message-lengths .ensures))
+
+cast-t12 : tie.Need-cast-t12
+unfolding lengths
+cast-t12 c =
+    let n = at-lengths (c .before .before .before .before) in
+    omega (arith, n .before .good, ap (λ (l : Messages ℕ ℕ). l .matrixRemainders .b) (n .message-lengths .ensures))
+
+cast-t13 : tie.Need-cast-t13
+unfolding lengths
+cast-t13 c =
+    let n = at-lengths (c .before .before .before .before .before) in
+    omega (arith, n .before .good, ap (λ (l : Messages ℕ ℕ). l .matrixRemainders .c) (n .message-lengths .ensures))
 
 delta-requires : tie.Need-delta-requires
 delta-requires c κs = search needs
 
 returns : tie.Need-returns
-unfolding afterValues lengths
+unfolding afterValues
 returns c =
-    let at-beta = c .before .before .before in
-    let at-less4 = at-beta .before in
-    let at-less3 = at-less4 .before in
-    let at-less2 = at-less3 .before in
-    let at-less = at-less2 .before in
-    let start = at-less .before .before in
-    let a = start .args in
+    let at-beta = c .before .before .before .before .before .before .before in
+    let n = at-lengths at-beta in
+    let a = n .before .args in
+    let table = n .message-lengths .ensures in
     let next : Stepped → Session = λ s. s .session in
-    let third = ap next (at-beta .beta .ensures ∙ (λ t. betaStep babyBear (sessionMeaning (a .before)) (at-less4 .less4 .ensures t) (a .s .c) (a .beta))) in
-    let lens = three-same (lengths (sizes (a .s)) .matrixRemainders) (at-less .less .ensures) (at-less2 .less2 .ensures) (at-less3 .less3 .ensures) in
-    ap next (c .before .delta .ensures ∙ (λ t. deltaStep babyBear (third t) (three (a .values)) (lens t) (three (a .delta))))
+    let third =
+    ap next
+    (at-beta .beta .ensures
+    ∙ (λ t. betaStep babyBear (sessionMeaning (a .before)) (table t .lineRemainder) (table t .lineQuotient) (a .beta))) in
+    ap next (c .before .delta .ensures ∙ (λ t. deltaStep babyBear (third t) (three (a .values)) (table t .matrixRemainders) (three (a .delta))))
 
 pub after-values-spec : {M : Type 1} → statement M
 after-values-spec =
     tie.close
     (tie.spec
-    less-requires
-    less-requires-2
-    less-requires-3
-    less-requires-4
+    message-lengths-requires
+    cast-beta
+    cast-beta-2
     beta-requires
+    cast-t11
+    cast-t12
+    cast-t13
     delta-requires
     returns)

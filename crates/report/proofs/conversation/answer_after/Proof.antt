@@ -1,22 +1,26 @@
 -- `report::conversation::answer_after` meets its contract. Assumes nothing.
-use mathlib.Core.Path.{_≡_, ap, _∙_}
-use Prim.Native.Nat.{ℕ, _-_}
+use mathlib.Core.Path.{ap, _∙_}
+use Prim.Native.Nat.{ℕ}
+use native.Mathlib.Omega.{arith}
 use Rattle.domain.specs.BabyBear.{babyBear}
 use Rattle.protocol.specs.Circuit.{largest}
-use Rattle.protocol.specs.Messages.{lengths}
+use Rattle.protocol.specs.Messages.{Messages, lengths}
 use Rattle.protocol.specs.Session.{Stepped, gammaStep, openingsStep}
-use Rattle.protocol.specs.Meanings.{three, openings}
+use Rattle.protocol.specs.Meanings.{openings}
 use Rattle.verifier.specs.Session.{sessionMeaning}
 use Rattle.report.specs.Stages.{answerAfter}
 use borrow.Author.Needs.{needs}
 use Rattle.report.proofs.conversation.answer_after.Statement.{statement}
 use Rattle.report.proofs.conversation.answer_after.Tie as tie
 
-largest-requires : tie.Need-largest-requires
-largest-requires c κs = search needs
+message-lengths-requires : tie.Need-message-lengths-requires
+message-lengths-requires c κs = search needs
 
-less-requires : tie.Need-less-requires
-less-requires c κs = search needs
+cast-gamma : tie.Need-cast-gamma
+unfolding lengths largest
+cast-gamma c =
+    let n = c .before in
+    omega (arith, n .before .good, ap (λ (l : Messages ℕ ℕ). l .joinedQuotient) (n .message-lengths .ensures))
 
 gamma-requires : tie.Need-gamma-requires
 gamma-requires c κs = search needs
@@ -25,24 +29,17 @@ openings-requires : tie.Need-openings-requires
 openings-requires c κs = search needs
 
 returns : tie.Need-returns
-unfolding answerAfter lengths
+unfolding answerAfter
 returns c =
-    let at-less = c .before .before .before in
-    let at-largest = at-less .before in
-    let start = at-largest .before in
-    let a = start .args in
-    let most : at-less .less .result ≡ largest (three (a .s .k)) - 1 =
-    at-less .less .ensures ∙ ap (λ (n : ℕ). n - 1) (at-largest .largest .ensures) in
+    let at-gamma = c .before .before in
+    let n = at-gamma .before .before in
+    let a = n .before .args in
     let last = ap (λ (s : Stepped). s .session)
-    (c .before .before .gamma .ensures ∙ ap (λ n. gammaStep babyBear (sessionMeaning (a .before)) n (a .gamma)) most) in
+    (at-gamma .gamma .ensures
+    ∙ ap (λ (l : Messages ℕ ℕ). gammaStep babyBear (sessionMeaning (a .before)) (l .joinedQuotient) (a .gamma)) (n .message-lengths .ensures)) in
     ap (λ (s : Stepped). s .answer) (c .openings .ensures ∙ ap (λ s. openingsStep babyBear s (openings (a .o) (a .index))) last)
 
 pub answer-after-spec : {M : Type 1} → statement M
 answer-after-spec =
     tie.close
-    (tie.spec
-    largest-requires
-    less-requires
-    gamma-requires
-    openings-requires
-    returns)
+    (tie.spec message-lengths-requires cast-gamma gamma-requires openings-requires returns)

@@ -1,5 +1,7 @@
 -- `report::conversation::last_answer` meets its contract. Assumes nothing.
 use mathlib.Core.Path.{ap, _∙_}
+use Prim.Native.Nat.{ℕ}
+use Rattle.protocol.specs.Messages.{Messages, lengths}
 use Rattle.protocol.specs.Meanings.{three, sizes, openings}
 use Rattle.report.specs.Stages.{afterValues, answerAfter}
 use borrow.Author.Needs.{needs}
@@ -18,9 +20,11 @@ answer-after-requires c κs = search needs
 returns : tie.Need-returns
 returns c =
     let a = c .before .before .before .before .args in
+    let d = a .drawn in
+    let l : Messages ℕ ℕ = lengths (sizes (a .s)) in
     let summed = c .before .before .after-sums .ensures in
-    let valued = c .before .after-values .ensures ∙ ap (λ s. afterValues s (sizes (a .s)) (a .beta) (three (a .values)) (three (a .delta))) summed in
-    c .answer-after .ensures ∙ ap (λ s. answerAfter s (sizes (a .s)) (a .gamma) (openings (a .o) (a .index))) valued
+    let valued = c .before .after-values .ensures ∙ ap (λ s. afterValues s l (d .beta) (three (a .values)) (three (d .delta))) summed in
+    c .answer-after .ensures ∙ ap (λ s. answerAfter s l (d .gamma) (openings (a .o) (a .index))) valued
 
 pub last-answer-spec : {M : Type 1} → statement M
 last-answer-spec =

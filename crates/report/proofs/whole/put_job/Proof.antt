@@ -1,19 +1,34 @@
 -- `report::whole::put_job` meets its contract. Assumes nothing.
 use mathlib.Core.Path.{sym, ap, _∙_}
-use Rattle.protocol.specs.Calls.{ProverInput}
-use Rattle.protocol.specs.Meanings.{three}
-use Rattle.circuit.specs.Given.{proverInput}
 use mathlib.Core.List.{[]}
+use mathlib.Core.Option.{Option}
 use Rattle.domain.specs.BabyBear.{babyBear}
-use Rattle.protocol.specs.Calls.{roundRefusal, openingsCall}
-use Rattle.protocol.specs.Job.{proof, trueOpenings}
+use Rattle.protocol.specs.Refusals.{Refusal}
+use Rattle.protocol.specs.Calls.{ProverInput, roundRefusal, openingsCall}
+use Rattle.protocol.specs.Job.{challengeWords, challengePoints, proof, trueOpenings}
+use Rattle.protocol.proofs.CallsProve.{judged-done}
+use Rattle.circuit.specs.Given.{proverInput}
 use Rattle.varuna.specs.Answers.{openingsMeaning}
 use Rattle.text.proofs.WrittenLaws.{written-as}
-use Rattle.report.specs.Stages.{challengeWords, challengePoints}
-use Rattle.report.proofs.JobLaws.{done-free, refused-some, refused-text, free-text}
+use Rattle.report.specs.Stages.{jobDrawn}
+use Rattle.report.proofs.JobLaws.{judged-refused, refused-text, free-text}
 use borrow.Author.Needs.{needs}
 use Rattle.report.proofs.whole.put_job.Statement.{statement}
 use Rattle.report.proofs.whole.put_job.Tie as tie
+
+-- what is given, from the openings, and their refusal
+abbrev start : tie.After-openings → tie.Start
+start c = c .before .before .before .before .before .before .before
+
+abbrev input : tie.Start → ProverInput
+input s =
+    let a = s .args in
+    proverInput (a .r) (a .c) (a .x) (a .ea .now) (a .eb .now) (a .ec .now) (a .z .now) (a .mask) (a .m .now)
+
+abbrev refusal : tie.Start → Option Refusal
+refusal s =
+    let j = jobDrawn (input s) (s .args .drawn) in
+    roundRefusal babyBear (input s) [] [] (challengeWords j) (challengePoints j)
 
 openings-requires : tie.Need-openings-requires
 openings-requires c κs = search needs
@@ -31,12 +46,9 @@ put-proof-requires : tie.Need-put-proof-requires
 unfolding openingsCall
 put-proof-requires c κs =
     let at-openings = c .before .before .before .before in
-    let s = at-openings .before .before .before .before .before .before .before in
-    let a = s .args in
-    let d = a .drawn in
-    let i : ProverInput = proverInput (a .r) (a .c) (a .x) (a .ea .now) (a .eb .now) (a .ec .now) (a .z .now) (a .mask) (a .m .now) in
-    let refusal = roundRefusal babyBear i [] [] (challengeWords d) (challengePoints d) in
-    let found = done-free refusal _ (sym (ap openingsMeaning (c .before .before .opened2 .given .1)) ∙ at-openings .openings .ensures) in
+    let found =
+    judged-done (refusal (start at-openings)) _
+    (sym (at-openings .openings .ensures) ∙ ap openingsMeaning (c .before .before .opened2 .given .1)) in
     (record { none-refused = found .0 }, search needs)
 
 same-length : tie.Need-same-length
@@ -47,14 +59,10 @@ unfolding openingsCall
 returns c =
     let at-opened = c .before .before .before .before .before in
     let at-openings = at-opened .before .before in
-    let s = at-openings .before .before .before .before .before .before .before in
-    let a = s .args in
-    let d = a .drawn in
-    let i : ProverInput = proverInput (a .r) (a .c) (a .x) (a .ea .now) (a .eb .now) (a .ec .now) (a .z .now) (a .mask) (a .m .now) in
-    let refusal = roundRefusal babyBear i [] [] (challengeWords d) (challengePoints d) in
-    let found = refused-some refusal _ (sym (ap openingsMeaning (at-opened .opened .given .1)) ∙ at-openings .openings .ensures) in
-    written-as (refused-text i (d .alpha) (three (d .eta)) (d .beta) (three (d .delta)) (d .gamma) (s .pre .0) found)
-    (c .before .before .put-refused .ensures .written)
+    let s = start at-openings in
+    let found =
+    judged-refused (refusal s) _ (sym (at-openings .openings .ensures) ∙ ap openingsMeaning (at-opened .opened .given .1)) in
+    written-as (refused-text (input s) (s .args .drawn) (s .pre .0) found) (c .before .before .put-refused .ensures .written)
 
 same-length-2 : tie.Need-same-length-2
 same-length-2 c = search needs
@@ -64,14 +72,10 @@ unfolding openingsCall trueOpenings proof
 returns-2 c =
     let at-opened2 = c .before .before .before .before .before in
     let at-openings = at-opened2 .before .before in
-    let s = at-openings .before .before .before .before .before .before .before in
-    let a = s .args in
-    let d = a .drawn in
-    let i : ProverInput = proverInput (a .r) (a .c) (a .x) (a .ea .now) (a .eb .now) (a .ec .now) (a .z .now) (a .mask) (a .m .now) in
-    let refusal = roundRefusal babyBear i [] [] (challengeWords d) (challengePoints d) in
-    let found = done-free refusal _ (sym (ap openingsMeaning (at-opened2 .opened2 .given .1)) ∙ at-openings .openings .ensures) in
-    written-as
-    (free-text i (d .alpha) (three (d .eta)) (d .beta) (three (d .delta)) (d .gamma) (s .pre .0) _ _ (record { none-refused = found .0 }) (found .1))
+    let s = start at-openings in
+    let found =
+    judged-done (refusal s) _ (sym (at-openings .openings .ensures) ∙ ap openingsMeaning (at-opened2 .opened2 .given .1)) in
+    written-as (free-text (input s) (s .args .drawn) (s .pre .0) _ _ (record { none-refused = found .0 }) (sym (found .1)))
     (c .before .before .put-proof .ensures .written)
 
 pub put-job-spec : {M : Type 1} → statement M

@@ -6,8 +6,9 @@ use native.Mathlib.Nat.{div-le-self}
 use lib.ListN.{getD}
 use Rattle.algebra.specs.Lists.{tabulate}
 use Rattle.domain.proofs.SizeLaws.{size-positive, size-bound, size-quotient-positive}
+use Rattle.protocol.specs.Messages.{lengths}
 use Rattle.protocol.specs.Meanings.{three, sizes, openings}
-use Rattle.poly.proofs.LentParts.{part-length, filled-within, filled-part, filled-length}
+use Rattle.poly.proofs.LentParts.{lent-length, back-holds, back-length, back-is}
 use Rattle.prover.proofs.WitnessLaws.{public-within}
 use Rattle.report.specs.ProofText.{answerText}
 use Rattle.report.specs.Stages.{lastAnswer}
@@ -31,7 +32,7 @@ array-borrow-prefix-x : tie.Need-array-borrow-prefix-x
 array-borrow-prefix-x c = size-bound _ (c .before .before .before .before .pre .0 .1)
 
 slice-aggregate-public-words-into : tie.Need-slice-aggregate-public-words-into
-slice-aggregate-public-words-into c = part-length _ _ (size-bound _ (c .before .before .before .before .before .pre .0 .1))
+slice-aggregate-public-words-into c = lent-length 1024 (size-bound _ (c .before .before .before .before .before .pre .0 .1))
 
 public-words-into-requires : tie.Need-public-words-into-requires
 public-words-into-requires c κs =
@@ -44,12 +45,12 @@ public-words-into-requires c κs =
 array-share-prefix-x : tie.Need-array-share-prefix-x
 array-share-prefix-x c =
     let call = c .before .public-words-into in
-    filled-within _ _ (size-bound _ (c .before .before .before .before .before .before .before .pre .0 .1)) (call .last .1 .1 .0) (call .kept .1 .1 .0)
+    back-holds 1024 (size-bound _ (c .before .before .before .before .before .before .before .pre .0 .1)) (call .last .1 .1 .0) (call .kept .1 .1 .0)
 
 slice-aggregate-last-answer : tie.Need-slice-aggregate-last-answer
 slice-aggregate-last-answer c =
     let call = c .before .before .public-words-into in
-    filled-length _ _ (size-bound _ (c .before .before .before .before .before .before .before .before .pre .0 .1)) (call .last .1 .1 .0) (call .kept .1 .1 .0)
+    back-length 1024 (size-bound _ (c .before .before .before .before .before .before .before .before .pre .0 .1)) (call .last .1 .1 .0) (call .kept .1 .1 .0)
 
 arrays-requires : tie.Need-arrays-requires
 arrays-requires c κs = search needs
@@ -71,16 +72,15 @@ returns c =
     let start = at-public-words-into .before .before .before .before .before .before in
     let call = at-public-words-into .public-words-into in
     let a = start .args in
-    let d = a .drawn in
     let within : a .s .x ≤ 1024 = size-bound _ (start .pre .0 .1) in
     let public =
-    filled-part _ _ within (call .last .1 .1 .0) (call .kept .1 .1 .0) ∙ call .ensures
-    ∙ ap (λ (n : ℕ). tabulate n (λ i. getD (a .z .now) (i * (a .s .c / a .s .x)) 0)) (sym (part-length _ _ within)) in
+    back-is 1024 within (call .last .1 .1 .0) (call .kept .1 .1 .0) ∙ call .ensures
+    ∙ ap (λ (n : ℕ). tabulate n (λ i. getD (a .z .now) (i * (a .s .c / a .s .x)) 0)) (sym (lent-length 1024 within)) in
     printed-as
     (ap answerText
     (at-last-answer .last-answer .ensures
     ∙ (λ t.
-    lastAnswer (sizes (a .s)) (public t) (d .alpha) (three (a .sums)) (three (d .eta)) (d .beta) (three (a .values)) (three (d .delta)) (d .gamma)
+    lastAnswer (sizes (a .s)) (lengths (sizes (a .s))) (public t) (a .drawn) (three (a .sums)) (three (a .values))
     (openings (a .o) (at-arrays .arrays .ensures t)))))
     (c .before .before .put-answer .ensures)
 

@@ -12,21 +12,20 @@ use borrow.Author.Needs.{needs}
 use Rattle.report.proofs.whole.put_proof.Statement.{statement}
 use Rattle.report.proofs.whole.put_proof.Tie as tie
 
+abbrev input : tie.Start → ProverInput
+input s =
+    let a = s .args in
+    proverInput (a .r) (a .c) (a .x) (a .ea .now) (a .eb .now) (a .ec .now) (a .z .now) (a .mask) (a .m .now)
+
 put-first-requires : tie.Need-put-first-requires
 put-first-requires c κs =
     let s = c .before .before .before .before .before .before .before in
-    let a = s .args in
-    let d = a .drawn in
-    let i : ProverInput = proverInput (a .r) (a .c) (a .x) (a .ea .now) (a .eb .now) (a .ec .now) (a .z .now) (a .mask) (a .m .now) in
-    (first-free i {α = d .alpha} {η = three (d .eta)} {β = d .beta} {δ = three (d .delta)} {γ = d .gamma} (s .pre .0), search needs)
+    (first-free (input s) (s .args .drawn) (s .pre .0), search needs)
 
 sums-requires : tie.Need-sums-requires
 sums-requires c κs =
     let s = c .before .before .before .before .before .before .before .before .before .before in
-    let a = s .args in
-    let d = a .drawn in
-    let i : ProverInput = proverInput (a .r) (a .c) (a .x) (a .ea .now) (a .eb .now) (a .ec .now) (a .z .now) (a .mask) (a .m .now) in
-    second-free i {α = d .alpha} {η = three (d .eta)} {β = d .beta} {δ = three (d .delta)} {γ = d .gamma} (s .pre .0)
+    second-free (input s) (s .args .drawn) (s .pre .0)
 
 slice-aggregate-put-three : tie.Need-slice-aggregate-put-three
 slice-aggregate-put-three c = search needs
@@ -39,12 +38,9 @@ put-third-requires c κs =
     let at-put-three = c .before .before .before in
     let at-put-first = at-put-three .before .before .before .before .before .before in
     let s = at-put-first .before .before .before .before .before .before .before .before in
-    let a = s .args in
-    let d = a .drawn in
-    let i : ProverInput = proverInput (a .r) (a .c) (a .x) (a .ea .now) (a .eb .now) (a .ec .now) (a .z .now) (a .mask) (a .m .now) in
     let f = at-put-first .put-first .ensures in
     let g = at-put-three .put-three .ensures in (
-      third-free i {α = d .alpha} {η = three (d .eta)} {β = d .beta} {δ = three (d .delta)} {γ = d .gamma} (s .pre .0),
+      third-free (input s) (s .args .drawn) (s .pre .0),
       omega (arith, s .pre .1, printed-place f, printed-length f, printed-place g, printed-length g),
     )
 
@@ -54,8 +50,6 @@ put-rest-requires c κs =
     let at-put-three = at-put-third .before .before .before .before in
     let at-put-first = at-put-three .before .before .before .before .before .before in
     let s = at-put-first .before .before .before .before .before .before .before .before in
-    let a = s .args in
-    let i : ProverInput = proverInput (a .r) (a .c) (a .x) (a .ea .now) (a .eb .now) (a .ec .now) (a .z .now) (a .mask) (a .m .now) in
     let f = at-put-first .put-first .ensures in
     let g = at-put-three .put-three .ensures in
     let h = at-put-third .put-third .ensures in (
@@ -85,7 +79,6 @@ returns c =
     let s = at-put-first .before .before .before .before .before .before .before .before in
     let a = s .args in
     let d = a .drawn in
-    let i : ProverInput = proverInput (a .r) (a .c) (a .x) (a .ea .now) (a .eb .now) (a .ec .now) (a .z .now) (a .mask) (a .m .now) in
     let σ = at-sums .sums .ensures in
     let whole =
     printed-then (at-put-first .put-first .ensures)
@@ -93,10 +86,8 @@ returns c =
     printed-within
     (printed-as
     (λ t.
-    firstText i
-    ++ (section 3 (listed (σ t))
-    ++ (thirdText i (d .alpha) (three (d .eta))
-    ++ restText i (d .alpha) (σ t) (three (d .eta)) (d .beta) (three (d .delta)) (d .gamma) (openedMeaning (a .o) (a .i)))))
+    firstText (input s)
+    ++ (section 3 (listed (σ t)) ++ (thirdText (input s) (d .alpha) (three (d .eta)) ++ restText (input s) d (σ t) (openedMeaning (a .o) (a .i)))))
     whole)
     (omega arith)
 
