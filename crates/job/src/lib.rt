@@ -16,6 +16,7 @@ mod parts;
 use circuit::checks::check_counts;
 use circuit::checks::check_sizes;
 use protocol::Fault;
+use protocol::is_fine;
 use record::word_at;
 use report::lines::put_refused;
 use text::put_bytes;
@@ -63,12 +64,11 @@ fn judge_head(words: &[u32]) -> Fault
     requires { ⌜ 6 ≤ length (now words) ⌝ }
     ensures { λ f. ⌜ faultRefusal f ≡ headRefusal (now (words .entry)) ⌝ }
 {
-    let sizes = check_sizes(words[0], words[1], words[2]);
-    if circuit::is_fine(sizes) {
-        check_counts(words[3], words[4], words[5])
-    } else {
-        sizes
+    let fault = check_sizes(words[0], words[1], words[2]);
+    if !is_fine(fault) {
+        return fault;
     }
+    check_counts(words[3], words[4], words[5])
 }
 
 // A job of so many bytes, by its words.
