@@ -16,8 +16,7 @@ use Rattle.domain.proofs.SizeLaws.{size-bound}
 use Rattle.protocol.specs.Refusals.{Refusal, sizeTests, sizeRefusal, listRefusal}
 use Rattle.protocol.specs.Record.{wordsIn}
 use Rattle.protocol.proofs.RefusalLaws.{first-none, refuse-none}
-use Rattle.report.specs.ProofText.{refusedText, unlessRefused}
-use Rattle.report.specs.Stages.{jobGivenText}
+use Rattle.report.specs.ProofText.{refusedText, unlessRefused, outcomeText}
 use Rattle.job.specs.JobText.{maxBytes, headBytes, tooLong, tooShort, headRefusal, jobLength, jobOf, jobText}
 use Rattle.job.specs.Parts.{wordsText}
 
@@ -56,7 +55,7 @@ length-most ws free =
 -- the text of a job by its words
 module _ (count : ℕ) (ws : List ℕ) where
   abbrev whole : List ℕ
-  whole = jobGivenText (jobOf ws)
+  whole = outcomeText babyBear (jobOf ws)
 
   abbrev sized : List ℕ
   sized = pick (ltb (4 * jobLength ws) count) tooLong (pick (ltb count (4 * jobLength ws)) tooShort whole)

@@ -12,12 +12,10 @@ use borrow.Author.Tests.{le-leb, eq-eqb}
 use Rattle.domain.specs.Size.{maxSize}
 use Rattle.protocol.specs.Admission.{countTests}
 use Rattle.protocol.specs.Calls.{ProverInput, entriesOf, circuitOf, entryListTests}
-use Rattle.protocol.specs.Meanings.{three}
 use Rattle.circuit.specs.Given.{proverInput}
-use Rattle.varuna.specs.Inputs.{threeOf}
 use Rattle.circuit.proofs.Entries.{length-entriesOf}
 use Rattle.report.specs.declared.Challenges.{Challenges}
-use Rattle.report.specs.Stages.{jobGiven}
+use Rattle.report.specs.Stages.{jobDrawn}
 use Rattle.job.specs.declared.parts.Places.{Places}
 use Rattle.job.specs.JobText.{headRefusal, placeα, jobLength, jobOf}
 use Rattle.job.specs.Parts.{Placed, challengesOf, between, inputAt}
@@ -70,8 +68,7 @@ module _ (ws : List ℕ) (whole : length ws ≡ jobLength ws) (p : Places) (plac
   last-word k n h e =
       getD-take (length ws - p .challenges) (drop (p .challenges) ws) k 0 (omega (arith, whole-end)) ∙ getD-drop (p .challenges) ws k 0 ∙ ap w e
 
-  pub job-in-parts : (d : Challenges) → d ≡ challengesOf last
-      → jobGiven input (d .alpha) (three (d .eta)) (d .beta) (three (d .delta)) (d .gamma) ≡ jobOf ws
+  pub job-in-parts : (d : Challenges) → d ≡ challengesOf last → jobDrawn input d ≡ jobOf ws
   unfolding jobOf circuitOf
   job-in-parts d drawn =
       let na : p .b - 6 ≡ 3 * w 3 = omega arith in
@@ -81,10 +78,15 @@ module _ (ws : List ℕ) (whole : length ws ≡ jobLength ws) (p : Places) (plac
       let nm : p .challenges - p .m ≡ 2 * w 1 = omega arith in
       let first : getD last 0 0 ≡ w (placeα ws) = last-word 0 (placeα ws) (omega arith) (omega arith) in
       let next : (k : ℕ) → k < 9 → getD last k 0 ≡ w (placeα ws + k) = λ k h. last-word k (placeα ws + k) h (omega arith) in
-      ap (λ (d : Challenges). jobGiven input (d .alpha) (three (d .eta)) (d .beta) (three (d .delta)) (d .gamma)) drawn
+      ap (jobDrawn input) drawn
       ∙ λ t.
-      jobGiven
+      jobDrawn
       (proverInput (w 0) (w 1) (w 2) (take (na t) (drop 6 ws)) (take (nb t) (drop (placed .0 t) ws)) (take (nc t) (drop (placed .1 t) ws))
       (take (nz t) (drop (placed .2 t) ws)) (w (placed .3 t)) (take (nm t) (drop (placed .4 t) ws)))
-      (first t) (threeOf (next 1 (lit< tt) t) (next 2 (lit< tt) t) (next 3 (lit< tt) t)) (next 4 (lit< tt) t)
-      (threeOf (next 5 (lit< tt) t) (next 6 (lit< tt) t) (next 7 (lit< tt) t)) (next 8 (lit< tt) t)
+      (record {
+        alpha = first t;
+        eta = record { a = next 1 (lit< tt) t; b = next 2 (lit< tt) t; c = next 3 (lit< tt) t };
+        beta = next 4 (lit< tt) t;
+        delta = record { a = next 5 (lit< tt) t; b = next 6 (lit< tt) t; c = next 7 (lit< tt) t };
+        gamma = next 8 (lit< tt) t;
+      })

@@ -11,9 +11,9 @@ use Rattle.domain.specs.Size.{maxSize}
 use Rattle.protocol.specs.Refusals.{Refusal, first, sizeTests, sizeRefusal, listRefusal}
 use Rattle.protocol.specs.Calls.{entriesOf}
 use Rattle.protocol.specs.Record.{wordsIn}
-use Rattle.protocol.specs.Job.{Job, jobRefusal}
+use Rattle.protocol.specs.Job.{Job}
 use Rattle.text.specs.Ascii.{ascii}
-use Rattle.report.specs.ProofText.{unlessRefused, proofText}
+use Rattle.report.specs.ProofText.{unlessRefused, outcomeText}
 
 abbrev pub tooLong : List ℕ
 tooLong = ascii "job too long\n"
@@ -99,5 +99,4 @@ module _ (q : Prime) where
       (pick (ltb (length bytes) headBytes) tooShort
       (unlessRefused (headRefusal ws)
       (pick (ltb (4 * jobLength ws) (length bytes)) tooLong
-      (pick (ltb (length bytes) (4 * jobLength ws)) tooShort
-      (unlessRefused (jobRefusal q (jobOf ws)) (proofText q (jobOf ws)))))))
+      (pick (ltb (length bytes) (4 * jobLength ws)) tooShort (outcomeText q (jobOf ws))))))

@@ -5,19 +5,19 @@ use Prim.Native.Nat.{ℕ, _-_, _*_}
 use lib.Dec.{ltb}
 use lib.ListN.{take, drop, getD}
 use Rattle.algebra.specs.Lists.{pick}
+use Rattle.domain.specs.BabyBear.{babyBear}
 use Rattle.protocol.specs.Calls.{ProverInput}
 use Rattle.circuit.specs.Given.{proverInput}
 use Rattle.job.specs.declared.parts.Places.{Places}
 use Rattle.report.specs.declared.Challenges.{Challenges}
-use Rattle.report.specs.ProofText.{unlessRefused}
-use Rattle.report.specs.Stages.{jobGivenText}
+use Rattle.report.specs.ProofText.{unlessRefused, outcomeText}
 use Rattle.job.specs.JobText.{tooLong, tooShort, headRefusal, placeB, placeC, placeZ, placeR, placeM, placeα, jobLength, jobOf}
 
 -- the text of a job of so many bytes, by its words
 unfoldable pub wordsText : ℕ → List ℕ → List ℕ
 wordsText count ws =
     unlessRefused (headRefusal ws)
-    (pick (ltb (4 * jobLength ws) count) tooLong (pick (ltb count (4 * jobLength ws)) tooShort (jobGivenText (jobOf ws))))
+    (pick (ltb (4 * jobLength ws) count) tooLong (pick (ltb count (4 * jobLength ws)) tooShort (outcomeText babyBear (jobOf ws))))
 
 -- the places where the parts begin are those of a job's definition
 abbrev pub Placed : List ℕ → Places → Type 0

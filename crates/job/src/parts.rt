@@ -5,9 +5,10 @@ ghost use Prim.Native.Nat.{_^_, _≤_, _<_};
 ghost use lib.ListN.{length};
 ghost use Rattle.protocol.specs.Admission.{countTests};
 ghost use Rattle.protocol.specs.Calls.{circuitOf, entryListTests};
-ghost use Rattle.protocol.specs.Meanings.{three};
+ghost use Rattle.domain.specs.BabyBear.{babyBear};
 ghost use Rattle.text.specs.Written.{Written};
-ghost use Rattle.report.specs.Stages.{jobGiven, jobGivenText, mostProof};
+ghost use Rattle.report.specs.ProofText.{outcomeText};
+ghost use Rattle.report.specs.Stages.{jobDrawn, mostProof};
 ghost use Rattle.job.specs.JobText.{headRefusal, jobLength, jobOf};
 ghost use Rattle.job.specs.Parts.{Placed, challengesOf, inputAt};
 use protocol::Triple;
@@ -100,8 +101,7 @@ fn put_parts(
         ≡ countTests (circuitOf (inputAt (now ws) b c z mask m end .circuit)) ⌝ }
     requires { ⌜ mostProof ≤ length (now out) ⌝ }
     ensures { λ p. ⌜ Written (now (out .entry)) 0
-        (jobGivenText (jobGiven (inputAt (now (ws .entry)) b c z mask m end)
-        (drawn .alpha) (three (drawn .eta)) (drawn .beta) (three (drawn .delta)) (drawn .gamma))) p (now (out .exit)) ⌝ }
+        (outcomeText babyBear (jobDrawn (inputAt (now (ws .entry)) b c z mask m end) drawn)) p (now (out .exit)) ⌝ }
 {
     put_job(
         ws[0],
@@ -123,7 +123,7 @@ pub fn put_whole(ws: &[u32], out: &mut [u8]) -> usize
     requires { ⌜ headRefusal (now ws) ≡ none ⌝ }
     requires { ⌜ length (now ws) ≡ jobLength (now ws) ⌝ }
     requires { ⌜ mostProof ≤ length (now out) ⌝ }
-    ensures { λ p. ⌜ Written (now (out .entry)) 0 (jobGivenText (jobOf (now (ws .entry)))) p (now (out .exit)) ⌝ }
+    ensures { λ p. ⌜ Written (now (out .entry)) 0 (outcomeText babyBear (jobOf (now (ws .entry)))) p (now (out .exit)) ⌝ }
 {
     let p = places_of(ws);
     let end = p.challenges;

@@ -2,7 +2,8 @@
 use mathlib.Core.Path.{ap}
 use native.Mathlib.Omega.{arith}
 use Rattle.text.proofs.WrittenLaws.{written-as}
-use Rattle.report.specs.Stages.{jobGivenText}
+use Rattle.domain.specs.BabyBear.{babyBear}
+use Rattle.report.specs.ProofText.{outcomeText}
 use Rattle.job.proofs.HeadLaws.{whole-length}
 use Rattle.job.proofs.PartLaws.{whole-end, nine-words, in-order, lists-agree, job-in-parts}
 use borrow.Author.Needs.{needs}
@@ -53,7 +54,7 @@ returns c =
     let at-places = at-challenges .before .before in
     let s = at-places .before .before .before in
     written-as
-    (ap jobGivenText
+    (ap (outcomeText babyBear)
     (job-in-parts (s .args .ws .now) (s .pre .1 .0) _ (at-places .places-of .ensures .0) _ (at-challenges .challenges-in .ensures)))
     (c .before .before .put-parts .ensures)
 
