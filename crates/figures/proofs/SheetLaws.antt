@@ -13,7 +13,7 @@ use Rattle.field.specs.Prime.{Prime}
 use Rattle.domain.specs.Size.{isSize, maxSize, sizeFor}
 use Rattle.domain.proofs.SizeLaws.{size-positive, size-bound, sizeFor-is-size}
 use Rattle.protocol.specs.Circuit.{Sizes}
-use Rattle.protocol.specs.Refusals.{Refusal, first, sizeTests, sizeRefusal, listRefusal}
+use Rattle.protocol.specs.Refusals.{Refusal, sizeTests, sizeRefusal, listRefusal}
 use Rattle.protocol.proofs.RefusalLaws.{first-none, refuse-none, and-true}
 use Rattle.figures.specs.Numbers.{numbersIn}
 use Rattle.figures.specs.Range.{SizeRange, InRange}
@@ -24,24 +24,9 @@ use Rattle.figures.specs.Sheet.{sizesFor, sheetRefusal, refusedText, usa
 size-range : (n : ℕ) → isSize n ≡ true → SizeRange n
 size-range n e = record { least = size-positive n e; most = size-bound n e }
 
-second : (o : Option Refusal) → first (none ∷ o ∷ []) ≡ o
-second none = refl
-second (some r) = refl
-
 module _ (r c x a b d : ℕ) where
   abbrev ns : List ℕ
   ns = r ∷ c ∷ x ∷ a ∷ b ∷ d ∷ []
-
-  -- 4 before 5
-  pub sizes-refused : (o : Refusal) → some o ≡ sizeRefusal (sizeTests r c x []) → some o ≡ sheetRefusal ns
-  unfolding sheetRefusal
-  sizes-refused o e = ap (λ t. first (t ∷ listRefusal (map (λ n. leb n maxSize) (a ∷ b ∷ d ∷ [])) ∷ [])) e
-
-  pub counts-judged : (o : Option Refusal) → none ≡ sizeRefusal (sizeTests r c x [])
-      → o ≡ listRefusal (map (λ n. leb n maxSize) (a ∷ b ∷ d ∷ []))
-      → o ≡ sheetRefusal ns
-  unfolding sheetRefusal
-  counts-judged o e f = f ∙ sym (second _) ∙ ap (λ t. first (t ∷ listRefusal (map (λ n. leb n maxSize) (a ∷ b ∷ d ∷ [])) ∷ [])) e
 
   pub not-refused : sheetRefusal ns ≡ none → InRange (sizesFor ns)
   unfolding sheetRefusal sizeRefusal sizeTests

@@ -10,6 +10,7 @@ use numbers::Request;
 use protocol::Fault;
 use protocol::Sizes;
 use protocol::Triple;
+use protocol::is_fine;
 use text::put_bytes;
 use text::put_decimal;
 ghost use mathlib.Core.Path.{_≡_};
@@ -29,11 +30,11 @@ fn judge(request: Request) -> Fault
     ensures { λ f. ⌜ faultRefusal f ≡ sheetRefusal (requestNumbers request) ⌝ }
 {
     let fault = check_sizes(request.r, request.c, request.x);
-    let counts = request.entries;
-    match fault {
-        Fault::Fine => check_counts(counts.a, counts.b, counts.c),
-        Fault::Refused(number, position) => Fault::Refused(number, position),
+    if !is_fine(fault) {
+        return fault;
     }
+    let counts = request.entries;
+    check_counts(counts.a, counts.b, counts.c)
 }
 
 fn sizes_for(request: Request) -> Sizes
