@@ -2,7 +2,7 @@
 // lists come first, then the lent slices, then the contents. Lent slices come as their lengths; a round's beside the lengths that they
 // must have.
 ghost use mathlib.Core.Path.{_≡_};
-ghost use Prim.Native.Nat.{_-_, _<_, _≤_};
+ghost use Prim.Native.Nat.{_<_, _≤_};
 ghost use lib.ListN.{length};
 ghost use Rattle.field.specs.Prime.{Prime};
 ghost use Rattle.domain.specs.Qualifies.{Qualifies};
@@ -99,13 +99,6 @@ fn judge_contents(
         return in_rows;
     }
     checks::check_points(p, r, c, matrices::largest_size(ea, eb, ec), points)
-}
-
-// m - n, and 0 where n is larger: the length that a slice must have.
-pub fn less(m: u32, n: u32) -> usize
-    ensures { λ r. ⌜ r ≡ m - n ⌝ }
-{
-    if n <= m { (m - n) as usize } else { 0 }
 }
 
 // The lengths that the lent slices of the indexer must have.
