@@ -10,13 +10,6 @@ use Rattle.protocol.specs.Checks.{Row, Line, Matrix, Verdict, Accept, Fails}
 use Rattle.protocol.specs.Refusals.{Outcome, Done, Refused}
 use Rattle.protocol.specs.Record.{sectionLengths, startsFrom, readRecord}
 use Rattle.protocol.specs.Session as steps
-use Rattle.protocol.specs.Meanings.{three}
-use Rattle.varuna.specs.declared.answers.Word.{Word}
-use Rattle.varuna.specs.declared.answers.Word.the-variants as word
-use Rattle.varuna.specs.declared.answers.ThreeWords.{ThreeWords}
-use Rattle.varuna.specs.declared.answers.ThreeWords.the-variants as three-words
-use Rattle.varuna.specs.declared.answers.Filled.{Filled}
-use Rattle.varuna.specs.declared.answers.Filled.the-variants as filled
 use Rattle.verifier.specs.Session.{sessionWords}
 
 pub record Answered (T : Type 0) : Type 0 where
@@ -32,19 +25,6 @@ module _ {T : Type 0} where
   abbrev pub answered : Outcome T → T → Answered T
   answered (Done result) before = told 0 0 result
   answered (Refused r) before = told (r .number) (r .position) before
-
--- the answers of crate varuna as outcomes
-abbrev pub wordMeaning : Word → Outcome ℕ
-wordMeaning (word.Value w) = Done w
-wordMeaning (word.Refused number position) = Refused (record { number = number; position = position })
-
-abbrev pub threeMeaning : ThreeWords → Outcome (Three ℕ)
-threeMeaning (three-words.Value t) = Done (three t)
-threeMeaning (three-words.Refused number position) = Refused (record { number = number; position = position })
-
-abbrev pub filledMeaning : Filled → Outcome (Unit {0})
-filledMeaning filled.Done = Done tt
-filledMeaning (filled.Refused number position) = Refused (record { number = number; position = position })
 
 abbrev pub mapOutcome : {S T : Type 0} → (S → T) → Outcome S → Outcome T
 mapOutcome f (Done result) = Done (f result)

@@ -3,9 +3,9 @@ ghost use mathlib.Core.Path.{_≡_};
 ghost use Rattle.protocol.specs.Meanings.{three, sizes as sizesMeaning};
 ghost use Rattle.verifier.specs.Session.{threeAt};
 ghost use Rattle.varuna_c.specs.Inputs.{sizesIn, messagesIn, indexesIn};
-use protocol::Opened;
-use protocol::Sizes;
-use protocol::Triple;
+use varuna::answers::Opened;
+use varuna::answers::Sizes;
+use varuna::answers::Triple;
 
 // The three words of an array.
 pub fn triple(words: &[u32; 3]) -> Triple

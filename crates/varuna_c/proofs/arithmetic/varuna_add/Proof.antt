@@ -1,7 +1,6 @@
 -- `varuna_c::arithmetic::varuna_add` meets its contract. Assumes nothing.
-use Rattle.domain.specs.BabyBear.{babyBear}
-use Rattle.protocol.specs.Calls.{addCall}
-use Rattle.varuna_c.proofs.AnswerLaws.{word-told}
+use mathlib.Core.Path.{ap, _∙_}
+use Rattle.varuna_c.specs.Answers.{answered}
 use borrow.Author.Needs.{needs}
 use Rattle.varuna_c.proofs.arithmetic.varuna_add.Statement.{statement}
 use Rattle.varuna_c.proofs.arithmetic.varuna_add.Tie as tie
@@ -16,8 +15,7 @@ returns : tie.Need-returns
 returns c =
     let at-add = c .before .before .before in
     let start = at-add .before in
-    let a = start .args in
-    word-told (addCall babyBear (a .a) (a .b)) (a .result .now) (c .give-word .ensures) (at-add .add .ensures)
+    c .give-word .ensures ∙ ap (λ o. answered o (start .args .result .now)) (at-add .add .ensures)
 
 pub varuna-add-spec : {M : Type 1} → statement M
 varuna-add-spec = tie.close (tie.spec add-requires give-word-requires returns)

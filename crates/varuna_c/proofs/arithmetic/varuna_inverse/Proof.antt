@@ -1,7 +1,6 @@
 -- `varuna_c::arithmetic::varuna_inverse` meets its contract. Assumes nothing.
-use Rattle.domain.specs.BabyBear.{babyBear}
-use Rattle.protocol.specs.Calls.{inverseCall}
-use Rattle.varuna_c.proofs.AnswerLaws.{word-told}
+use mathlib.Core.Path.{ap, _∙_}
+use Rattle.varuna_c.specs.Answers.{answered}
 use borrow.Author.Needs.{needs}
 use Rattle.varuna_c.proofs.arithmetic.varuna_inverse.Statement.{statement}
 use Rattle.varuna_c.proofs.arithmetic.varuna_inverse.Tie as tie
@@ -16,8 +15,7 @@ returns : tie.Need-returns
 returns c =
     let at-inverse = c .before .before .before in
     let start = at-inverse .before in
-    let a = start .args in
-    word-told (inverseCall babyBear (a .a)) (a .result .now) (c .give-word .ensures) (at-inverse .inverse .ensures)
+    c .give-word .ensures ∙ ap (λ o. answered o (start .args .result .now)) (at-inverse .inverse .ensures)
 
 pub varuna-inverse-spec : {M : Type 1} → statement M
 varuna-inverse-spec = tie.close (tie.spec inverse-requires give-word-requires returns)

@@ -1,7 +1,6 @@
 -- `varuna_c::arithmetic::varuna_multiply` meets its contract. Assumes nothing.
-use Rattle.domain.specs.BabyBear.{babyBear}
-use Rattle.protocol.specs.Calls.{multiplyCall}
-use Rattle.varuna_c.proofs.AnswerLaws.{word-told}
+use mathlib.Core.Path.{ap, _∙_}
+use Rattle.varuna_c.specs.Answers.{answered}
 use borrow.Author.Needs.{needs}
 use Rattle.varuna_c.proofs.arithmetic.varuna_multiply.Statement.{statement}
 use Rattle.varuna_c.proofs.arithmetic.varuna_multiply.Tie as tie
@@ -16,8 +15,7 @@ returns : tie.Need-returns
 returns c =
     let at-multiply = c .before .before .before in
     let start = at-multiply .before in
-    let a = start .args in
-    word-told (multiplyCall babyBear (a .a) (a .b)) (a .result .now) (c .give-word .ensures) (at-multiply .multiply .ensures)
+    c .give-word .ensures ∙ ap (λ o. answered o (start .args .result .now)) (at-multiply .multiply .ensures)
 
 pub varuna-multiply-spec : {M : Type 1} → statement M
 varuna-multiply-spec = tie.close (tie.spec multiply-requires give-word-requires returns)

@@ -1,7 +1,6 @@
 -- `varuna_c::arithmetic::varuna_power` meets its contract. Assumes nothing.
-use Rattle.domain.specs.BabyBear.{babyBear}
-use Rattle.protocol.specs.Calls.{powerCall}
-use Rattle.varuna_c.proofs.AnswerLaws.{word-told}
+use mathlib.Core.Path.{ap, _∙_}
+use Rattle.varuna_c.specs.Answers.{answered}
 use borrow.Author.Needs.{needs}
 use Rattle.varuna_c.proofs.arithmetic.varuna_power.Statement.{statement}
 use Rattle.varuna_c.proofs.arithmetic.varuna_power.Tie as tie
@@ -16,8 +15,7 @@ returns : tie.Need-returns
 returns c =
     let at-power = c .before .before .before in
     let start = at-power .before in
-    let a = start .args in
-    word-told (powerCall babyBear (a .a) (a .n)) (a .result .now) (c .give-word .ensures) (at-power .power .ensures)
+    c .give-word .ensures ∙ ap (λ o. answered o (start .args .result .now)) (at-power .power .ensures)
 
 pub varuna-power-spec : {M : Type 1} → statement M
 varuna-power-spec = tie.close (tie.spec power-requires give-word-requires returns)

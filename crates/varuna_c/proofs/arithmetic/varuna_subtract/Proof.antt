@@ -1,7 +1,6 @@
 -- `varuna_c::arithmetic::varuna_subtract` meets its contract. Assumes nothing.
-use Rattle.domain.specs.BabyBear.{babyBear}
-use Rattle.protocol.specs.Calls.{subtractCall}
-use Rattle.varuna_c.proofs.AnswerLaws.{word-told}
+use mathlib.Core.Path.{ap, _∙_}
+use Rattle.varuna_c.specs.Answers.{answered}
 use borrow.Author.Needs.{needs}
 use Rattle.varuna_c.proofs.arithmetic.varuna_subtract.Statement.{statement}
 use Rattle.varuna_c.proofs.arithmetic.varuna_subtract.Tie as tie
@@ -16,8 +15,7 @@ returns : tie.Need-returns
 returns c =
     let at-subtract = c .before .before .before in
     let start = at-subtract .before in
-    let a = start .args in
-    word-told (subtractCall babyBear (a .a) (a .b)) (a .result .now) (c .give-word .ensures) (at-subtract .subtract .ensures)
+    c .give-word .ensures ∙ ap (λ o. answered o (start .args .result .now)) (at-subtract .subtract .ensures)
 
 pub varuna-subtract-spec : {M : Type 1} → statement M
 varuna-subtract-spec = tie.close (tie.spec subtract-requires give-word-requires returns)

@@ -1,7 +1,6 @@
 -- `varuna_c::polynomials::varuna_evaluate` meets its contract. Assumes nothing.
-use Rattle.domain.specs.BabyBear.{babyBear}
-use Rattle.protocol.specs.Calls.{evaluateCall}
-use Rattle.varuna_c.proofs.AnswerLaws.{word-told}
+use mathlib.Core.Path.{ap, _∙_}
+use Rattle.varuna_c.specs.Answers.{answered}
 use borrow.Author.Needs.{needs}
 use Rattle.varuna_c.proofs.polynomials.varuna_evaluate.Statement.{statement}
 use Rattle.varuna_c.proofs.polynomials.varuna_evaluate.Tie as tie
@@ -16,9 +15,7 @@ returns : tie.Need-returns
 returns c =
     let at-evaluate = c .before .before .before in
     let start = at-evaluate .before .before in
-    let a = start .args in
-    word-told (evaluateCall babyBear (a .coefficients .now) (a .point)) (a .result .now)
-    (c .give-word .ensures) (at-evaluate .evaluate .ensures)
+    c .give-word .ensures ∙ ap (λ o. answered o (start .args .result .now)) (at-evaluate .evaluate .ensures)
 
 pub varuna-evaluate-spec : {M : Type 1} → statement M
 varuna-evaluate-spec = tie.close (tie.spec evaluate-requires give-word-requires returns)
