@@ -137,8 +137,8 @@ uint32_t varuna_write_record(const uint32_t sizes[VARUNA_SIZES], const uint32_t 
 /* The six sizes of a record. Refusals 2, 3, 6. */
 uint32_t varuna_read_record(const uint8_t *bytes, size_t bytes_length, uint32_t sizes[VARUNA_SIZES], size_t *position);
 
-/* Section k of a record, 0 to 10: returns its length in bytes and sets *start to its first byte's place. Length and start are 0 where the
- * record is refused or has no such section. */
-size_t varuna_section(const uint8_t *bytes, size_t bytes_length, size_t k, size_t *start);
+/* Where section k of a record stands, k from 0 to 10: the place of its first byte and its length in bytes. Refusals 2, 3, 5, 6; a k above
+ * 10 is refused by 5, at position k. */
+uint32_t varuna_section(const uint8_t *bytes, size_t bytes_length, size_t k, size_t *start, size_t *length, size_t *position);
 
 #endif

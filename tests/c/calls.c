@@ -539,20 +539,32 @@ static void test_reading(uint8_t *bytes)
     memcpy(bytes + 4, (uint8_t[]){1, 0, 0, 0}, 4);
 }
 
+static int refuses_section(const uint8_t *bytes, size_t length, size_t k, uint32_t expected_number, size_t expected_position)
+{
+    size_t found_start = 77, found_length = 78, position = NOWHERE;
+    uint32_t number = varuna_section(bytes, length, k, &found_start, &found_length, &position);
+    return is_refused(number, position, expected_number, expected_position) && found_start == 77 && found_length == 78;
+}
+
 static void test_sections(uint8_t *bytes)
 {
-    static const size_t starts[12] = {0, 8, 24, 24, 36, 40, 48, 60, 60, 60, 60, 0};
-    static const size_t lengths[12] = {8, 16, 0, 12, 4, 8, 12, 0, 0, 0, 0, 0};
+    static const size_t starts[11] = {0, 8, 24, 24, 36, 40, 48, 60, 60, 60, 60};
+    static const size_t lengths[11] = {8, 16, 0, 12, 4, 8, 12, 0, 0, 0, 0};
     int all = 1;
-    for (size_t k = 0; k < 12; k++) {
-        size_t start = NOWHERE;
-        size_t length = varuna_section(bytes, RECORD_BYTES, k, &start);
-        all = all && start == starts[k] && length == lengths[k];
+    for (size_t k = 0; k < 11; k++) {
+        size_t start = 77, length = 78, position = NOWHERE;
+        uint32_t number = varuna_section(bytes, RECORD_BYTES, k, &start, &length, &position);
+        all = all && is_done(number, position) && start == starts[k] && length == lengths[k];
     }
     test("section", all);
-    size_t start = NOWHERE;
-    size_t length = varuna_section(bytes, RECORD_BYTES - 4, 1, &start);
-    test("section of a refused record", start == 0 && length == 0);
+    test("section refuses a number above 10", refuses_section(bytes, RECORD_BYTES, 11, 5, 11) &&
+                                                  refuses_section(bytes, RECORD_BYTES, SIZE_MAX, 5, SIZE_MAX));
+    test("section refuses an end", refuses_section(bytes, RECORD_BYTES - 4, 1, 2, 0) && refuses_section(bytes, 71, 11, 2, 0));
+    bytes[64] = 9;
+    test("section refuses a start", refuses_section(bytes, RECORD_BYTES, 0, 3, 1) && refuses_section(bytes, RECORD_BYTES, 11, 3, 1));
+    bytes[64] = 8;
+    memset(bytes + 4, 0xFF, 4);
+    test("section refuses a word", refuses_section(bytes, RECORD_BYTES, 10, 6, 1) && refuses_section(bytes, RECORD_BYTES, 11, 5, 11));
 }
 
 int main(void)

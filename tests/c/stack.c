@@ -145,8 +145,8 @@ static void read_record(void)
 
 static void section(void)
 {
-    size_t start;
-    number = varuna_section(record, RECORD_BYTES, 10, &start) != 4 * (N - 1);
+    size_t start, length;
+    number = varuna_section(record, RECORD_BYTES, 10, &start, &length, &position);
 }
 
 #define STACK_BYTES (4 * LIMIT)

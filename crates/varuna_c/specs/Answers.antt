@@ -2,13 +2,10 @@
 -- Assumes nothing.
 use mathlib.Core.List.{List, _∷_}
 use Prim.Native.Nat.{ℕ}
-use lib.ListN.{getD}
-use Rattle.field.specs.Prime.{Prime}
 use Rattle.protocol.specs.Three.{Three, listed}
 use Rattle.protocol.specs.Circuit.{Sizes}
 use Rattle.protocol.specs.Checks.{Row, Line, Matrix, Verdict, Accept, Fails}
 use Rattle.protocol.specs.Refusals.{Outcome, Done, Refused}
-use Rattle.protocol.specs.Record.{sectionLengths, startsFrom, readRecord}
 use Rattle.protocol.specs.Session as steps
 use Rattle.verifier.specs.Session.{sessionWords}
 
@@ -65,8 +62,3 @@ lastWords (steps.Refused r) next before = told (r .number) (r .position) before
 
 abbrev pub lastAnswered : steps.Stepped → List ℕ × ℕ → Answered (List ℕ × ℕ)
 lastAnswered s before = lastWords (s .answer) (sessionWords (s .session)) before
-
--- where section k of a record begins: 0 where the record is refused or has no such section
-unfoldable pub sectionStart : Prime → List ℕ → ℕ → ℕ
-sectionStart q bytes k =
-    elim (readRecord bytes q) as (λ o. ℕ) [ Done found ↦ getD (startsFrom 0 (sectionLengths (found .sizes))) k 0 | Refused r ↦ 0 ]

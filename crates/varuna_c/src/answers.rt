@@ -1,13 +1,14 @@
 // The answers of the public calls, handed over in numbers.
 ghost use mathlib.Core.Path.{_≡_};
 ghost use Rattle.protocol.specs.Meanings.{verdictMeaning};
-ghost use Rattle.record.specs.Answers.{readingMeaning};
+ghost use Rattle.record.specs.Answers.{readingMeaning, placeMeaning};
 ghost use Rattle.varuna.specs.Answers.{wordMeaning, threeMeaning, filledMeaning, openingsMeaning};
 ghost use Rattle.verifier.specs.Session.{steppedMeaning, finishedMeaning};
 ghost use Rattle.varuna_c.specs.Answers.{told, answered, threeListed, sizesListed, stepAnswered, lastAnswered, verdictNumber};
 use varuna::answers::Check;
 use varuna::answers::Filled;
 use varuna::answers::Openings;
+use varuna::answers::Place;
 use varuna::answers::Reading;
 use varuna::answers::ThreeWords;
 use varuna::answers::Verdict;
@@ -183,6 +184,25 @@ pub fn give_sizes(answer: Reading, sizes: &mut [u32; 6], position: &mut usize) -
             0
         }
         Reading::Refused(number, at) => {
+            *position = at;
+            number
+        }
+    }
+}
+
+// Where a section of a record stands.
+pub fn give_place(answer: Place, start: &mut usize, length: &mut usize, position: &mut usize) -> u32
+    ensures { λ n. ⌜ told n (now (position .exit)) (now (start .exit), now (length .exit))
+        ≡ answered (placeMeaning answer) (now (start .entry), now (length .entry)) ⌝ }
+{
+    match answer {
+        Place::At(from, count) => {
+            *start = from;
+            *length = count;
+            *position = 0;
+            0
+        }
+        Place::Refused(number, at) => {
             *position = at;
             number
         }

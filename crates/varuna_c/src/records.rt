@@ -3,21 +3,15 @@ ghost use mathlib.Core.Path.{_≡_};
 ghost use lib.ListN.{length};
 ghost use Rattle.domain.specs.BabyBear.{babyBear};
 ghost use Rattle.protocol.specs.Record.{readRecord};
-ghost use Rattle.protocol.specs.Calls.{writeCall, sectionCall};
+ghost use Rattle.protocol.specs.Calls.{writeCall, placeCall};
 ghost use Rattle.record.specs.Answers.{sizesFound};
 ghost use Rattle.record.specs.Layout.{eachSection};
-ghost use Rattle.varuna_c.specs.Answers.{told, answered, sizesListed, sectionStart};
+ghost use Rattle.varuna_c.specs.Answers.{told, answered, sizesListed};
 ghost use Rattle.varuna_c.specs.Inputs.{sizesIn};
 use crate::answers::give_filled;
+use crate::answers::give_place;
 use crate::answers::give_sizes;
 use crate::inputs::sizes_in;
-use record::Reading;
-
-const WORD_BYTES: usize = 4;
-
-const TRAILER_BYTES: usize = 72;
-
-const SECTIONS: usize = 11;
 
 // A record of eleven sections. Refusals 4, 5, 6.
 #[no_mangle]
@@ -74,30 +68,22 @@ pub extern "C" fn varuna_read_record(
     give_sizes(varuna::records::read_record(bytes), sizes, position)
 }
 
-// Where section k begins: 0 for a record that is refused and for a number above 10.
-fn section_start(bytes: &[u8], k: usize) -> usize
-    ensures { λ r. ⌜ r ≡ sectionStart babyBear (now (bytes .entry)) k ⌝ }
-{
-    if SECTIONS <= k {
-        return 0;
-    }
-    let read = varuna::records::read_record(bytes);
-    match read {
-        Reading::Refused(_, _) => 0,
-        Reading::Whole(_) => {
-            let trailer = (bytes.len() - TRAILER_BYTES) / WORD_BYTES;
-            record::word_at(bytes, trailer + k) as usize
-        }
-    }
-}
-
-// The length of section k in bytes, and where it begins.
+// Where section k of a record stands: its start and its length in bytes. Refusals 2, 3, 5, 6.
 #[no_mangle]
-pub extern "C" fn varuna_section(bytes: &[u8], k: usize, start: &mut usize) -> usize
-    ensures { λ r. ⌜ r ≡ length (sectionCall babyBear (now (bytes .entry)) k) ⌝ }
-    ensures { λ r. ⌜ now (start .exit) ≡ sectionStart babyBear (now (bytes .entry)) k ⌝ }
+pub extern "C" fn varuna_section(
+    bytes: &[u8],
+    k: usize,
+    start: &mut usize,
+    length: &mut usize,
+    position: &mut usize,
+) -> u32
+    ensures { λ number. ⌜ told number (now (position .exit)) (now (start .exit), now (length .exit))
+        ≡ answered (placeCall babyBear (now (bytes .entry)) k) (now (start .entry), now (length .entry)) ⌝ }
 {
-    let part = varuna::records::section(bytes, k);
-    *start = section_start(bytes, k);
-    part.len()
+    give_place(
+        varuna::records::find_section(bytes, k),
+        start,
+        length,
+        position,
+    )
 }
