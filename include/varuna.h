@@ -2,7 +2,8 @@
  * The public calls of the module, for C. docs/CALLS.md has each call's inputs, refusals and result.
  *
  * Every call that can refuse returns 0 where it is done, else the refusal's number in document 01's table. It sets *position to the
- * refusal's position, and to 0 where it is done. A refusal changes no other memory: no result, no slice and no session.
+ * refusal's position, and to 0 where it is done. A refusal changes no other memory: no result, no slice and no session. Only *verdict is
+ * set by a refused step, too: to VARUNA_NO_VERDICT.
  *
  * A slice is a pointer and a length in elements. The pointer is not null and is aligned, also where the length is 0. Memory that a
  * call writes overlaps none of its other arguments. An array parameter with a length in brackets has exactly that length.
@@ -25,11 +26,12 @@
 /* |R|, |C|, |X|, |K_A|, |K_B|, |K_C|. */
 #define VARUNA_SIZES 6
 
-/* Verdicts. */
-#define VARUNA_ACCEPT 0
-#define VARUNA_FAILS_ROW 1
-#define VARUNA_FAILS_LINE 2
-#define VARUNA_FAILS_MATRIX 3
+/* Verdicts, and what stands where there is none: a variable that holds 0 is no Accept. */
+#define VARUNA_NO_VERDICT 0
+#define VARUNA_ACCEPT 1
+#define VARUNA_FAILS_ROW 2
+#define VARUNA_FAILS_LINE 3
+#define VARUNA_FAILS_MATRIX 4
 
 /* a + b, a - b, a * b in the field. Refusal 6. */
 uint32_t varuna_add(uint32_t a, uint32_t b, uint32_t *result, size_t *position);
@@ -122,7 +124,7 @@ uint32_t varuna_session_delta(uint32_t session[VARUNA_SESSION_WORDS], const uint
 /* Declared length of h2, then gamma. Refusals 1, 6, 10, 11. */
 uint32_t varuna_session_gamma(uint32_t session[VARUNA_SESSION_WORDS], uint32_t quotient, uint32_t gamma, size_t *position);
 
-/* The openings; *verdict is one of the four verdicts above. Refusals 1, 6. */
+/* The openings; *verdict is one of the four verdicts above, and VARUNA_NO_VERDICT where the step is refused. Refusals 1, 6. */
 uint32_t varuna_session_openings(uint32_t session[VARUNA_SESSION_WORDS], const uint32_t openings[VARUNA_OPENINGS], uint32_t *verdict,
                                  size_t *position);
 

@@ -2,8 +2,9 @@
 //! implementation.
 //!
 //! A call's results and sessions stand between guard words. Every function checks that the guards are as they were, that the
-//! position is 0 where the call is done, and that a refused call has left its results and its session alone. Slices that a
-//! caller lends are watched by the caller (`calls`), for both implementations alike.
+//! position is 0 where the call is done, and that a refused call has left its results and its session alone; a refused last
+//! step must set the verdict to none. Slices that a caller lends are watched by the caller (`calls`), for both implementations
+//! alike.
 
 use second::{Check, Refusal, Verdict};
 
@@ -667,18 +668,21 @@ impl Session {
             self.step(|session, position| unsafe { varuna_session_openings(session, opened, place, position) });
         verdict.check();
         let [word] = verdict.words;
-        assert!(answer.is_ok() || word == UNWRITTEN, "a refused step has written a verdict");
+        assert!(answer.is_ok() || word == NO_VERDICT, "a refused step has left a verdict");
         answer.map(|()| verdict_of(word))
     }
 }
 
+/// What the C interface has for a verdict where there is none.
+const NO_VERDICT: u32 = 0;
+
 /// The verdict that a word of the C interface stands for.
 fn verdict_of(word: u32) -> Verdict {
     match word {
-        0 => Verdict::Accept,
-        1 => Verdict::Fails(Check::Row),
-        2 => Verdict::Fails(Check::Line),
-        3 => Verdict::Fails(Check::Matrix),
+        1 => Verdict::Accept,
+        2 => Verdict::Fails(Check::Row),
+        3 => Verdict::Fails(Check::Line),
+        4 => Verdict::Fails(Check::Matrix),
         _ => panic!("{word} is no verdict"),
     }
 }

@@ -47,18 +47,21 @@ stepWords (steps.Refused r) next before = told (r .number) (r .position) before
 abbrev pub stepAnswered : steps.Stepped → List ℕ → Answered (List ℕ)
 stepAnswered s before = stepWords (s .answer) (sessionWords (s .session)) before
 
--- the verdicts by number
+-- the number where there is no verdict, and the verdicts by number
+abbrev pub noVerdict : ℕ
+noVerdict = 0
+
 abbrev pub verdictNumber : Verdict → ℕ
-verdictNumber Accept = 0
-verdictNumber (Fails Row) = 1
-verdictNumber (Fails Line) = 2
-verdictNumber (Fails Matrix) = 3
+verdictNumber Accept = 1
+verdictNumber (Fails Row) = 2
+verdictNumber (Fails Line) = 3
+verdictNumber (Fails Matrix) = 4
 
--- the last step: the session's words and the verdict's number, or both as they were; it never answers Taken
-abbrev pub lastWords : steps.Answer → List ℕ → List ℕ × ℕ → Answered (List ℕ × ℕ)
-lastWords steps.Taken next before = told 0 0 (next, before .1)
+-- the last step: the words of the next session with the verdict's number, or those before with no verdict; it never answers Taken
+abbrev pub lastWords : steps.Answer → List ℕ → List ℕ → Answered (List ℕ × ℕ)
+lastWords steps.Taken next before = told 0 0 (next, noVerdict)
 lastWords (steps.Judged v) next before = told 0 0 (next, verdictNumber v)
-lastWords (steps.Refused r) next before = told (r .number) (r .position) before
+lastWords (steps.Refused r) next before = told (r .number) (r .position) (before, noVerdict)
 
-abbrev pub lastAnswered : steps.Stepped → List ℕ × ℕ → Answered (List ℕ × ℕ)
+abbrev pub lastAnswered : steps.Stepped → List ℕ → Answered (List ℕ × ℕ)
 lastAnswered s before = lastWords (s .answer) (sessionWords (s .session)) before

@@ -131,21 +131,24 @@ pub fn give_step(next: Stepped, session: &mut [u32; 1046], position: &mut usize)
     }
 }
 
-// The number of a verdict: 0 Accept, 1 Fails Row, 2 Fails Line, 3 Fails Matrix.
+// What stands for a verdict where there is none.
+const NO_VERDICT: u32 = 0;
+
+// The number of a verdict: 1 Accept, 2 Fails Row, 3 Fails Line, 4 Fails Matrix.
 fn verdict_number(verdict: Verdict) -> u32
     ensures { λ n. ⌜ n ≡ verdictNumber (verdictMeaning verdict) ⌝ }
 {
     match verdict {
-        Verdict::Accept => 0,
+        Verdict::Accept => 1,
         Verdict::Fails(check) => match check {
-            Check::Row => 1,
-            Check::Line => 2,
-            Check::Matrix => 3,
+            Check::Row => 2,
+            Check::Line => 3,
+            Check::Matrix => 4,
         },
     }
 }
 
-// The last session and the verdict.
+// The last session and the verdict. A refused step has no verdict, and says so over whatever the caller's variable held.
 pub fn give_verdict(
     next: Finished,
     session: &mut [u32; 1046],
@@ -153,7 +156,7 @@ pub fn give_verdict(
     position: &mut usize,
 ) -> u32
     ensures { λ n. ⌜ told n (now (position .exit)) (now (session .exit), now (verdict .exit))
-        ≡ lastAnswered (finishedMeaning next) (now (session .entry), now (verdict .entry)) ⌝ }
+        ≡ lastAnswered (finishedMeaning next) (now (session .entry)) ⌝ }
 {
     let answer = next.answer;
     match answer {
@@ -165,6 +168,7 @@ pub fn give_verdict(
             0
         }
         LastAnswer::Refused(number, at) => {
+            *verdict = NO_VERDICT;
             *position = at;
             number
         }

@@ -130,7 +130,7 @@ pub extern "C" fn varuna_session_gamma(
     give_step(s.gamma(quotient, gamma), session, position)
 }
 
-// The 21 openings, and the verdict. Refusals 1, 6.
+// The 21 openings, and the verdict, which is 0 where the step is refused. Refusals 1, 6.
 #[no_mangle]
 pub extern "C" fn varuna_session_openings(
     session: &mut [u32; SESSION_WORDS],
@@ -140,7 +140,7 @@ pub extern "C" fn varuna_session_openings(
 ) -> u32
     ensures { λ number. ⌜ told number (now (position .exit)) (now (session .exit), now (verdict .exit))
         ≡ lastAnswered (openingsStep babyBear (sessionOf (now (session .entry))) (openingsIn (now (openings .entry))))
-        (now (session .entry), now (verdict .entry)) ⌝ }
+        (now (session .entry)) ⌝ }
 {
     let s = Session::from_words(session);
     give_verdict(

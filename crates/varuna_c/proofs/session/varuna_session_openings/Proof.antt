@@ -37,7 +37,7 @@ returns c =
     let a = start .args in
     let transcript = ap₂ openings (at-messages-in .messages-in .ensures) (at-indexes-in .indexes-in .ensures) in
     c .give-verdict .ensures
-    ∙ ap (λ s. lastAnswered s (a .session .now, a .verdict .now))
+    ∙ ap (λ s. lastAnswered s (a .session .now))
     (at-openings .openings .ensures ∙ ap₂ (openingsStep babyBear) (at-from-words .from-words .ensures) transcript)
 
 pub varuna-session-openings-spec : {M : Type 1} → statement M
