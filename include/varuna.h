@@ -16,7 +16,8 @@
 #include <stddef.h>
 #include <stdint.h>
 
-/* The words of a session: the steps taken, the six sizes, 1,024 public words, and what was heard. */
+/* The words of a session: the stage, the six sizes, the 1,024 words of x, and the transcript. What they mean is said above the session's
+ * calls. */
 #define VARUNA_SESSION_WORDS 1046
 
 /* The openings, in order: the witness, m, g1, h1 at beta; h0 at alpha; h2, g_A, g_B, g_C at gamma; then row, col, rowcol, rowcolval at
@@ -98,6 +99,24 @@ uint32_t varuna_openings(uint32_t r, uint32_t c, uint32_t x, const uint32_t *ea,
                          const uint32_t *ec, size_t ec_length, const uint32_t *z, size_t z_length, uint32_t mask, const uint32_t *m,
                          size_t m_length, uint32_t alpha, const uint32_t eta[3], uint32_t beta, const uint32_t delta[3], uint32_t gamma,
                          uint32_t openings[VARUNA_OPENINGS], size_t *position);
+
+/*
+ * A session is 1,046 words that the caller keeps, in this order:
+ *
+ *     0             the stage: how many of the seven steps were taken
+ *     1 to 6        the six sizes
+ *     7 to 1030     x: the |X| public words, and zeros after them
+ *     1031 to 1045  the transcript: alpha, three sums, three eta, beta, three values, three delta, gamma
+ *
+ * In a new session all words are 0. Opening leaves stage 1, the sizes, x with zeros after it, and a transcript of zeros, whatever the words
+ * were before. Each later step leaves the stage one higher, its own words of the transcript set (the last step has none), and all other
+ * words as they were. A refused step leaves every word as it was.
+ *
+ * Words that no step made are judged by what they hold. Every step but opening is out of turn (1) unless the stage is the number of the
+ * steps before it and the sizes are allowed. The last step is out of turn, too, unless the words are such as steps leave: the public words
+ * and the transcript below p, the words of x after the public ones 0, alpha outside R, beta outside C and gamma outside K. So a verdict is
+ * given only for sessions that steps can make.
+ */
 
 /* A session before it is opened. */
 void varuna_session_new(uint32_t session[VARUNA_SESSION_WORDS]);

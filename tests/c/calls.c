@@ -467,18 +467,58 @@ static void test_declared_lengths(void)
     test("session gamma refuses a length", reached && is_refused(number, position, 11, 0) && same(session, kept, VARUNA_SESSION_WORDS));
 }
 
-/* A session's words: the stage, the sizes, x with zeros after it, and what was heard. */
+/* Where x and the transcript stand among a session's words. */
+enum { X = 7, TRANSCRIPT = 1031 };
+
+/* A session's words: the stage, the sizes, x with zeros after it, and the transcript. */
 static void test_session_words(void)
 {
-    static const uint32_t opened[8] = {7, 1, 2, 1, 1, 1, 1, 9};
-    static const uint32_t heard[15] = {2, 3, 3, 9, 1, 1, 2, 3, P - 1, P - 1, 2, 1, 1, 1, 5};
+    static const uint32_t transcript[15] = {2, 3, 3, 9, 1, 1, 2, 3, P - 1, P - 1, 2, 1, 1, 1, 5};
     static const uint32_t zeros[VARUNA_SESSION_WORDS];
-    uint32_t session[VARUNA_SESSION_WORDS];
+    uint32_t session[VARUNA_SESSION_WORDS], opened[VARUNA_SESSION_WORDS] = {1, 1, 2, 1, 1, 1, 1, 9};
+    size_t position = NOWHERE;
+    memset(session, 0xAB, sizeof session);
+    uint32_t number = varuna_session_open(session, square_sizes, square_x, 1, &position);
+    test("session open over any words", is_done(number, position) && same(session, opened, VARUNA_SESSION_WORDS));
     memset(session, 0xAB, sizeof session);
     varuna_session_new(session);
     test("session new", same(session, zeros, VARUNA_SESSION_WORDS));
     int reached = reach(STEPS, session);
-    test("the words of a session", reached && same(session, opened, 8) && same(session + 8, zeros, 1023) && same(session + 1031, heard, 15));
+    opened[0] = 7;
+    test("the words of a session", reached && same(session, opened, TRANSCRIPT) && same(session + TRANSCRIPT, transcript, 15));
+}
+
+/* Sessions that no step made: the words of one whose openings are accepted, and one word changed. */
+static void test_forged_sessions(void)
+{
+    static const struct {
+        const char *what;
+        size_t place;
+        uint32_t word;
+    } forged[] = {
+        {"gamma inside K", TRANSCRIPT + 14, 1},
+        {"beta inside C", TRANSCRIPT + 7, P - 1},
+        {"alpha inside R", TRANSCRIPT, 1},
+        {"a sum of p", TRANSCRIPT + 3, P},
+        {"a public word of p", X, P},
+        {"a word after the public ones", X + 1, 1},
+        {"a last word of x", TRANSCRIPT - 1, 1},
+        {"a size", 4, 3},
+        {"a stage", 0, GAMMA},
+    };
+    struct conversation t = honest();
+    for (size_t i = 0; i < COUNT(forged); i++) {
+        char name[80];
+        uint32_t session[VARUNA_SESSION_WORDS], good[VARUNA_SESSION_WORDS], verdict = 77;
+        size_t position = NOWHERE;
+        int reached = reach(LAST, session);
+        memcpy(good, session, sizeof good);
+        uint32_t number = take(LAST, good, &t, &verdict, &position);
+        int accepted = is_done(number, position) && verdict == VARUNA_ACCEPT;
+        session[forged[i].place] = forged[i].word;
+        snprintf(name, sizeof name, "session openings refuses %s that no step left", forged[i].what);
+        test(name, reached && accepted && refuses(session, LAST, &t, 1, 0));
+    }
 }
 
 /* Records. */
@@ -587,6 +627,7 @@ int main(void)
     test_interpolate();
     test_jobs();
     test_session_words();
+    test_forged_sessions();
     test_verdicts();
     test_steps();
     test_opening();
