@@ -1,4 +1,5 @@
--- What the arrays that an exported function is given mean. (Three words for A, B, C are varuna's `threeAt` from place 0.) Assumes nothing.
+-- What the arrays that an exported function is given mean. (Three words for A, B, C are the verifier's `threeAt` from place 0.)
+-- Assumes nothing.
 use mathlib.Core.List.{List, [], _∷_}
 use Prim.Native.Nat.{ℕ, _+_}
 use lib.ListN.{getD}

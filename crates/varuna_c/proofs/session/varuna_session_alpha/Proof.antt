@@ -1,7 +1,6 @@
 -- `varuna_c::session::varuna_session_alpha` meets its contract. Assumes nothing.
 use mathlib.Core.Path.{ap, _∙_}
 use Rattle.domain.specs.BabyBear.{babyBear}
-use Rattle.protocol.specs.Session as steps
 use Rattle.varuna_c.specs.Answers.{stepAnswered}
 use Rattle.protocol.specs.Session.{alphaStep}
 use borrow.Author.Needs.{needs}

@@ -1,6 +1,5 @@
 -- `varuna_c::session::varuna_session_new` meets its contract. Assumes nothing.
 use mathlib.Core.Path.{ap, _∙_}
-use Rattle.protocol.specs.Session as steps
 use Rattle.verifier.specs.Session.{sessionWords}
 use borrow.Author.Needs.{needs}
 use Rattle.varuna_c.proofs.session.varuna_session_new.Statement.{statement}

@@ -1,7 +1,6 @@
 -- `varuna_c::session::varuna_session_openings` meets its contract. Assumes nothing.
 use mathlib.Core.Path.{ap, ap₂, _∙_}
 use Rattle.domain.specs.BabyBear.{babyBear}
-use Rattle.protocol.specs.Session as steps
 use Rattle.verifier.specs.Session.{threeAt}
 use Rattle.varuna_c.specs.Answers.{lastAnswered}
 use Rattle.varuna_c.specs.Inputs.{openingsIn}
@@ -35,10 +34,10 @@ returns c =
     let at-from-words = at-messages-in .before in
     let start = at-from-words .before .before in
     let a = start .args in
-    let transcript = ap₂ openings (at-messages-in .messages-in .ensures) (at-indexes-in .indexes-in .ensures) in
+    let opened = ap₂ openings (at-messages-in .messages-in .ensures) (at-indexes-in .indexes-in .ensures) in
     c .give-verdict .ensures
     ∙ ap (λ s. lastAnswered s (a .session .now))
-    (at-openings .openings .ensures ∙ ap₂ (openingsStep babyBear) (at-from-words .from-words .ensures) transcript)
+    (at-openings .openings .ensures ∙ ap₂ (openingsStep babyBear) (at-from-words .from-words .ensures) opened)
 
 pub varuna-session-openings-spec : {M : Type 1} → statement M
 varuna-session-openings-spec =
