@@ -305,7 +305,6 @@ fn answer(call: impl FnOnce(*mut usize) -> u32) -> Result<(), Refusal> {
         return Ok(());
     }
     assert_ne!(position, UNWRITTEN as usize, "a refused call has set no position");
-    let position = u32::try_from(position).expect("a position has 32 bits");
     Err(Refusal { number, position })
 }
 

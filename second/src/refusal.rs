@@ -11,13 +11,13 @@ use crate::record;
 #[derive(Clone, Copy, Debug, PartialEq, Eq)]
 pub struct Refusal {
     pub number: u32,
-    pub position: u32,
+    pub position: usize,
 }
 
 /// The refusal with a number at the position of the first fault, if there is one.
 fn refuse_at(number: u32, fault: Option<usize>) -> Result<(), Refusal> {
     match fault {
-        Some(place) => Err(Refusal { number, position: place as u32 }),
+        Some(position) => Err(Refusal { number, position }),
         None => Ok(()),
     }
 }

@@ -6,7 +6,7 @@ use compare::random::{count, elements, Random, SIZES};
 use second::Refusal;
 
 /// The refusals of the seven circuit calls.
-fn refusals(outcomes: &[Outcome; 7]) -> [Option<(u32, u32)>; 7] {
+fn refusals(outcomes: &[Outcome; 7]) -> [Option<(u32, usize)>; 7] {
     outcomes.each_ref().map(|outcome| outcome.answer.as_ref().err().map(|refusal| (refusal.number, refusal.position)))
 }
 
@@ -157,7 +157,7 @@ fn entry_limit() {
         case.lend_again();
         compare_good(&case);
         case.entries[matrix].extend([31, 31, 1]);
-        let refused = Some((5, matrix as u32));
+        let refused = Some((5, matrix));
         assert_eq!(refusals(&compare_circuit(&case)), [refused; 7]);
     }
 }
@@ -172,7 +172,7 @@ fn challenges_at_domains() {
                 let mut changed = case.clone();
                 changed.challenges[place] = element;
                 let last = compare_circuit(&changed)[6].answer.clone();
-                let inside = Refusal { number: 10, position: position as u32 };
+                let inside = Refusal { number: 10, position };
                 assert_eq!(last.err(), exponent.is_multiple_of(2).then_some(inside));
             }
         }

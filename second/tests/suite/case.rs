@@ -27,7 +27,7 @@ pub struct Proof {
 }
 
 /// A refusal as a pair.
-pub fn refusal<Answer>(answer: Result<Answer, Refusal>) -> Option<(u32, u32)> {
+pub fn refusal<Answer>(answer: Result<Answer, Refusal>) -> Option<(u32, usize)> {
     answer.err().map(|refusal| (refusal.number, refusal.position))
 }
 

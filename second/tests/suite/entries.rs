@@ -5,7 +5,7 @@ use crate::case::{refusal, square, Case};
 const P: u32 = second::MODULUS;
 
 /// The refusals of all calls that take a circuit.
-fn refusals(case: &Case) -> Vec<Option<(u32, u32)>> {
+fn refusals(case: &Case) -> Vec<Option<(u32, usize)>> {
     vec![
         refusal(case.index()),
         refusal(case.first_round()),
@@ -17,7 +17,7 @@ fn refusals(case: &Case) -> Vec<Option<(u32, u32)>> {
     ]
 }
 
-fn check(entries: [&[u32]; 3], expected: (u32, u32)) {
+fn check(entries: [&[u32]; 3], expected: (u32, usize)) {
     let case = Case { entries: entries.map(<[u32]>::to_vec), ..square() };
     assert_eq!(refusals(&case), vec![Some(expected); 7], "{entries:?}");
 }

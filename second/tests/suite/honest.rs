@@ -81,6 +81,6 @@ fn unsatisfied_rows_are_refused() {
         let value = case.entries[2].len() - 1;
         case.entries[2][value] = if last[2] == 1 { 2 } else { 1 };
         let satisfied = case.assignment[last[1] as usize] == 0;
-        assert_eq!(refusal(case.proof()), (!satisfied).then_some((9, last[0])));
+        assert_eq!(refusal(case.proof()), (!satisfied).then_some((9, last[0] as usize)));
     }
 }

@@ -5,7 +5,7 @@ use crate::case::{refusal, square, Case, UNTOUCHED};
 const P: u32 = second::MODULUS;
 
 /// The refusals of the six calls in order.
-fn refusals(case: &Case) -> [Option<(u32, u32)>; 6] {
+fn refusals(case: &Case) -> [Option<(u32, usize)>; 6] {
     [
         refusal(case.first_round()),
         refusal(case.second_round()),
@@ -17,14 +17,14 @@ fn refusals(case: &Case) -> [Option<(u32, u32)>; 6] {
 }
 
 /// The square case with a change.
-fn changed(change: impl FnOnce(&mut Case)) -> [Option<(u32, u32)>; 6] {
+fn changed(change: impl FnOnce(&mut Case)) -> [Option<(u32, usize)>; 6] {
     let mut case = square();
     change(&mut case);
     refusals(&case)
 }
 
 /// A refusal of the calls from one on.
-fn from(call: usize, expected: (u32, u32)) -> [Option<(u32, u32)>; 6] {
+fn from(call: usize, expected: (u32, usize)) -> [Option<(u32, usize)>; 6] {
     [0, 1, 2, 3, 4, 5].map(|place| (place >= call).then_some(expected))
 }
 
@@ -79,7 +79,7 @@ fn index_lent_slices() {
     for bad in 0..12 {
         let mut lent: [Vec<u32>; 12] = std::array::from_fn(|place| vec![7; 1 + usize::from(place == bad)]);
         let answer = second::index(case.sizes, case.lists(), lent.each_mut().map(Vec::as_mut_slice));
-        assert_eq!(refusal(answer), Some((5, 3 + bad as u32)));
+        assert_eq!(refusal(answer), Some((5, 3 + bad)));
         assert!(lent.iter().flatten().all(|&word| word == 7));
     }
 }

@@ -49,7 +49,7 @@ fn record_end() {
 fn trailer_sizes() {
     for place in 11..17 {
         for bad in [0, 3, 2048, u32::MAX] {
-            assert_eq!(refusal(second::read_record(&with_word(15 + place, bad))), Some((3, place as u32)));
+            assert_eq!(refusal(second::read_record(&with_word(15 + place, bad))), Some((3, place)));
         }
     }
     assert_eq!(refusal(second::read_record(&with_word(28, 4))), Some((3, 13)));
@@ -59,7 +59,7 @@ fn trailer_sizes() {
 fn trailer_starts() {
     for place in 0..11 {
         for bad in [1, 4, 61, u32::MAX] {
-            assert_eq!(refusal(second::read_record(&with_word(15 + place, bad))), Some((3, place as u32)));
+            assert_eq!(refusal(second::read_record(&with_word(15 + place, bad))), Some((3, place)));
         }
     }
     assert_eq!(refusal(second::read_record(&with_word(26, 2))), Some((3, 3)));
@@ -84,7 +84,7 @@ fn trailer_total() {
 #[test]
 fn words() {
     for place in 0..15 {
-        assert_eq!(refusal(second::read_record(&with_word(place, P))), Some((6, place as u32)));
+        assert_eq!(refusal(second::read_record(&with_word(place, P))), Some((6, place)));
         assert_eq!(refusal(second::read_record(&with_word(place, P - 1))), None);
     }
 }
@@ -122,13 +122,13 @@ fn write_refusals() {
     for place in 0..6 {
         let mut bad = sizes;
         bad[place] = 3;
-        assert_eq!(write(bad, [0; 11], P, 0), Some((4, place as u32)));
+        assert_eq!(write(bad, [0; 11], P, 0), Some((4, place)));
     }
     assert_eq!(write([1, 2, 4, 5, 1, 1], right, P, total), Some((4, 2)));
     for place in 0..11 {
         let mut bad = right;
         bad[place] += 1;
-        assert_eq!(write(sizes, bad, P, 0), Some((5, place as u32)));
+        assert_eq!(write(sizes, bad, P, 0), Some((5, place)));
     }
     assert_eq!(write(sizes, right, P, total - 1), Some((5, 11)));
     assert_eq!(write(sizes, right, P, total + 4), Some((5, 11)));
@@ -144,7 +144,7 @@ fn write_words_in_order() {
         let sections = lengths(sizes).map(|length| words.by_ref().take(length).collect::<Vec<u32>>());
         let mut bytes = vec![0; 4 * count + 72];
         let answer = second::write_record(sizes, sections.each_ref().map(Vec::as_slice), &mut bytes);
-        assert_eq!(refusal(answer), Some((6, bad as u32)));
+        assert_eq!(refusal(answer), Some((6, bad)));
     }
 }
 

@@ -10,7 +10,7 @@ const SIZES: [u32; 6] = [4, 8, 2, 1, 2, 4];
 fn refused<Answer>(
     session: &Session,
     step: impl FnOnce(Session) -> (Session, Result<Answer, Refusal>),
-) -> Option<(u32, u32)> {
+) -> Option<(u32, usize)> {
     let (next, answer) = step(session.clone());
     assert!(answer.is_ok() || next == *session, "a refused step has changed the session");
     assert!(answer.is_err() || next != *session, "a step has left the session");
@@ -70,7 +70,7 @@ fn open() {
     };
     for bad in [0, 3, 2048] {
         for place in 0..6 {
-            assert_eq!(sizes(place, bad), Some((4, place as u32)));
+            assert_eq!(sizes(place, bad), Some((4, place)));
         }
     }
     assert_eq!(sizes(2, 16), Some((4, 2)));
@@ -105,11 +105,11 @@ fn eta_and_openings() {
     for bad in 0..6 {
         let word = |place: usize| if place >= bad { P } else { P - 1 };
         let (sums, eta) = ([0, 1, 2].map(word), [3, 4, 5].map(word));
-        assert_eq!(refused(&sessions[1], |session| session.eta(sums, eta)), Some((6, bad as u32)));
+        assert_eq!(refused(&sessions[1], |session| session.eta(sums, eta)), Some((6, bad)));
     }
     for bad in 0..21 {
         let openings = std::array::from_fn(|place| if place >= bad { P } else { 0 });
-        assert_eq!(refused(&sessions[5], |session| session.openings(openings)), Some((6, bad as u32)));
+        assert_eq!(refused(&sessions[5], |session| session.openings(openings)), Some((6, bad)));
     }
 }
 
@@ -135,7 +135,7 @@ fn delta() {
         let word = |place: usize| if place >= bad { P } else { 0 };
         let (values, delta) = ([0, 1, 2].map(word), [3, 4, 5].map(word));
         let answer = refused(session, |session| session.delta(values, [9; 3], delta));
-        assert_eq!(answer, Some((6, bad as u32)));
+        assert_eq!(answer, Some((6, bad)));
     }
     let delta = |lengths| refused(session, |session| session.delta([0; 3], lengths, [0; 3]));
     assert_eq!(delta([1, 2, 4]), Some((11, 0)));
