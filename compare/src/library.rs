@@ -266,7 +266,14 @@ extern "C" {
         position: *mut usize,
     ) -> u32;
     fn varuna_read_record(bytes: *const u8, bytes_length: usize, sizes: *mut u32, position: *mut usize) -> u32;
-    fn varuna_section(bytes: *const u8, bytes_length: usize, k: usize, start: *mut usize) -> usize;
+    fn varuna_section(
+        bytes: *const u8,
+        bytes_length: usize,
+        k: usize,
+        start: *mut usize,
+        length: *mut usize,
+        position: *mut usize,
+    ) -> u32;
 }
 
 /// Words between guards.
@@ -700,9 +707,11 @@ pub fn read_record(bytes: &[u8]) -> Result<[u32; 6], Refusal> {
 }
 
 /// The start and the length in bytes of a section.
-pub fn section(bytes: &[u8], number: usize) -> (usize, usize) {
-    let mut start = UNWRITTEN as usize;
-    // SAFETY: place and length are those of the bytes, the last place is that of the start.
-    let length = unsafe { varuna_section(bytes.as_ptr(), bytes.len(), number, &mut start) };
-    (start, length)
+pub fn section(bytes: &[u8], number: usize) -> Result<(usize, usize), Refusal> {
+    let (place, count) = given(bytes);
+    let [mut start, mut length] = [UNWRITTEN as usize; 2];
+    // SAFETY: place and count are those of the bytes, the others those of the start, the length and the position.
+    let answer = answer(|position| unsafe { varuna_section(place, count, number, &mut start, &mut length, position) });
+    assert!(answer.is_ok() || [start, length] == [UNWRITTEN as usize; 2], "a refused call has written a result");
+    answer.map(|()| (start, length))
 }

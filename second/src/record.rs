@@ -53,23 +53,30 @@ pub fn write_record(sizes: [u32; 6], sections: [&[u32]; 11], lent_bytes: &mut [u
     Ok(())
 }
 
-/// The six sizes of a record, read from its last word back.
-pub fn read_record(bytes: &[u8]) -> Result<[u32; 6], Refusal> {
+/// The six sizes of a record, read from its last word back, after the checks 2 and 3.
+fn sizes_at_end(bytes: &[u8]) -> Result<[u32; 6], Refusal> {
     refusal::record_end(bytes)?;
     let trailer = trailer_words(bytes);
     refusal::trailer(&trailer)?;
-    refusal::words(words(&bytes[..bytes.len() - TRAILER_BYTES]))?;
     Ok(trailer_sizes(&trailer))
 }
 
-/// The part of the caller's bytes that is a section; empty for a refused record or a number above 10.
-pub fn section(bytes: &[u8], number: u32) -> &[u8] {
-    match read_record(bytes) {
-        Ok(sizes) if number <= 10 => {
-            let starts = starts(sizes);
-            let number = number as usize;
-            &bytes[starts[number]..starts[number + 1]]
-        }
-        _ => &[],
-    }
+/// Check 6 of the words before a record's trailer.
+fn check_words(bytes: &[u8]) -> Result<(), Refusal> {
+    refusal::words(words(&bytes[..bytes.len() - TRAILER_BYTES]))
+}
+
+/// The six sizes of a record.
+pub fn read_record(bytes: &[u8]) -> Result<[u32; 6], Refusal> {
+    let sizes = sizes_at_end(bytes)?;
+    check_words(bytes)?;
+    Ok(sizes)
+}
+
+/// A section of a record, numbered from 0 to 10, as that part of the caller's bytes.
+pub fn section(bytes: &[u8], number: usize) -> Result<&[u8], Refusal> {
+    let starts = starts(sizes_at_end(bytes)?);
+    refusal::section_number(number)?;
+    check_words(bytes)?;
+    Ok(&bytes[starts[number]..starts[number + 1]])
 }

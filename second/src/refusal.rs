@@ -65,6 +65,11 @@ pub(crate) fn lists(fits: &[bool]) -> Result<(), Refusal> {
     refuse_at(5, fits.iter().position(|&fit| !fit))
 }
 
+/// 5: a section number above 10, which names a list that is not there.
+pub(crate) fn section_number(number: usize) -> Result<(), Refusal> {
+    refuse_at(5, Some(number).filter(|&number| number > 10))
+}
+
 /// 6: a field word of p or more.
 pub(crate) fn words(words: impl IntoIterator<Item = u32>) -> Result<(), Refusal> {
     refuse_at(6, words.into_iter().position(|word| word >= MODULUS))

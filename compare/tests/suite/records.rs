@@ -76,24 +76,28 @@ impl fmt::Display for Bytes<'_> {
     }
 }
 
+/// The numbers of all sections, the next ones, and huge ones.
+fn section_numbers() -> impl Iterator<Item = usize> {
+    (0..13).chain([u32::MAX as usize, 1 << 32, usize::MAX])
+}
+
+/// Finds a section on both sides; the answer, its start and length in bytes, is that of both.
+fn compare_section(bytes: &[u8], number: usize) -> Result<(usize, usize), Refusal> {
+    let answer = library::section(bytes, number);
+    let start = |section: &[u8]| section.as_ptr() as usize - bytes.as_ptr() as usize;
+    let expected = second::section(bytes, number).map(|section| (start(section), section.len()));
+    assert_eq!(answer, expected, "section {number}: the library, then the second implementation");
+    answer
+}
+
 /// Reads on both sides, and finds every section and those past the last; the answer is that of both.
 fn compare_read(bytes: &[u8]) -> Result<[u32; 6], Refusal> {
     let shown = Bytes(bytes);
     let _input = Input(&shown);
     let answer = library::read_record(bytes);
     assert_eq!(answer, second::read_record(bytes), "read_record: the library, then the second implementation");
-    for number in 0..13 {
-        let (start, length) = library::section(bytes, number);
-        let expected = second::section(bytes, number as u32);
-        let found = bytes.get(start..start + length).expect("a section lies in the record");
-        assert_eq!(found, expected, "section {number}");
-        let trailer = bytes.len().saturating_sub(72);
-        let written = |place: usize| bytes[trailer + 4 * place..][..4].try_into().expect("four bytes");
-        let place = if answer.is_ok() && number < 11 { u32::from_le_bytes(written(number)) } else { 0 };
-        assert_eq!(start, place as usize, "the start of section {number}");
-    }
-    for number in [u32::MAX as usize, 1 << 32, usize::MAX] {
-        assert_eq!(library::section(bytes, number), (0, 0), "section {number}");
+    for number in section_numbers() {
+        let _ = compare_section(bytes, number);
     }
     answer
 }
@@ -130,6 +134,23 @@ fn round_trip() {
         let written = Written::new(&mut random, sizes);
         assert_eq!(compare_read(&written.record()), Ok(sizes));
     }
+}
+
+/// The sections of a good record and of ones with an end, a start, a size or a word replaced: each kind of refusal must occur.
+#[test]
+fn sections() {
+    let good = square_record();
+    let damaged = [(32, 64), (16, 9), (28, 4), (3, MODULUS)].map(|(place, word)| with_word(&good, place, word));
+    let mut numbers = [0; 7];
+    for record in [good].iter().chain(&damaged) {
+        let shown = Bytes(record);
+        let _input = Input(&shown);
+        for number in section_numbers() {
+            let answer = compare_section(record, number);
+            numbers[answer.err().map_or(0, |refusal| refusal.number as usize)] += 1;
+        }
+    }
+    assert_eq!(numbers, [11, 0, 16, 32, 0, 10, 11]);
 }
 
 /// Every size, section and length of the writer's inputs replaced.

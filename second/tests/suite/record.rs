@@ -2,6 +2,7 @@
 
 use crate::case::{lengths, refusal, square};
 use crate::random::Random;
+use second::Refusal;
 
 const P: u32 = second::MODULUS;
 
@@ -94,16 +95,26 @@ fn sections() {
     let record = square_record();
     let starts = [0, 8, 24, 24, 36, 40, 48, 60, 60, 60, 60, 60];
     for number in 0..11 {
-        let section = second::section(&record, number as u32);
+        let section = second::section(&record, number).unwrap();
         assert_eq!(section, &record[starts[number]..starts[number + 1]]);
-        if !section.is_empty() {
-            assert_eq!(section.as_ptr(), record[starts[number]..].as_ptr());
-        }
+        assert_eq!(section.as_ptr(), record[starts[number]..].as_ptr());
     }
-    assert!(second::section(&record, 11).is_empty());
-    assert!(second::section(&record, u32::MAX).is_empty());
-    assert!(second::section(&with_word(3, P), 0).is_empty());
-    assert!(second::section(&[], 0).is_empty());
+}
+
+#[test]
+fn section_refusals() {
+    let section = |bytes: &[u8], number| refusal(second::section(bytes, number));
+    for number in [11, 12, u32::MAX as usize, usize::MAX] {
+        assert_eq!(section(&square_record(), number), Some((5, number)));
+        assert_eq!(section(&[], number), Some((2, 0)));
+        assert_eq!(section(&with_word(16, 9), number), Some((3, 1)));
+        assert_eq!(section(&with_word(3, P), number), Some((5, number)));
+    }
+    for number in 0..11 {
+        assert_eq!(section(&square_record()[4..], number), Some((2, 0)));
+        assert_eq!(section(&with_word(16, 9), number), Some((3, 1)));
+        assert_eq!(section(&with_word(3, P), number), Some((6, 3)));
+    }
 }
 
 #[test]
@@ -161,7 +172,7 @@ fn round_trip() {
         assert_eq!((written, second::read_record(&bytes)), (Ok(()), Ok(sizes)));
         for (number, section) in sections.iter().enumerate() {
             let expected: Vec<u8> = section.iter().flat_map(|word| word.to_le_bytes()).collect();
-            assert_eq!(second::section(&bytes, number as u32), expected);
+            assert_eq!(second::section(&bytes, number), Ok(&expected[..]));
         }
     }
     assert_eq!(second::read_record(&zeros([1; 6])), Ok([1; 6]));
@@ -178,8 +189,9 @@ fn any_bytes_have_an_answer() {
             bytes[place] = random.below(256) as u8;
         }
         bytes.truncate(132 - 4 * random.below(3) as usize);
-        let refused = second::read_record(&bytes).is_err();
-        let sections = (0..12).map(|number| second::section(&bytes, number).len());
-        assert_eq!(sections.sum::<usize>(), if refused { 0 } else { 60 });
+        let answer = second::read_record(&bytes);
+        let sections: Result<Vec<&[u8]>, Refusal> = (0..11).map(|number| second::section(&bytes, number)).collect();
+        assert_eq!(sections.as_ref().err(), answer.as_ref().err());
+        assert_eq!(sections.map_or(60, |sections| sections.concat().len()), 60);
     }
 }

@@ -148,10 +148,11 @@ pub fn show(job: &[u8]) -> String {
 /// The text of a proof record, a section to a line, then its trailer; of any other bytes, their words and the refusal.
 pub fn show_record(record: &[u8]) -> String {
     let mut shown = Shown { rest: words(record), text: String::new(), missing: Vec::new() };
-    match second::read_record(record) {
-        Ok(_) => {
-            for (number, name) in (0..).zip(SECTIONS) {
-                shown.take(name, second::section(record, number).len() as u64 / 4);
+    let sections: Result<Vec<_>, _> = (0..SECTIONS.len()).map(|number| second::section(record, number)).collect();
+    match sections {
+        Ok(sections) => {
+            for (name, section) in SECTIONS.into_iter().zip(sections) {
+                shown.take(name, section.len() as u64 / 4);
             }
             shown.take("starts of the sections, in bytes", 11);
             shown.take("|R| |C| |X| |K_A| |K_B| |K_C|", 6);
