@@ -65,6 +65,33 @@ impl Domain {
     }
 }
 
+/// |R|, |C|, |X|, |K_A|, |K_B|, |K_C|; where they are allowed they give domains.
+#[derive(Clone, Copy, Debug, PartialEq, Eq)]
+pub(crate) struct Sizes(pub [u32; 6]);
+
+impl Sizes {
+    pub fn rows(self) -> Domain {
+        Domain::new(self.0[0])
+    }
+
+    pub fn columns(self) -> Domain {
+        Domain::new(self.0[1])
+    }
+
+    pub fn public(self) -> Domain {
+        Domain::new(self.0[2])
+    }
+
+    pub fn places(self) -> [Domain; 3] {
+        [3, 4, 5].map(|place| Domain::new(self.0[place]))
+    }
+
+    /// K, the largest K_M.
+    pub fn largest_places(self) -> Domain {
+        Domain::new(self.0[3].max(self.0[4]).max(self.0[5]))
+    }
+}
+
 pub fn domain(size: u32, lent_elements: &mut [u32]) -> Result<(), Refusal> {
     refusal::sizes(&[size])?;
     refusal::lists(&[lent_elements.len() == size as usize])?;

@@ -19,6 +19,7 @@ mod prover;
 mod record;
 mod refusal;
 mod statement;
+mod transcript;
 mod verdict;
 mod verifier;
 

@@ -1,37 +1,33 @@
 //! The verifier session: seven steps in one order. A step takes the session and gives back the next one
-//! with its answer, or the same one where it is refused.
+//! with its answer, or the same one where it is refused. A session may hold any words, such as no step
+//! made: every step is in turn only at its stage and with allowed sizes, and the last one only on words
+//! that steps can leave.
 
+use crate::domain::Sizes;
 use crate::field::{self, Element};
 use crate::message;
 use crate::refusal::{self, Refusal};
-use crate::verdict::{Heard, Openings, Verdict};
+use crate::transcript::{Transcript, TRANSCRIPT_WORDS};
+use crate::verdict::{Equations, Openings, Verdict};
 
-/// The words of a session: the steps taken, the six sizes, x in 1,024 words with zeros after the public
-/// ones, then α, σ, η, β, ω, δ, γ.
-pub const SESSION_WORDS: usize = 1046;
-/// The place of α among them.
-const HEARD_START: usize = 1031;
+/// The place of x among a session's words, after the stage and the six sizes.
+const X_START: usize = 7;
+/// The words that a session has for x.
+const X_WORDS: usize = 1024;
+/// The place of the transcript.
+const TRANSCRIPT_START: usize = X_START + X_WORDS;
+/// The words of a session: the stage, the six sizes, x, and the transcript.
+pub const SESSION_WORDS: usize = TRANSCRIPT_START + TRANSCRIPT_WORDS;
 
-/// The step whose turn it is.
-#[derive(Clone, Copy, Debug, PartialEq, Eq)]
-enum Turn {
-    Alpha,
-    Eta,
-    Beta,
-    Delta,
-    Gamma,
-    Openings,
-    Ended,
-}
-
-/// The turns in order; the first one comes after one step.
-const TURNS: [Turn; 7] = [Turn::Alpha, Turn::Eta, Turn::Beta, Turn::Delta, Turn::Gamma, Turn::Openings, Turn::Ended];
-
-/// A session, made by `open` and changed by its steps only.
+/// A session.
 #[derive(Clone, Debug, PartialEq, Eq)]
 pub struct Session {
-    turn: Turn,
-    heard: Heard,
+    /// How many of the seven steps were taken.
+    stage: u32,
+    sizes: Sizes,
+    /// The public words, and zeros after them.
+    x: [u32; X_WORDS],
+    transcript: Transcript<u32>,
 }
 
 /// Opens a session: sizes |R|, |C|, |X|, |K_A|, |K_B|, |K_C|, then x.
@@ -39,93 +35,116 @@ pub fn open(sizes: [u32; 6], public_words: &[u32]) -> Result<Session, Refusal> {
     refusal::sizes(&sizes)?;
     refusal::lists(&[public_words.len() == sizes[2] as usize])?;
     refusal::words(public_words.iter().copied())?;
-    let heard = Heard {
-        sizes,
-        public_words: field::elements(public_words),
-        alpha: Element::ZERO,
-        sums: [Element::ZERO; 3],
-        eta: [Element::ZERO; 3],
-        beta: Element::ZERO,
-        values: [Element::ZERO; 3],
-        delta: [Element::ZERO; 3],
-        gamma: Element::ZERO,
-    };
-    Ok(Session { turn: Turn::Alpha, heard })
+    let mut x = [0; X_WORDS];
+    x[..public_words.len()].copy_from_slice(public_words);
+    Ok(Session { stage: 1, sizes: Sizes(sizes), x, transcript: Transcript::new([0; TRANSCRIPT_WORDS]) })
 }
 
 impl Session {
     /// The lengths of ŵ, m and h0, then α.
     pub fn alpha(self, lengths: [u32; 3], alpha: u32) -> (Session, Result<(), Refusal>) {
         let sections = [message::WITNESS, message::MASK, message::ROW_QUOTIENT];
-        let answer = self.check(Turn::Alpha, &[alpha]).and_then(|()| {
-            refusal::challenge(0, Element::new(alpha), &self.heard.rows())?;
+        let answer = self.check(self.in_turn(1), &[alpha]).and_then(|()| {
+            refusal::challenge(0, Element::new(alpha), &self.sizes.rows())?;
             self.check_lengths(&lengths, &sections)
         });
-        self.step(answer, Turn::Eta, |heard| {
-            heard.alpha = Element::new(alpha);
+        self.step(answer, |transcript| {
+            transcript.alpha = alpha;
         })
     }
 
     /// The three σ, then the three η.
     pub fn eta(self, sums: [u32; 3], eta: [u32; 3]) -> (Session, Result<(), Refusal>) {
-        let answer = self.check(Turn::Eta, &[sums, eta].concat());
-        self.step(answer, Turn::Beta, |heard| {
-            heard.sums = sums.map(Element::new);
-            heard.eta = eta.map(Element::new);
+        let answer = self.check(self.in_turn(2), &[sums, eta].concat());
+        self.step(answer, |transcript| {
+            transcript.sums = sums;
+            transcript.eta = eta;
         })
     }
 
     /// The lengths of g1 and h1, then β.
     pub fn beta(self, lengths: [u32; 2], beta: u32) -> (Session, Result<(), Refusal>) {
         let sections = [message::LINE_REMAINDER, message::LINE_QUOTIENT];
-        let answer = self.check(Turn::Beta, &[beta]).and_then(|()| {
-            refusal::challenge(1, Element::new(beta), &self.heard.columns())?;
+        let answer = self.check(self.in_turn(3), &[beta]).and_then(|()| {
+            refusal::challenge(1, Element::new(beta), &self.sizes.columns())?;
             self.check_lengths(&lengths, &sections)
         });
-        self.step(answer, Turn::Delta, |heard| {
-            heard.beta = Element::new(beta);
+        self.step(answer, |transcript| {
+            transcript.beta = beta;
         })
     }
 
     /// The three ω and the lengths of g_A, g_B and g_C, then the three δ.
     pub fn delta(self, values: [u32; 3], lengths: [u32; 3], delta: [u32; 3]) -> (Session, Result<(), Refusal>) {
         let answer = self
-            .check(Turn::Delta, &[values, delta].concat())
+            .check(self.in_turn(4), &[values, delta].concat())
             .and_then(|()| self.check_lengths(&lengths, &message::MATRIX_REMAINDERS));
-        self.step(answer, Turn::Gamma, |heard| {
-            heard.values = values.map(Element::new);
-            heard.delta = delta.map(Element::new);
+        self.step(answer, |transcript| {
+            transcript.values = values;
+            transcript.delta = delta;
         })
     }
 
     /// The length of h2, then γ.
     pub fn gamma(self, length: u32, gamma: u32) -> (Session, Result<(), Refusal>) {
-        let answer = self.check(Turn::Gamma, &[gamma]).and_then(|()| {
-            refusal::challenge(2, Element::new(gamma), &self.heard.largest_places())?;
+        let answer = self.check(self.in_turn(5), &[gamma]).and_then(|()| {
+            refusal::challenge(2, Element::new(gamma), &self.sizes.largest_places())?;
             self.check_lengths(&[length], &[message::JOINED_QUOTIENT])
         });
-        self.step(answer, Turn::Openings, |heard| {
-            heard.gamma = Element::new(gamma);
+        self.step(answer, |transcript| {
+            transcript.gamma = gamma;
         })
     }
 
     /// The 21 openings; the answer is the verdict.
     pub fn openings(self, openings: [u32; 21]) -> (Session, Result<Verdict, Refusal>) {
-        let answer = self.check(Turn::Openings, &openings);
-        let verdict = answer.map(|()| self.heard.verdict(&Openings::new(openings)));
-        let (session, _) = self.step(answer, Turn::Ended, |_| ());
+        let answer = self.check(self.in_turn(6) && self.left_by_steps(), &openings);
+        let verdict = answer.map(|()| self.verdict(Openings::new(openings)));
+        let (session, _) = self.step(answer, |_| ());
         (session, verdict)
     }
 
+    /// Whether so many steps were taken, with sizes such as opening leaves.
+    fn in_turn(&self, steps: u32) -> bool {
+        self.stage == steps && refusal::sizes(&self.sizes.0).is_ok()
+    }
+
+    /// The public words and the zeros after them, of a session with allowed sizes.
+    fn public_words(&self) -> (&[u32], &[u32]) {
+        self.x.split_at(self.sizes.0[2] as usize)
+    }
+
+    /// Whether x and the transcript are such as steps leave, with allowed sizes: the public words and the
+    /// transcript are below p, zeros come after the public words, α is outside R, β outside C, γ outside K.
+    fn left_by_steps(&self) -> bool {
+        let (public_words, rest) = self.public_words();
+        let below = refusal::words([public_words, &self.transcript.words()].concat()).is_ok();
+        let padded = rest.iter().all(|&word| word == 0);
+        let Transcript { alpha, beta, gamma, .. } = self.transcript.elements();
+        let inside = [
+            self.sizes.rows().contains(alpha),
+            self.sizes.columns().contains(beta),
+            self.sizes.largest_places().contains(gamma),
+        ];
+        below && padded && inside == [false; 3]
+    }
+
+    /// The verdict on what steps leave.
+    fn verdict(&self, openings: Openings) -> Verdict {
+        let public_words = field::elements(self.public_words().0);
+        let (sizes, transcript) = (self.sizes, self.transcript.elements());
+        Equations { sizes, public_words, transcript, openings }.verdict()
+    }
+
     /// Checks 1 and 6: the step's turn and its field words.
-    fn check(&self, turn: Turn, words: &[u32]) -> Result<(), Refusal> {
-        refusal::turn(self.turn == turn)?;
+    fn check(&self, in_turn: bool, words: &[u32]) -> Result<(), Refusal> {
+        refusal::turn(in_turn)?;
         refusal::words(words.iter().copied())
     }
 
     /// Check 11: declared lengths against those of their sections.
     fn check_lengths(&self, declared: &[u32], sections: &[usize]) -> Result<(), Refusal> {
-        let lengths = message::lengths(self.heard.sizes);
+        let lengths = message::lengths(self.sizes.0);
         let limits: Vec<usize> = sections.iter().map(|&section| lengths[section]).collect();
         refusal::declared_lengths(declared, &limits)
     }
@@ -134,53 +153,28 @@ impl Session {
     fn step(
         mut self,
         answer: Result<(), Refusal>,
-        next: Turn,
-        hear: impl FnOnce(&mut Heard),
+        hear: impl FnOnce(&mut Transcript<u32>),
     ) -> (Session, Result<(), Refusal>) {
         if answer.is_ok() {
-            self.turn = next;
-            hear(&mut self.heard);
+            self.stage += 1;
+            hear(&mut self.transcript);
         }
         (self, answer)
     }
 
-    /// The session as words.
+    /// The session as words: the stage, the six sizes, x, and the transcript.
     pub fn words(&self) -> [u32; SESSION_WORDS] {
-        let heard = &self.heard;
-        let steps = TURNS.iter().take_while(|&&turn| turn != self.turn).count() + 1;
-        let mut words = [0; SESSION_WORDS];
-        words[0] = steps as u32;
-        words[1..7].copy_from_slice(&heard.sizes);
-        field::fill(&mut words[7..HEARD_START], &heard.public_words);
-        let rest = [&[heard.alpha][..], &heard.sums, &heard.eta, &[heard.beta]];
-        let rest = [rest.concat(), [&heard.values[..], &heard.delta, &[heard.gamma]].concat()].concat();
-        field::fill(&mut words[HEARD_START..], &rest);
-        words
+        let words = [&[self.stage][..], &self.sizes.0, &self.x, &self.transcript.words()].concat();
+        std::array::from_fn(|place| words[place])
     }
 
-    /// The session that has these words: one to seven steps, allowed sizes, words below p, and zeros after
-    /// the public words. Other words are no session's.
-    pub fn from_words(words: &[u32; SESSION_WORDS]) -> Option<Session> {
-        let steps = (words[0] as usize).checked_sub(1)?;
-        let turn = *TURNS.get(steps)?;
-        let sizes = [1, 2, 3, 4, 5, 6].map(|place| words[place]);
-        refusal::sizes(&sizes).ok()?;
-        let public_end = 7 + sizes[2] as usize;
-        let padded = words[public_end..HEARD_START].iter().all(|&word| word == 0);
-        refusal::words(words[7..].iter().copied()).ok().filter(|()| padded)?;
-        let one = |place: usize| Element::new(words[HEARD_START + place]);
-        let three = |place: usize| [one(place), one(place + 1), one(place + 2)];
-        let heard = Heard {
-            sizes,
-            public_words: field::elements(&words[7..public_end]),
-            alpha: one(0),
-            sums: three(1),
-            eta: three(4),
-            beta: one(7),
-            values: three(8),
-            delta: three(11),
-            gamma: one(14),
-        };
-        Some(Session { turn, heard })
+    /// The session that has these words, also one that no step made.
+    pub fn from_words(words: &[u32; SESSION_WORDS]) -> Session {
+        Session {
+            stage: words[0],
+            sizes: Sizes(std::array::from_fn(|place| words[1 + place])),
+            x: std::array::from_fn(|place| words[X_START + place]),
+            transcript: Transcript::new(std::array::from_fn(|place| words[TRANSCRIPT_START + place])),
+        }
     }
 }

@@ -8,9 +8,9 @@ use compare::random::{count, elements, Random, BOUNDARY_WORDS};
 use second::{Check, Refusal, Verdict, MODULUS, SESSION_WORDS};
 use std::fmt;
 
-/// The place of the first public word among a session's words, and of α.
+/// The place of the first public word among a session's words, and of the transcript.
 const PUBLIC_START: usize = 7;
-const HEARD_START: usize = 1031;
+const TRANSCRIPT_START: usize = 1031;
 
 /// A step with its words.
 #[derive(Clone, Debug)]
@@ -59,19 +59,13 @@ impl Step {
         taken.map(|()| None)
     }
 
-    /// The step on the second implementation's session; there is none before it is opened.
-    fn take_second(&self, session: Option<second::Session>) -> (Option<second::Session>, Answer) {
-        if let Step::Open(sizes, x) = self {
-            return match second::open(*sizes, x) {
-                Ok(opened) => (Some(opened), Ok(None)),
-                Err(refusal) => (session, Err(refusal)),
-            };
-        }
-        let Some(session) = session else {
-            return (None, Err(OUT_OF_TURN));
-        };
+    /// The step on the second implementation's session.
+    fn take_second(&self, session: second::Session) -> (second::Session, Answer) {
         let (next, taken) = match self {
-            Step::Open(..) => unreachable!("opening is taken above"),
+            Step::Open(sizes, x) => match second::open(*sizes, x) {
+                Ok(opened) => (opened, Ok(())),
+                Err(refusal) => (session, Err(refusal)),
+            },
             Step::Alpha(lengths, alpha) => session.alpha(*lengths, *alpha),
             Step::Eta(sums, eta) => session.eta(*sums, *eta),
             Step::Beta(lengths, beta) => session.beta(*lengths, *beta),
@@ -79,10 +73,10 @@ impl Step {
             Step::Gamma(length, gamma) => session.gamma(*length, *gamma),
             Step::Openings(openings) => {
                 let (next, verdict) = session.openings(*openings);
-                return (Some(next), verdict.map(Some));
+                return (next, verdict.map(Some));
             }
         };
-        (Some(next), taken.map(|()| None))
+        (next, taken.map(|()| None))
     }
 
     /// All words of the step.
@@ -96,20 +90,6 @@ impl Step {
             Step::Gamma(length, gamma) => vec![length, gamma],
             Step::Openings(openings) => openings.iter_mut().collect(),
         }
-    }
-
-    /// The places among a session's words that the step writes, besides the first.
-    fn written(&self) -> std::ops::Range<usize> {
-        let (start, end) = match self {
-            Step::Open(..) => return 1..SESSION_WORDS,
-            Step::Alpha(..) => (0, 1),
-            Step::Eta(..) => (1, 7),
-            Step::Beta(..) => (7, 8),
-            Step::Delta(..) => (8, 14),
-            Step::Gamma(..) => (14, 15),
-            Step::Openings(..) => (15, 15),
-        };
-        HEARD_START + start..HEARD_START + end
     }
 }
 
@@ -134,20 +114,29 @@ impl fmt::Display for Run {
 #[derive(Clone)]
 struct Pair {
     ours: library::Session,
-    theirs: Option<second::Session>,
+    theirs: second::Session,
     run: Run,
 }
 
 impl Pair {
     fn new() -> Pair {
-        let pair =
-            Pair { ours: library::Session::unopened(), theirs: None, run: Run { start: None, steps: Vec::new() } };
+        let theirs = second::Session::from_words(&[0; SESSION_WORDS]);
+        let pair = Pair { ours: library::Session::unopened(), theirs, run: Run { start: None, steps: Vec::new() } };
         pair.compare();
         pair
     }
 
+    /// Sessions of these words, whether or not steps can make them.
+    fn of_words(words: [u32; SESSION_WORDS]) -> Pair {
+        Pair {
+            ours: library::Session::from_words(words),
+            theirs: second::Session::from_words(&words),
+            run: Run { start: Some(words), steps: Vec::new() },
+        }
+    }
+
     fn compare(&self) {
-        let theirs = self.theirs.as_ref().map_or([0; SESSION_WORDS], second::Session::words);
+        let theirs = self.theirs.words();
         let differing = (0..SESSION_WORDS).find(|&place| self.ours.words()[place] != theirs[place]);
         assert_eq!(differing, None, "the sessions differ at this word");
     }
@@ -158,7 +147,7 @@ impl Pair {
         let run = self.run.clone();
         let _input = Input(&run);
         let answer = step.take(&mut self.ours);
-        let (theirs, expected) = step.take_second(self.theirs.take());
+        let (theirs, expected) = step.take_second(self.theirs.clone());
         self.theirs = theirs;
         assert_eq!(answer, expected, "the library's answer, then the second implementation's");
         self.compare();
@@ -327,24 +316,6 @@ fn tampered_proofs() {
     assert!(verdicts.iter().all(|&number| number > 20), "{verdicts:?}");
 }
 
-/// The words that a step gives a session of any words, and its answer. Words of p or more stand for their remainders and stay as
-/// they are where the step does not write them; where sizes or steps taken are such as no step leaves, every step but opening is
-/// out of turn.
-fn expected(words: &[u32; SESSION_WORDS], step: &Step) -> ([u32; SESSION_WORDS], Answer) {
-    let mut reduced = *words;
-    reduced[PUBLIC_START..].iter_mut().for_each(|word| *word %= MODULUS);
-    let public_end = PUBLIC_START + words[3].min(1024) as usize;
-    reduced[public_end..HEARD_START].fill(0);
-    let (next, answer) = step.take_second(second::Session::from_words(&reduced));
-    let mut after = *words;
-    if let (Some(next), Ok(_)) = (next, answer) {
-        let next = next.words();
-        after[0] = next[0];
-        after[step.written()].copy_from_slice(&next[step.written()]);
-    }
-    (after, answer)
-}
-
 /// Words as a session could hold them, and then some that no step leaves.
 fn any_words(random: &mut Random) -> [u32; SESSION_WORDS] {
     let mut words = [0; SESSION_WORDS];
@@ -358,33 +329,66 @@ fn any_words(random: &mut Random) -> [u32; SESSION_WORDS] {
     words
 }
 
-/// Sessions that no step made: random steps taken, sizes, public words and words heard.
+/// Sessions that no step made: random stages, sizes, public words and transcripts.
 #[test]
 fn sessions_that_no_step_made() {
     let mut random = Random::new(44);
     let mut taken = 0;
     for _ in 0..count(500) {
         let (case, proof) = proved(&mut random, 3);
-        let steps = Step::of_proof(&case, &proof);
-        let words = any_words(&mut random);
-        for step in steps {
-            let mut step = step;
+        let pair = Pair::of_words(any_words(&mut random));
+        for mut step in Step::of_proof(&case, &proof) {
             for length in step.words() {
                 *length = if random.one_in(3) { 0 } else { *length };
             }
-            let run = Run { start: Some(words), steps: vec![step.clone()] };
-            let _input = Input(&run);
-            let mut ours = library::Session::from_words(words);
-            let answer = step.take(&mut ours);
-            let (after, expected) = expected(&words, &step);
-            assert_eq!(answer, expected, "the library's answer, then the second implementation's");
-            assert_eq!(
-                (0..SESSION_WORDS).find(|&place| ours.words()[place] != after[place]),
-                None,
-                "the session's word"
-            );
+            let answer = pair.clone().take(&step);
             taken += u64::from(answer.is_ok() && !matches!(step, Step::Open(..)));
         }
     }
     assert!(taken > 50, "{taken}");
+}
+
+/// The words of a session with one word forged: public words and words of the transcript of p or more, words after x that are
+/// not 0, challenges inside their domains and elements of the next larger ones, and other stages.
+fn forgeries(good: &[u32; SESSION_WORDS]) -> Vec<[u32; SESSION_WORDS]> {
+    let [rows, columns, public, a, b, c] = [1, 2, 3, 4, 5, 6].map(|place| good[place]);
+    let public_end = PUBLIC_START + public as usize;
+    let mut changes = Vec::new();
+    for place in (PUBLIC_START..public_end).chain(TRANSCRIPT_START..SESSION_WORDS) {
+        changes.extend([MODULUS, MODULUS + good[place], u32::MAX].map(|word| (place, word)));
+    }
+    for place in [public_end, public_end + 1, TRANSCRIPT_START - 1] {
+        changes.extend([1, MODULUS, u32::MAX].map(|word| (place, word)));
+    }
+    for (place, size) in [(0, rows), (7, columns), (14, a.max(b).max(c))] {
+        changes.extend(elements(2 * size).into_iter().map(|element| (TRANSCRIPT_START + place, element)));
+    }
+    changes.extend((0..9).map(|stage| (0, stage)));
+    changes.retain(|&(place, word)| good[place] != word);
+    let forged = |(place, word): (usize, u32)| std::array::from_fn(|at| if at == place { word } else { good[at] });
+    changes.into_iter().map(forged).collect()
+}
+
+/// Sessions forged from those of good runs: every step must answer alike, and the last one gives a verdict on some of them and
+/// finds others out of turn.
+#[test]
+fn forged_sessions() {
+    let mut random = Random::new(46);
+    let (mut refused, mut judged) = (0, 0);
+    for _ in 0..count(12) {
+        let (case, proof) = proved(&mut random, 3);
+        let steps = Step::of_proof(&case, &proof);
+        let mut good = Pair::new();
+        for step in &steps {
+            assert!(good.take(step).is_ok());
+            for words in forgeries(good.ours.words()) {
+                let pair = Pair::of_words(words);
+                let answers = steps.each_ref().map(|step| pair.clone().take(step));
+                refused += u64::from(answers[6] == Err(OUT_OF_TURN));
+                judged += u64::from(answers[6].is_ok());
+            }
+        }
+    }
+    println!("{refused} forged sessions refused by the last step, {judged} given a verdict");
+    assert!(refused > 0 && judged > 0, "{refused} {judged}");
 }

@@ -144,7 +144,7 @@ impl Case {
         Ok(Proof { sections, openings: self.openings()? })
     }
 
-    /// A session just before the openings, which has heard the proof.
+    /// A session just before the openings, with the proof's transcript.
     pub fn session(&self, proof: &Proof) -> Result<Session, Refusal> {
         let length = |section: usize| proof.sections[section].len() as u32;
         let three = |section: usize| [0, 1, 2].map(|place| proof.sections[section][place]);

@@ -177,23 +177,68 @@ fn refused_step_may_be_tried_again() {
 fn words() {
     for (turn, session) in run().iter().enumerate() {
         let words = session.words();
-        let heard = |steps: usize, word: u32| if turn >= steps { word } else { 0 };
-        let top = |steps: usize| [heard(steps, P - 1); 3];
+        let after = |steps: usize, word: u32| if turn >= steps { word } else { 0 };
+        let top = |steps: usize| [after(steps, P - 1); 3];
         assert_eq!(words[..7], [turn as u32 + 1, 4, 8, 2, 1, 2, 4]);
         assert_eq!((&words[7..9], words[9..1031].iter().all(|&word| word == 0)), (&[1, 2][..], true));
-        let expected = [vec![heard(1, 3)], [top(2), top(2)].concat(), vec![heard(3, 3)], [top(4), top(4)].concat()];
-        assert_eq!(words[1031..], [expected.concat(), vec![heard(5, 3)]].concat());
-        assert_eq!(Session::from_words(&words).as_ref(), Some(session));
+        let transcript = [vec![after(1, 3)], [top(2), top(2)].concat(), vec![after(3, 3)], [top(4), top(4)].concat()];
+        assert_eq!(words[1031..], [transcript.concat(), vec![after(5, 3)]].concat());
+        assert_eq!(Session::from_words(&words), *session);
     }
 }
 
+/// The last step's refusal of a session that could be given a verdict, but for one word.
+fn forged(place: usize, word: u32) -> Option<(u32, usize)> {
+    let mut words = run()[5].words();
+    words[place] = word;
+    let session = Session::from_words(&words);
+    assert_eq!(session.words(), words);
+    refused(&session, |session| session.openings([P - 1; 21]))
+}
+
+/// A verdict is given only on what steps can leave.
 #[test]
-fn words_of_no_session() {
-    let good = run()[6].words();
-    let changes = [(0, 0), (0, 8), (1, 3), (3, 16), (6, 2048), (8, P), (9, 1), (1030, 1), (1031, P), (1045, u32::MAX)];
-    for (place, word) in changes {
-        let mut words = good;
-        words[place] = word;
-        assert_eq!(Session::from_words(&words), None, "{place} {word}");
+fn forged_sessions() {
+    for word in [P, u32::MAX] {
+        for place in 0..1046 {
+            assert_eq!(forged(place, word), Some((1, 0)), "{place}");
+        }
+    }
+    for place in 9..1031 {
+        assert_eq!(forged(place, 1), Some((1, 0)), "{place}");
+    }
+    for stage in (0..10).filter(|&stage| stage != 6) {
+        assert_eq!(forged(0, stage), Some((1, 0)));
+    }
+    for (place, size) in [(1, 0), (2, 3), (3, 16), (6, 2048)] {
+        assert_eq!(forged(place, size), Some((1, 0)));
+    }
+    for place in [7, 8].into_iter().chain(1032..1038).chain(1039..1045) {
+        assert_eq!(forged(place, 0), None, "{place}");
+        assert_eq!(forged(place, P - 1), None, "{place}");
+    }
+    for (place, size) in [(1031, 4), (1038, 8), (1045, 4)] {
+        let root = second::power(31, (P - 1) / (2 * size)).unwrap();
+        for exponent in 0..2 * size {
+            let inside = (exponent % 2 == 0).then_some((1, 0));
+            assert_eq!(forged(place, second::power(root, exponent).unwrap()), inside);
+        }
+        assert_eq!(forged(place, 0), None);
+    }
+}
+
+/// Other steps leave the words that they do not set, whatever these are.
+#[test]
+fn steps_on_any_words() {
+    let mut words = [u32::MAX; 1046];
+    words[..7].copy_from_slice(&[1, 4, 8, 2, 1, 2, 4]);
+    let (session, answer) = Session::from_words(&words).alpha([7, 16, 3], 3);
+    words[0] = 2;
+    words[1031] = 3;
+    assert_eq!((session.words(), answer), (words, Ok(())));
+    for size in [0, 3, 2048, u32::MAX] {
+        words[4] = size;
+        let session = Session::from_words(&words);
+        assert_eq!(refused(&session, |session| session.eta([0; 3], [0; 3])), Some((1, 0)));
     }
 }

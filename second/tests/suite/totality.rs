@@ -113,6 +113,18 @@ fn any_step(random: &mut Random, session: Session) -> (Session, bool) {
     (next, refused)
 }
 
+/// A session of any words; stage and sizes are mostly those of a session.
+fn any_session(random: &mut Random) -> Session {
+    let stage = if random.below(10) == 0 { any_word(random) } else { random.below(8) as u32 };
+    let size = |random: &mut Random| if random.below(20) == 0 { any_word(random) } else { 1 << random.below(11) };
+    let words = std::array::from_fn(|place| match place {
+        0 => stage,
+        1..7 => size(random),
+        _ => tame_word(random),
+    });
+    Session::from_words(&words)
+}
+
 /// A step's session, and whether it was refused.
 trait MapRefused {
     fn map_refused(self) -> (Session, bool);
@@ -142,6 +154,21 @@ fn sessions() {
         }
     }
     assert!(steps > 5000, "{steps}");
+}
+
+#[test]
+fn sessions_of_any_words() {
+    let mut random = Random::new(23);
+    let mut steps = 0;
+    for _ in 0..5000 {
+        let mut session = any_session(&mut random);
+        for _ in 0..10 {
+            let (next, refused) = any_step(&mut random, session);
+            session = next;
+            steps += usize::from(!refused);
+        }
+    }
+    assert!(steps > 1000, "{steps}");
 }
 
 #[test]
