@@ -1,5 +1,5 @@
 -- `verifier::refusals::judge_lengths` meets its contract: the lengths before i are within the table. Assumes nothing.
-use mathlib.Core.Path.{_≡_, refl, sym, _∙_}
+use mathlib.Core.Path.{_≡_, sym, _∙_}
 use mathlib.Core.Bool.{Bool, true}
 use mathlib.Core.List.{List}
 use Prim.Native.Nat.{_-_, _≤_}
