@@ -27,7 +27,7 @@ numbers-append [] m = refl
 numbers-append (w ∷ l) m = ap (λ t. number w ++ t) (numbers-append l m) ∙ sym (append-assoc (number w) (numbers l) (numbers m))
 
 -- one word more
-pub numbers-more : (ws : List ℕ) (i : ℕ) → i < length ws → numbers (take i ws) ++ number (getD ws i 0) ≡ numbers (take (i + 1) ws)
+numbers-more : (ws : List ℕ) (i : ℕ) → i < length ws → numbers (take i ws) ++ number (getD ws i 0) ≡ numbers (take (i + 1) ws)
 unfolding numbers
 numbers-more ws i h =
     let more : take (i + 1) ws ≡ take i ws ++ (getD ws i 0 ∷ []) = ap (λ n. take n ws) (add-one i) ∙ take-suc ws i 0 h in
@@ -40,7 +40,7 @@ unfolding numbers
 words-then [] end = refl
 words-then (w ∷ ws) end = ap (λ t. space ∷ t) (append-assoc (decimal w) (numbers ws) end ∙ ap (λ t. decimal w ++ t) (words-then ws end))
 
-pub line-in-parts : (name ws : List ℕ) → name ++ (numbers ws ++ (newline ∷ [])) ≡ line name ws
+line-in-parts : (name ws : List ℕ) → name ++ (numbers ws ++ (newline ∷ [])) ≡ line name ws
 unfolding line
 line-in-parts name ws = ap (λ t. name ++ t) (words-then ws (newline ∷ []))
 

@@ -55,17 +55,17 @@ module _ (i : ProverInput) where
       ∷ [])
 
   -- what 5, 6 and 10 let through: lists, the words of the circuit, z, r, m and the challenges, and points
-  pub record Passed (ws points : List ℕ) : Type 0 where
-    pub lists-pass : Passes (entryListTests (i .circuit))
-    pub assignment-passes : Passes (assignmentTests c (i .z) (i .m))
-    pub values-below : Below (entryValues c)
-    pub z-below : Below (i .z)
-    pub r-below : i .r < babyBear .p
-    pub m-below : Below (i .m)
-    pub challenges-below : Below ws
-    pub points-outside : Passes (pointTests points)
+  record Passed (ws points : List ℕ) : Type 0 where
+    lists-pass : Passes (entryListTests (i .circuit))
+    assignment-passes : Passes (assignmentTests c (i .z) (i .m))
+    values-below : Below (entryValues c)
+    z-below : Below (i .z)
+    r-below : i .r < babyBear .p
+    m-below : Below (i .m)
+    challenges-below : Below ws
+    points-outside : Passes (pointTests points)
 
-  pub passed : {ws points : List ℕ} → Free i ws points → Passed ws points
+  passed : {ws points : List ℕ} → Free i ws points → Passed ws points
   unfolding roundRefusal proverRefusal circuitRefusals listRefusal challengeRefusal
   passed {ws} {points} free =
       let row = first-none (rows (tests []) ws points) (free .none-refused) in
@@ -87,7 +87,7 @@ module _ (i : ProverInput) where
       }
 
   -- with lent slices, and with other challenges
-  pub round-free : (lens : List ℕ) {ws points : List ℕ} (ws′ points′ : List ℕ) → Free i ws points → Below ws′ → Passes (pointTests points′)
+  round-free : (lens : List ℕ) {ws points : List ℕ} (ws′ points′ : List ℕ) → Free i ws points → Below ws′ → Passes (pointTests points′)
       → roundRefusal babyBear i lens lens ws′ points′ ≡ none
   unfolding roundRefusal proverRefusal circuitRefusals listRefusal challengeRefusal
   round-free lens {ws} {points} ws′ points′ free below outside =
