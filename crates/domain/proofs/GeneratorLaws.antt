@@ -1,5 +1,5 @@
--- The table of the eleven generators: entry k has order 2^k and is the word of g_n for n = 2^k, each shown by one test over the
--- whole table. Assumes nothing.
+-- The table of the eleven generators (document 01, "Field and domains"): entry k has order 2^k and is the word of g_n for n = 2^k,
+-- each shown by one test over the whole table. Assumes nothing.
 use mathlib.Core.Path.{_≡_}
 use mathlib.Core.Bool.{Bool, true, _&&_}
 use mathlib.Core.List.{List, [], _∷_}

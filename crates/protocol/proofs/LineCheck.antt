@@ -1,5 +1,5 @@
 -- What Line means: g1 and h1 of lengths |C| - 1 and |C| make its sides equal at more than 2|C| - 1 points outside C exactly when
--- m + Σ η_M M̂(α,Y) ẑ(Y) adds to σ over C. Assumes nothing.
+-- m + Σ η_M M̂(α,Y) ẑ(Y) adds to σ over C (document 01, "The claims behind them"). Assumes nothing.
 use mathlib.Core.Path.{_≡_, refl, sym, ap, ap₂, _∙_}
 use mathlib.Core.Logic.{_≢_}
 use mathlib.Core.List.{List, [], _∷_, tail}

@@ -1,5 +1,5 @@
 -- What Row means: h0 of length |R| - 1 makes its sides equal at more than 2|R| - 2 points outside R exactly when ẑ satisfies every
--- row. Assumes nothing.
+-- row (document 01, "The claims behind them"). Assumes nothing.
 use mathlib.Core.Path.{_≡_, sym, ap, ap₂, _∙_}
 use Prim.Native.Nat.{ℕ, _+_, _-_, _*_, _<_}
 use lib.ListN.{length}

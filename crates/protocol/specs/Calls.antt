@@ -1,5 +1,5 @@
--- The public calls on circuits, polynomials, domains and records as functions of words: the rows of the table of refusals
--- that apply, in its order, and the result. A lent slice is given by its length; where the call is done it holds the words of
+-- The public calls on circuits, polynomials, domains and records as functions of words: the rows of document 01's table of
+-- refusals that apply, in its order, and the result. A lent slice is given by its length; where the call is done it holds the words of
 -- the result, and where it is refused it stays as it was. (The session's calls are in Session.) Assumes nothing.
 use mathlib.Core.Bool.{Bool, _&&_}
 use mathlib.Core.List.{List, [], _∷_, _++_, map, foldr}

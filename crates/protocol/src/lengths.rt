@@ -1,4 +1,4 @@
-// The table of messages' column "Length", for any six sizes: the one place of the code where it stands.
+// The column "Length" of document 01's table of messages, for any six sizes: the one place of the code where it stands.
 ghost use mathlib.Core.Path.{_≡_};
 ghost use Prim.Native.Nat.{_-_, _<_};
 ghost use Rattle.protocol.specs.Messages.{lengths};
