@@ -1,14 +1,75 @@
 /*
- * The public calls of the module, for C. docs/CALLS.md has each call's inputs, refusals and result.
+ * Varuna for one R1CS circuit, over the field of p = 2,013,265,921 elements: the calls of libvaruna_c.a, for C and C++. This file is
+ * enough to use them; docs/CALLS.md has the same calls as tables, and "document 01" is the specification behind both.
  *
- * Every call that can refuse returns 0 where it is done, else the refusal's number in document 01's table. It sets *position to the
- * refusal's position, and to 0 where it is done. A refusal changes no other memory: no result, no slice and no session. Only *verdict is
- * set by a refused step, too: to VARUNA_NO_VERDICT.
+ * A verifier is the seven steps of a session. It hears the prover's messages, draws each challenge after the messages before it, and
+ * learns the openings from the commitments that the host checks. With the words of document 01's square case, whose prover knows a
+ * square root of 9:
  *
- * A slice is a pointer and a length in elements. The pointer is not null and is aligned, also where the length is 0. Memory that a
- * call writes overlaps none of its other arguments. An array parameter with a length in brackets has exactly that length.
+ *     #include "varuna.h"
  *
- * An entry list holds three words for each entry: row, column, value. Nothing is kept between calls; no call allocates memory.
+ *     int accepts(void)
+ *     {
+ *         uint32_t session[VARUNA_SESSION_WORDS], verdict = VARUNA_NO_VERDICT;
+ *         size_t position;
+ *         const uint32_t sizes[VARUNA_SIZES] = {1, 2, 1, 1, 1, 1};
+ *         const uint32_t x[1] = {9};
+ *         const uint32_t sigma[3] = {3, 3, 9}, eta[3] = {1, 1, 2};
+ *         const uint32_t omega[3] = {VARUNA_MODULUS - 1, VARUNA_MODULUS - 1, 2}, delta[3] = {1, 1, 1};
+ *         const uint32_t g_lengths[3] = {0, 0, 0};
+ *         const uint32_t openings[VARUNA_OPENINGS] = {
+ *             7, 19, 7, 4, 0, 0, 0, 0, 0,
+ *             1, VARUNA_MODULUS - 1, VARUNA_MODULUS - 1, VARUNA_MODULUS - 1,
+ *             1, VARUNA_MODULUS - 1, VARUNA_MODULUS - 1, VARUNA_MODULUS - 1,
+ *             1, 1, 1, 1,
+ *         };
+ *
+ *         return varuna_session_open(session, sizes, x, 1, &position) == VARUNA_DONE
+ *             && varuna_session_alpha(session, 2, 4, 0, 2, &position) == VARUNA_DONE
+ *             && varuna_session_eta(session, sigma, eta, &position) == VARUNA_DONE
+ *             && varuna_session_beta(session, 1, 2, 3, &position) == VARUNA_DONE
+ *             && varuna_session_delta(session, omega, g_lengths, delta, &position) == VARUNA_DONE
+ *             && varuna_session_gamma(session, 0, 5, &position) == VARUNA_DONE
+ *             && varuna_session_openings(session, openings, &verdict, &position) == VARUNA_DONE
+ *             && verdict == VARUNA_ACCEPT;
+ *     }
+ *
+ * ANSWERS. Every call but varuna_session_new returns VARUNA_DONE, or the number of the first refusal that applies. It sets *position to
+ * the refusal's position, and to 0 where it is done. A refusal changes no other memory: no result, no slice and no session. Only *verdict
+ * is set by a refused last step, too: to VARUNA_NO_VERDICT. No call keeps anything for the next one.
+ *
+ * NAMES are document 01's, everywhere:
+ *
+ *     rows, columns, publics        the sizes |R|, |C|, |X|: the numbers of rows, of columns and of public columns
+ *     entries_a, .._b, .._c         the entry lists of the matrices A, B, C
+ *     x, z                          the public words; the assignment, a word for each column
+ *     r, m                          the mask word; the mask polynomial
+ *     w, h0, g1, h1, ga, gb, gc, h2 polynomials that the prover sends; w is document 01's w with a hat
+ *     sigma, omega                  the claimed sums and the claimed matrix values, each for A, B, C
+ *     alpha, eta, beta, delta, gamma the challenges; eta and delta have one each for A, B, C
+ *     |K_A|, |K_B|, |K_C|, |K|      the smallest size not below the matrix's count of entries (1 for none); the largest of the three
+ *
+ * WORDS. A field word is below VARUNA_MODULUS. A size is a power of two from 1 to VARUNA_MAX_SIZE, and |X| is at most |C|. A polynomial is
+ * its coefficients, the constant first, in exactly the length named; zeros at its end stay. An entry list has three words for each entry,
+ * row, column, value: at most 1,024 entries, 3,072 words, rising by row and then by column; a row is below |R|, a column below |C|, a
+ * value from 1 to p - 1. Column i is public exactly when i is a multiple of |C|/|X|; x has the words of z there, in order.
+ *
+ * MEMORY. A slice is a pointer and its length in elements: words, or bytes for a record. That many elements stand at the pointer. An array
+ * parameter with a length in brackets has exactly that length. No pointer is null, also where the length is 0. Pointers to words are
+ * aligned to 4 bytes, pointers to size_t to 8, pointers to bytes to 1. Memory that a call writes, *position included, overlaps nothing
+ * else that it is given; memory that it only reads may overlap. While a call runs nothing else writes what it is given. A wrong length is
+ * refused; a breach of this paragraph is not noticed.
+ *
+ * THE SESSION is the host's to guard. Its words are what the verifier knows, and whoever can write them can write a session that other
+ * steps would have made: the verdict is then about those. So is the rest of what the calls can't see: that each challenge is drawn after
+ * the messages before it and is not known to the prover earlier, that an opening is the value of a polynomial of the declared length
+ * that was fixed before the point, and that the index polynomials opened are those of the circuit meant.
+ *
+ * PLATFORM. The archive is one object for x86-64 with the System V calling convention, as on Linux; the toolchain builds for no other
+ * target. It uses the base instruction set with SSE2 registers and the red zone below the stack pointer, is position independent, and has
+ * no variables: calls on separate memory may run at the same time. It calls memcpy and memset and nothing else: no heap, no files, no
+ * system calls. The stack is measured, not proved: tests/c/stack.c runs every call at the largest sizes. varuna_openings took the most,
+ * 62,480 bytes, then varuna_third_round, 50,072; a step of the session took at most 4,696.
  */
 #ifndef VARUNA_H
 #define VARUNA_H
@@ -16,150 +77,254 @@
 #include <stddef.h>
 #include <stdint.h>
 
-/* The words of a session: the stage, the six sizes, the 1,024 words of x, and the transcript. What they mean is said above the session's
- * calls. */
+#ifdef __cplusplus
+extern "C" {
+#endif
+
+/* The version of what this file declares. The first number rises when a program that used the calls as described here has to change, the
+ * second when calls or constants are added, the third when only text, speed or stack change. The archive belongs to the file it came with
+ * and holds no version of its own. */
+#define VARUNA_VERSION "1.0.0"
+#define VARUNA_VERSION_MAJOR 1
+#define VARUNA_VERSION_MINOR 0
+#define VARUNA_VERSION_PATCH 0
+
+/* p, the number of elements of the field. */
+#define VARUNA_MODULUS UINT32_C(2013265921)
+
+/* The largest size. */
+#define VARUNA_MAX_SIZE 1024
+
+/* The words of an entry, and the most words of an entry list. */
+#define VARUNA_ENTRY_WORDS 3
+#define VARUNA_MAX_ENTRY_LIST 3072
+
+/* The most words that varuna_evaluate takes. */
+#define VARUNA_MAX_COEFFICIENTS 2048
+
+/* The words of a session; what they mean is said above the session's calls. */
 #define VARUNA_SESSION_WORDS 1046
 
-/* The openings, in order: the witness, m, g1, h1 at beta; h0 at alpha; h2, g_A, g_B, g_C at gamma; then row, col, rowcol, rowcolval at
- * gamma for A, B, C. */
-#define VARUNA_OPENINGS 21
-
-/* |R|, |C|, |X|, |K_A|, |K_B|, |K_C|. */
+/* The sizes of a session or a record: |R|, |C|, |X|, |K_A|, |K_B|, |K_C|. */
 #define VARUNA_SIZES 6
 
-/* Verdicts, and what stands where there is none: a variable that holds 0 is no Accept. */
+/* The openings, in order: w, m, g1, h1 at beta; h0 at alpha; h2, ga, gb, gc at gamma; then row, col, rowcol, rowcolval at gamma for A, for
+ * B and for C. The opening of a polynomial without words is 0. */
+#define VARUNA_OPENINGS 21
+
+/* The sections of a record, by number, and their lengths in words. */
+#define VARUNA_SECTIONS 11
+#define VARUNA_SECTION_W 0   /* |C| - |X| + 1 */
+#define VARUNA_SECTION_M 1   /* 2|C| */
+#define VARUNA_SECTION_H0 2  /* |R| - 1 */
+#define VARUNA_SECTION_S 3   /* 3: sigma */
+#define VARUNA_SECTION_G1 4  /* |C| - 1 */
+#define VARUNA_SECTION_H1 5  /* |C| */
+#define VARUNA_SECTION_O 6   /* 3: omega */
+#define VARUNA_SECTION_GA 7  /* |K_A| - 1 */
+#define VARUNA_SECTION_GB 8  /* |K_B| - 1 */
+#define VARUNA_SECTION_GC 9  /* |K_C| - 1 */
+#define VARUNA_SECTION_H2 10 /* |K| - 1 */
+
+/* The bytes of a record's trailer, and of the longest record. */
+#define VARUNA_TRAILER_BYTES 72
+#define VARUNA_MAX_RECORD_BYTES 41032
+
+/* What a call returns: VARUNA_DONE, or the number of its refusal. Where several apply, a call gives the first in the order that stands at
+ * it. Positions count from 0 in the order of the call's inputs: sizes among the sizes; lists among the lists, with slices that the call
+ * fills last; field words among the field words, which the values of entries are and sizes, counts, rows, columns, declared lengths and
+ * exponents are not; entries on through A, B and C. */
+#define VARUNA_DONE 0
+#define VARUNA_REFUSED_TURN 1       /* a session's step out of turn; position 0 */
+#define VARUNA_REFUSED_END 2        /* a record under 72 bytes, not of whole words, or whose last word is not its length less 72; 0 */
+#define VARUNA_REFUSED_TRAILER 3    /* a record's size, then a start, then its total length: the trailer's word, 17 for the total */
+#define VARUNA_REFUSED_SIZE 4       /* a size that is not allowed, or |X| above |C|: which size */
+#define VARUNA_REFUSED_LENGTH 5     /* a slice of a wrong length, or too long: which list; a section number above 10: that number */
+#define VARUNA_REFUSED_WORD 6       /* a field word of p or more: which word */
+#define VARUNA_REFUSED_ENTRY 7      /* row or column past its domain, value 0, or not above the entry before it: which entry */
+#define VARUNA_REFUSED_MASK 8       /* m does not add to 0 over the columns' domain; 0 */
+#define VARUNA_REFUSED_ASSIGNMENT 9 /* z fails a row: the lowest such row */
+#define VARUNA_REFUSED_CHALLENGE 10 /* a challenge in its forbidden domain: 0 for alpha, 1 for beta, 2 for gamma */
+#define VARUNA_REFUSED_DECLARED 11  /* a declared length above the table of messages: which one of its step */
+
+/* Verdicts, and what stands where there is none: a variable that holds 0 is no Accept. A proof that fails several checks fails the first of
+ * row, line, matrix. */
 #define VARUNA_NO_VERDICT 0
 #define VARUNA_ACCEPT 1
 #define VARUNA_FAILS_ROW 2
 #define VARUNA_FAILS_LINE 3
 #define VARUNA_FAILS_MATRIX 4
 
-/* a + b, a - b, a * b in the field. Refusal 6. */
+/* Field words. */
+
+/* *result = a + b, a - b, a * b in the field. Refusal 6 (a 0, b 1). */
 uint32_t varuna_add(uint32_t a, uint32_t b, uint32_t *result, size_t *position);
 uint32_t varuna_subtract(uint32_t a, uint32_t b, uint32_t *result, size_t *position);
 uint32_t varuna_multiply(uint32_t a, uint32_t b, uint32_t *result, size_t *position);
 
-/* a to the power n, for any n. Refusal 6. */
+/* *result = a to the power n, for every n; n is no field word. Refusal 6. */
 uint32_t varuna_power(uint32_t a, uint32_t n, uint32_t *result, size_t *position);
 
-/* 1/a, and 0 for 0. Refusal 6. */
+/* *result = 1/a, and 0 for 0. Refusal 6. */
 uint32_t varuna_inverse(uint32_t a, uint32_t *result, size_t *position);
 
-/* The n elements of the domain of size n. Refusals 4, 5. */
+/* Domains and polynomials. Element i of the domain of size n is g^i with g = 31^((p-1)/n). */
+
+/* Fills elements (list 0, n words) with the domain of size n, in order. Refusals 4, 5. */
 uint32_t varuna_list_domain(uint32_t n, uint32_t *elements, size_t elements_length, size_t *position);
 
-/* The value at the point of the polynomial with these coefficients, the constant first. Refusals 5, 6. */
+/* *result = the value at the point of the polynomial with these coefficients (list 0, 0 to 2,048 words). Refusals 5, 6: the coefficients,
+ * then the point. */
 uint32_t varuna_evaluate(const uint32_t *coefficients, size_t coefficients_length, uint32_t point, uint32_t *result, size_t *position);
 
-/* The n coefficients of the polynomial with these values on the domain of size n. Refusals 4, 5, 6. */
+/* Fills coefficients (list 1, n words) with the polynomial that has these values (list 0, n words) on the domain of size n, in order.
+ * Refusals 4, 5, 6. */
 uint32_t varuna_interpolate(uint32_t n, const uint32_t *values, size_t values_length, uint32_t *coefficients, size_t coefficients_length,
                             size_t *position);
 
-/* The twelve index polynomials of a circuit. Refusals 4 to 7. */
-uint32_t varuna_index(uint32_t r, uint32_t c, uint32_t x, const uint32_t *ea, size_t ea_length, const uint32_t *eb, size_t eb_length,
-                      const uint32_t *ec, size_t ec_length, uint32_t *row_a, size_t row_a_length, uint32_t *col_a, size_t col_a_length,
-                      uint32_t *rowcol_a, size_t rowcol_a_length, uint32_t *rowcolval_a, size_t rowcolval_a_length, uint32_t *row_b,
-                      size_t row_b_length, uint32_t *col_b, size_t col_b_length, uint32_t *rowcol_b, size_t rowcol_b_length,
-                      uint32_t *rowcolval_b, size_t rowcolval_b_length, uint32_t *row_c, size_t row_c_length, uint32_t *col_c,
-                      size_t col_c_length, uint32_t *rowcol_c, size_t rowcol_c_length, uint32_t *rowcolval_c, size_t rowcolval_c_length,
-                      size_t *position);
+/* The indexer. */
 
-/* Round 1: the witness polynomial and h0. Refusals 4 to 9. */
-uint32_t varuna_first_round(uint32_t r, uint32_t c, uint32_t x, const uint32_t *ea, size_t ea_length, const uint32_t *eb,
-                            size_t eb_length, const uint32_t *ec, size_t ec_length, const uint32_t *z, size_t z_length, uint32_t mask,
-                            const uint32_t *m, size_t m_length, uint32_t *witness, size_t witness_length, uint32_t *row_quotient,
-                            size_t row_quotient_length, size_t *position);
+/* Fills the twelve index polynomials of a circuit: row, col, rowcol, rowcolval of A (lists 3 to 6, |K_A| words each), of B (lists 7 to 10,
+ * |K_B|) and of C (lists 11 to 14, |K_C|). entries_a, entries_b, entries_c are lists 0 to 2, three words for each entry, at most 3,072.
+ * Refusals 4, 5, 6, 7. */
+uint32_t varuna_index(uint32_t rows, uint32_t columns, uint32_t publics, const uint32_t *entries_a, size_t entries_a_length,
+                      const uint32_t *entries_b, size_t entries_b_length, const uint32_t *entries_c, size_t entries_c_length,
+                      uint32_t *row_a, size_t row_a_length, uint32_t *col_a, size_t col_a_length, uint32_t *rowcol_a,
+                      size_t rowcol_a_length, uint32_t *rowcolval_a, size_t rowcolval_a_length, uint32_t *row_b, size_t row_b_length,
+                      uint32_t *col_b, size_t col_b_length, uint32_t *rowcol_b, size_t rowcol_b_length, uint32_t *rowcolval_b,
+                      size_t rowcolval_b_length, uint32_t *row_c, size_t row_c_length, uint32_t *col_c, size_t col_c_length,
+                      uint32_t *rowcol_c, size_t rowcol_c_length, uint32_t *rowcolval_c, size_t rowcolval_c_length, size_t *position);
 
-/* Round 2: the sums of A, B, C. Refusals 4 to 10. */
-uint32_t varuna_second_round(uint32_t r, uint32_t c, uint32_t x, const uint32_t *ea, size_t ea_length, const uint32_t *eb,
-                             size_t eb_length, const uint32_t *ec, size_t ec_length, const uint32_t *z, size_t z_length, uint32_t mask,
-                             const uint32_t *m, size_t m_length, uint32_t alpha, uint32_t sums[3], size_t *position);
+/*
+ * The prover. Each call begins with the same inputs:
+ *
+ *     rows, columns, publics              sizes 0 to 2
+ *     entries_a, entries_b, entries_c     lists 0 to 2: three words for each entry, at most 3,072
+ *     z                                   list 3: |C| words, and every row holds: (A z)(B z) = C z
+ *     r                                   the mask word
+ *     m                                   list 4: 2|C| words, whose values add to 0 over the columns' domain: m[0] + m[|C|] is 0 or p
+ *
+ * The field words, in order, are the values of the entries of A, B and C, then z, r, m, then the challenges as they stand. Refusals are
+ * 4, 5, 6, 7, 8, 9 and, where there are challenges, 10: alpha is outside the rows' domain, beta outside the columns', gamma outside K.
+ */
 
-/* Round 3: g1 and h1. Refusals 4 to 10. */
-uint32_t varuna_third_round(uint32_t r, uint32_t c, uint32_t x, const uint32_t *ea, size_t ea_length, const uint32_t *eb,
-                            size_t eb_length, const uint32_t *ec, size_t ec_length, const uint32_t *z, size_t z_length, uint32_t mask,
-                            const uint32_t *m, size_t m_length, uint32_t alpha, const uint32_t eta[3], uint32_t *remainder,
-                            size_t remainder_length, uint32_t *quotient, size_t quotient_length, size_t *position);
+/* Round 1 fills w (list 5, |C| - |X| + 1 words) and h0 (list 6, |R| - 1 words). z has |C| words, m 2|C|. Refusals 4 to 9. */
+uint32_t varuna_first_round(uint32_t rows, uint32_t columns, uint32_t publics, const uint32_t *entries_a, size_t entries_a_length,
+                            const uint32_t *entries_b, size_t entries_b_length, const uint32_t *entries_c, size_t entries_c_length,
+                            const uint32_t *z, size_t z_length, uint32_t r, const uint32_t *m, size_t m_length, uint32_t *w,
+                            size_t w_length, uint32_t *h0, size_t h0_length, size_t *position);
 
-/* Round 4: the values of A, B, C, and g_A, g_B, g_C. Refusals 4 to 10. */
-uint32_t varuna_fourth_round(uint32_t r, uint32_t c, uint32_t x, const uint32_t *ea, size_t ea_length, const uint32_t *eb,
-                             size_t eb_length, const uint32_t *ec, size_t ec_length, const uint32_t *z, size_t z_length, uint32_t mask,
-                             const uint32_t *m, size_t m_length, uint32_t alpha, const uint32_t eta[3], uint32_t beta, uint32_t *ga,
-                             size_t ga_length, uint32_t *gb, size_t gb_length, uint32_t *gc, size_t gc_length, uint32_t values[3],
-                             size_t *position);
+/* Round 2 sets sigma, the sums of A, B, C at alpha. z has |C| words, m 2|C|. Refusals 4 to 10. */
+uint32_t varuna_second_round(uint32_t rows, uint32_t columns, uint32_t publics, const uint32_t *entries_a, size_t entries_a_length,
+                             const uint32_t *entries_b, size_t entries_b_length, const uint32_t *entries_c, size_t entries_c_length,
+                             const uint32_t *z, size_t z_length, uint32_t r, const uint32_t *m, size_t m_length, uint32_t alpha,
+                             uint32_t sigma[3], size_t *position);
 
-/* Round 5: h2. Refusals 4 to 10. */
-uint32_t varuna_fifth_round(uint32_t r, uint32_t c, uint32_t x, const uint32_t *ea, size_t ea_length, const uint32_t *eb,
-                            size_t eb_length, const uint32_t *ec, size_t ec_length, const uint32_t *z, size_t z_length, uint32_t mask,
-                            const uint32_t *m, size_t m_length, uint32_t alpha, const uint32_t eta[3], uint32_t beta,
-                            const uint32_t delta[3], uint32_t *quotient, size_t quotient_length, size_t *position);
+/* Round 3 fills g1 (list 5, |C| - 1 words) and h1 (list 6, |C| words). z has |C| words, m 2|C|. Refusals 4 to 10. */
+uint32_t varuna_third_round(uint32_t rows, uint32_t columns, uint32_t publics, const uint32_t *entries_a, size_t entries_a_length,
+                            const uint32_t *entries_b, size_t entries_b_length, const uint32_t *entries_c, size_t entries_c_length,
+                            const uint32_t *z, size_t z_length, uint32_t r, const uint32_t *m, size_t m_length, uint32_t alpha,
+                            const uint32_t eta[3], uint32_t *g1, size_t g1_length, uint32_t *h1, size_t h1_length, size_t *position);
 
-/* The 21 openings. Refusals 4 to 10. */
-uint32_t varuna_openings(uint32_t r, uint32_t c, uint32_t x, const uint32_t *ea, size_t ea_length, const uint32_t *eb, size_t eb_length,
-                         const uint32_t *ec, size_t ec_length, const uint32_t *z, size_t z_length, uint32_t mask, const uint32_t *m,
-                         size_t m_length, uint32_t alpha, const uint32_t eta[3], uint32_t beta, const uint32_t delta[3], uint32_t gamma,
+/* Round 4 fills ga, gb, gc (lists 5 to 7, |K_A| - 1, |K_B| - 1 and |K_C| - 1 words) and sets omega, the values of A, B, C at alpha and
+ * beta. z has |C| words, m 2|C|. Refusals 4 to 10. */
+uint32_t varuna_fourth_round(uint32_t rows, uint32_t columns, uint32_t publics, const uint32_t *entries_a, size_t entries_a_length,
+                             const uint32_t *entries_b, size_t entries_b_length, const uint32_t *entries_c, size_t entries_c_length,
+                             const uint32_t *z, size_t z_length, uint32_t r, const uint32_t *m, size_t m_length, uint32_t alpha,
+                             const uint32_t eta[3], uint32_t beta, uint32_t *ga, size_t ga_length, uint32_t *gb, size_t gb_length,
+                             uint32_t *gc, size_t gc_length, uint32_t omega[3], size_t *position);
+
+/* Round 5 fills h2 (list 5, |K| - 1 words). z has |C| words, m 2|C|. Refusals 4 to 10. */
+uint32_t varuna_fifth_round(uint32_t rows, uint32_t columns, uint32_t publics, const uint32_t *entries_a, size_t entries_a_length,
+                            const uint32_t *entries_b, size_t entries_b_length, const uint32_t *entries_c, size_t entries_c_length,
+                            const uint32_t *z, size_t z_length, uint32_t r, const uint32_t *m, size_t m_length, uint32_t alpha,
+                            const uint32_t eta[3], uint32_t beta, const uint32_t delta[3], uint32_t *h2, size_t h2_length,
+                            size_t *position);
+
+/* Sets the 21 openings of the proof and of the index polynomials, in the order that stands at VARUNA_OPENINGS. z has |C| words, m 2|C|.
+ * Refusals 4 to 10. */
+uint32_t varuna_openings(uint32_t rows, uint32_t columns, uint32_t publics, const uint32_t *entries_a, size_t entries_a_length,
+                         const uint32_t *entries_b, size_t entries_b_length, const uint32_t *entries_c, size_t entries_c_length,
+                         const uint32_t *z, size_t z_length, uint32_t r, const uint32_t *m, size_t m_length, uint32_t alpha,
+                         const uint32_t eta[3], uint32_t beta, const uint32_t delta[3], uint32_t gamma,
                          uint32_t openings[VARUNA_OPENINGS], size_t *position);
 
 /*
- * A session is 1,046 words that the caller keeps, in this order:
+ * The verifier. A session is 1,046 words that the caller keeps, in this order:
  *
  *     0             the stage: how many of the seven steps were taken
  *     1 to 6        the six sizes
  *     7 to 1030     x: the |X| public words, and zeros after them
- *     1031 to 1045  the transcript: alpha, three sums, three eta, beta, three values, three delta, gamma
+ *     1031 to 1045  the transcript: alpha, three sigma, three eta, beta, three omega, three delta, gamma
  *
  * In a new session all words are 0. Opening leaves stage 1, the sizes, x with zeros after it, and a transcript of zeros, whatever the words
  * were before. Each later step leaves the stage one higher, its own words of the transcript set (the last step has none), and all other
- * words as they were. A refused step leaves every word as it was.
+ * words as they were. A refused step leaves every word as it was and may be tried again. After a verdict every step but opening is out of
+ * turn.
  *
  * Words that no step made are judged by what they hold. Every step but opening is out of turn (1) unless the stage is the number of the
  * steps before it and the sizes are allowed. The last step is out of turn, too, unless the words are such as steps leave: the public words
  * and the transcript below p, the words of x after the public ones 0, alpha outside R, beta outside C and gamma outside K. So a verdict is
  * given only for sessions that steps can make.
+ *
+ * A declared length is how many words the prover's polynomial has, as its commitment says: at most the length in the table of sections.
  */
 
-/* A session before it is opened. */
+/* A session before it is opened. Opening needs none: it takes any words. */
 void varuna_session_new(uint32_t session[VARUNA_SESSION_WORDS]);
 
-/* Opens a session with six sizes and x. Refusals 4, 5, 6. */
+/* Step 1, the six sizes and the public words x (list 0, |X| words). Refusals 4, 5, 6. */
 uint32_t varuna_session_open(uint32_t session[VARUNA_SESSION_WORDS], const uint32_t sizes[VARUNA_SIZES], const uint32_t *x,
                              size_t x_length, size_t *position);
 
-/* Declared lengths of the witness, m and h0, then alpha. Refusals 1, 6, 10, 11. */
-uint32_t varuna_session_alpha(uint32_t session[VARUNA_SESSION_WORDS], uint32_t witness, uint32_t mask, uint32_t row_quotient,
+/* Step 2, the declared lengths of w (at most |C| - |X| + 1), m (2|C|) and h0 (|R| - 1), then alpha, outside the rows' domain. Refusals 1,
+ * 6, 10, 11. */
+uint32_t varuna_session_alpha(uint32_t session[VARUNA_SESSION_WORDS], uint32_t w_length, uint32_t m_length, uint32_t h0_length,
                               uint32_t alpha, size_t *position);
 
-/* The three sums, then the three eta. Refusals 1, 6. */
-uint32_t varuna_session_eta(uint32_t session[VARUNA_SESSION_WORDS], const uint32_t sums[3], const uint32_t eta[3], size_t *position);
+/* Step 3, the three sigma (words 0 to 2), then the three eta (3 to 5). Refusals 1, 6. */
+uint32_t varuna_session_eta(uint32_t session[VARUNA_SESSION_WORDS], const uint32_t sigma[3], const uint32_t eta[3], size_t *position);
 
-/* Declared lengths of g1 and h1, then beta. Refusals 1, 6, 10, 11. */
-uint32_t varuna_session_beta(uint32_t session[VARUNA_SESSION_WORDS], uint32_t remainder, uint32_t quotient, uint32_t beta,
+/* Step 4, the declared lengths of g1 (at most |C| - 1) and h1 (|C|), then beta, outside the columns' domain. Refusals 1, 6, 10, 11. */
+uint32_t varuna_session_beta(uint32_t session[VARUNA_SESSION_WORDS], uint32_t g1_length, uint32_t h1_length, uint32_t beta,
                              size_t *position);
 
-/* The three values and declared lengths of g_A, g_B, g_C, then the three delta. Refusals 1, 6, 11. */
-uint32_t varuna_session_delta(uint32_t session[VARUNA_SESSION_WORDS], const uint32_t values[3], const uint32_t remainders[3],
+/* Step 5, the three omega (words 0 to 2), the declared lengths of ga, gb, gc (at most |K_A| - 1, |K_B| - 1, |K_C| - 1), then the three
+ * delta (words 3 to 5). Refusals 1, 6, 11. */
+uint32_t varuna_session_delta(uint32_t session[VARUNA_SESSION_WORDS], const uint32_t omega[3], const uint32_t g_lengths[3],
                               const uint32_t delta[3], size_t *position);
 
-/* Declared length of h2, then gamma. Refusals 1, 6, 10, 11. */
-uint32_t varuna_session_gamma(uint32_t session[VARUNA_SESSION_WORDS], uint32_t quotient, uint32_t gamma, size_t *position);
+/* Step 6, the declared length of h2 (at most |K| - 1), then gamma, outside the domain of size |K|. Refusals 1, 6, 10, 11. */
+uint32_t varuna_session_gamma(uint32_t session[VARUNA_SESSION_WORDS], uint32_t h2_length, uint32_t gamma, size_t *position);
 
-/* The openings; *verdict is one of the four verdicts above, and VARUNA_NO_VERDICT where the step is refused. Refusals 1, 6. */
+/* Step 7, the 21 openings in the order that stands at VARUNA_OPENINGS. *verdict is one of the four verdicts, and VARUNA_NO_VERDICT where
+ * the step is refused. Refusals 1, 6. */
 uint32_t varuna_session_openings(uint32_t session[VARUNA_SESSION_WORDS], const uint32_t openings[VARUNA_OPENINGS], uint32_t *verdict,
                                  size_t *position);
 
-/* Writes a record of eleven sections. Refusals 4, 5, 6. */
+/*
+ * The proof record: little-endian words; the eleven sections without gaps, then a trailer of 18 words: the eleven starts of the sections in
+ * bytes, the six sizes, and the start of the trailer in bytes.
+ */
+
+/* Fills bytes (list 11) with the record of eleven sections (lists 0 to 10); sigma is section s and omega section o. Each section is as long
+ * as stands at its number above, and bytes is four for each of their words and 72 for the trailer. Refusals 4, 5, 6. */
 uint32_t varuna_write_record(const uint32_t sizes[VARUNA_SIZES], const uint32_t *w, size_t w_length, const uint32_t *m, size_t m_length,
-                             const uint32_t *h0, size_t h0_length, const uint32_t *s, size_t s_length, const uint32_t *g1,
-                             size_t g1_length, const uint32_t *h1, size_t h1_length, const uint32_t *o, size_t o_length,
+                             const uint32_t *h0, size_t h0_length, const uint32_t *sigma, size_t sigma_length, const uint32_t *g1,
+                             size_t g1_length, const uint32_t *h1, size_t h1_length, const uint32_t *omega, size_t omega_length,
                              const uint32_t *ga, size_t ga_length, const uint32_t *gb, size_t gb_length, const uint32_t *gc,
                              size_t gc_length, const uint32_t *h2, size_t h2_length, uint8_t *bytes, size_t bytes_length,
                              size_t *position);
 
-/* The six sizes of a record. Refusals 2, 3, 6. */
+/* Sets the six sizes of a record of any length. Refusals 2, 3, 6: the words from the record's start. */
 uint32_t varuna_read_record(const uint8_t *bytes, size_t bytes_length, uint32_t sizes[VARUNA_SIZES], size_t *position);
 
-/* Where section k of a record stands, k from 0 to 10: the place of its first byte and its length in bytes. Refusals 2, 3, 5, 6; a k above
- * 10 is refused by 5, at position k. */
+/* Sets where section k stands in a record of any length, k from 0 to 10: *start is the place of its first byte, *length its length in
+ * bytes. Refusals 2, 3, 5, 6; a k above 10 is refused by 5, at position k. */
 uint32_t varuna_section(const uint8_t *bytes, size_t bytes_length, size_t k, size_t *start, size_t *length, size_t *position);
+
+#ifdef __cplusplus
+}
+#endif
 
 #endif

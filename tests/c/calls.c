@@ -9,7 +9,7 @@
 #include "../../include/varuna.h"
 #include "test.h"
 
-#define P UINT32_C(2013265921)
+#define P VARUNA_MODULUS
 
 static int passed, failed;
 
@@ -32,7 +32,7 @@ static int same(const uint32_t *found, const uint32_t *expected, size_t count)
 
 static int is_done(uint32_t number, size_t position)
 {
-    return number == 0 && position == 0;
+    return number == VARUNA_DONE && position == 0;
 }
 
 static int is_refused(uint32_t number, size_t position, uint32_t expected_number, size_t expected_position)
@@ -42,6 +42,34 @@ static int is_refused(uint32_t number, size_t position, uint32_t expected_number
 
 /* An empty list: a pointer that is not null. */
 static uint32_t none[1];
+
+/* The header's constants are document 01's numbers. */
+
+static void test_constants(void)
+{
+    static const uint32_t refusals[] = {
+        VARUNA_DONE,           VARUNA_REFUSED_TURN, VARUNA_REFUSED_END,   VARUNA_REFUSED_TRAILER, VARUNA_REFUSED_SIZE,
+        VARUNA_REFUSED_LENGTH, VARUNA_REFUSED_WORD, VARUNA_REFUSED_ENTRY, VARUNA_REFUSED_MASK,    VARUNA_REFUSED_ASSIGNMENT,
+        VARUNA_REFUSED_CHALLENGE, VARUNA_REFUSED_DECLARED,
+    };
+    static const uint32_t sections[VARUNA_SECTIONS] = {
+        VARUNA_SECTION_W, VARUNA_SECTION_M,  VARUNA_SECTION_H0, VARUNA_SECTION_S,  VARUNA_SECTION_G1, VARUNA_SECTION_H1,
+        VARUNA_SECTION_O, VARUNA_SECTION_GA, VARUNA_SECTION_GB, VARUNA_SECTION_GC, VARUNA_SECTION_H2,
+    };
+    char version[20];
+    int in_order = COUNT(refusals) == 12;
+    for (uint32_t i = 0; i < COUNT(refusals); i++)
+        in_order = in_order && refusals[i] == i;
+    test("the numbers of refusals", in_order);
+    in_order = 1;
+    for (uint32_t i = 0; i < COUNT(sections); i++)
+        in_order = in_order && sections[i] == i;
+    test("the numbers of sections", in_order);
+    test("p and the bounds", VARUNA_MODULUS == (UINT32_C(15) << 27) + 1 && VARUNA_MAX_SIZE == 1024 && VARUNA_ENTRY_WORDS == 3 &&
+                                 VARUNA_MAX_ENTRY_LIST == 3 * 1024 && VARUNA_MAX_COEFFICIENTS == 2048);
+    snprintf(version, sizeof version, "%d.%d.%d", VARUNA_VERSION_MAJOR, VARUNA_VERSION_MINOR, VARUNA_VERSION_PATCH);
+    test("the version", strcmp(version, VARUNA_VERSION) == 0);
+}
 
 /* Field words. */
 
@@ -60,7 +88,7 @@ static int refuses_word(operation f, uint32_t a, uint32_t b, size_t expected)
     uint32_t result = 77;
     size_t position = NOWHERE;
     uint32_t number = f(a, b, &result, &position);
-    return is_refused(number, position, 6, expected) && result == 77;
+    return is_refused(number, position, VARUNA_REFUSED_WORD, expected) && result == 77;
 }
 
 static uint32_t inverse_of(uint32_t a, uint32_t unused, uint32_t *result, size_t *position)
@@ -92,26 +120,26 @@ static void test_domains(void)
     const uint32_t expected[2] = {1, P - 1};
     size_t position = NOWHERE;
     uint32_t number = varuna_list_domain(3, elements, 2, &position);
-    test("list_domain refuses size 3", is_refused(number, position, 4, 0) && same(elements, kept, 2));
+    test("list_domain refuses size 3", is_refused(number, position, VARUNA_REFUSED_SIZE, 0) && same(elements, kept, 2));
     number = varuna_list_domain(1, elements, 2, &position);
-    test("list_domain refuses a slice", is_refused(number, position, 5, 0) && same(elements, kept, 2));
+    test("list_domain refuses a slice", is_refused(number, position, VARUNA_REFUSED_LENGTH, 0) && same(elements, kept, 2));
     number = varuna_list_domain(2, elements, 2, &position);
     test("list_domain", is_done(number, position) && same(elements, expected, 2));
 }
 
 static void test_evaluate(void)
 {
-    static uint32_t long_list[2049];
+    static uint32_t long_list[VARUNA_MAX_COEFFICIENTS + 1];
     const uint32_t m[4] = {1, 0, P - 1, 1};
     const uint32_t wrong[2] = {1, P};
     uint32_t result = 77;
     size_t position = NOWHERE;
-    uint32_t number = varuna_evaluate(long_list, 2049, 1, &result, &position);
-    test("evaluate refuses 2049 words", is_refused(number, position, 5, 0) && result == 77);
+    uint32_t number = varuna_evaluate(long_list, COUNT(long_list), 1, &result, &position);
+    test("evaluate refuses 2049 words", is_refused(number, position, VARUNA_REFUSED_LENGTH, 0) && result == 77);
     number = varuna_evaluate(wrong, 2, 1, &result, &position);
-    test("evaluate refuses a coefficient", is_refused(number, position, 6, 1) && result == 77);
+    test("evaluate refuses a coefficient", is_refused(number, position, VARUNA_REFUSED_WORD, 1) && result == 77);
     number = varuna_evaluate(m, 4, P, &result, &position);
-    test("evaluate refuses a point", is_refused(number, position, 6, 4) && result == 77);
+    test("evaluate refuses a point", is_refused(number, position, VARUNA_REFUSED_WORD, 4) && result == 77);
     number = varuna_evaluate(m, 4, 3, &result, &position);
     test("evaluate", is_done(number, position) && result == 19);
 }
@@ -125,13 +153,13 @@ static void test_interpolate(void)
     const uint32_t expected[2] = {6, 3};
     size_t position = NOWHERE;
     uint32_t number = varuna_interpolate(2048, values, 2, coefficients, 2, &position);
-    test("interpolate refuses size 2048", is_refused(number, position, 4, 0) && same(coefficients, kept, 2));
+    test("interpolate refuses size 2048", is_refused(number, position, VARUNA_REFUSED_SIZE, 0) && same(coefficients, kept, 2));
     number = varuna_interpolate(2, values, 1, coefficients, 2, &position);
-    test("interpolate refuses a list", is_refused(number, position, 5, 0) && same(coefficients, kept, 2));
+    test("interpolate refuses a list", is_refused(number, position, VARUNA_REFUSED_LENGTH, 0) && same(coefficients, kept, 2));
     number = varuna_interpolate(2, values, 2, coefficients, 1, &position);
-    test("interpolate refuses a slice", is_refused(number, position, 5, 1) && same(coefficients, kept, 2));
+    test("interpolate refuses a slice", is_refused(number, position, VARUNA_REFUSED_LENGTH, 1) && same(coefficients, kept, 2));
     number = varuna_interpolate(2, wrong, 2, coefficients, 2, &position);
-    test("interpolate refuses a word", is_refused(number, position, 6, 1) && same(coefficients, kept, 2));
+    test("interpolate refuses a word", is_refused(number, position, VARUNA_REFUSED_WORD, 1) && same(coefficients, kept, 2));
     number = varuna_interpolate(2, values, 2, coefficients, 2, &position);
     test("interpolate", is_done(number, position) && same(coefficients, expected, 2));
 }
@@ -139,24 +167,24 @@ static void test_interpolate(void)
 /* The job of the square case; a refusal is tried by one change of it. */
 
 struct job {
-    uint32_t r, c, x;
+    uint32_t rows, columns, publics;
     uint32_t ea[3], eb[3], ec[3];
     size_t ea_length;
-    uint32_t z[2], mask, m[4];
+    uint32_t z[2], r, m[4];
     uint32_t alpha, eta[3], beta, delta[3], gamma;
     size_t lent;
 };
 
 static const struct job square = {
-    .r = 1,
-    .c = 2,
-    .x = 1,
+    .rows = 1,
+    .columns = 2,
+    .publics = 1,
     .ea = {0, 1, 1},
     .eb = {0, 1, 1},
     .ec = {0, 0, 1},
     .ea_length = 3,
     .z = {9, 3},
-    .mask = 1,
+    .r = 1,
     .m = {1, 0, P - 1, 1},
     .alpha = 2,
     .eta = {1, 1, 2},
@@ -177,33 +205,30 @@ enum call { INDEX, FIRST, SECOND, THIRD, FOURTH, FIFTH, OPENINGS, CALLS };
 
 static const char *const call_names[CALLS] = {"index", "first_round", "second_round", "third_round", "fourth_round", "fifth_round", "openings"};
 
+#define CIRCUIT(j) j->rows, j->columns, j->publics, j->ea, j->ea_length, j->eb, 3, j->ec, 3
+#define ASSIGNED(j) CIRCUIT(j), j->z, 2, j->r, j->m, 4
+
 /* The last of a call's lent slices is `lent` words longer than it must be. */
 static uint32_t run(enum call call, const struct job *j, struct results *o, size_t *position)
 {
     switch (call) {
     case INDEX:
-        return varuna_index(j->r, j->c, j->x, j->ea, j->ea_length, j->eb, 3, j->ec, 3, o->index[0], 1, o->index[1], 1, o->index[2], 1,
-                            o->index[3], 1, o->index[4], 1, o->index[5], 1, o->index[6], 1, o->index[7], 1, o->index[8], 1, o->index[9], 1,
-                            o->index[10], 1, o->index[11], 1 + j->lent, position);
+        return varuna_index(CIRCUIT(j), o->index[0], 1, o->index[1], 1, o->index[2], 1, o->index[3], 1, o->index[4], 1, o->index[5], 1,
+                            o->index[6], 1, o->index[7], 1, o->index[8], 1, o->index[9], 1, o->index[10], 1, o->index[11], 1 + j->lent,
+                            position);
     case FIRST:
-        return varuna_first_round(j->r, j->c, j->x, j->ea, j->ea_length, j->eb, 3, j->ec, 3, j->z, 2, j->mask, j->m, 4, o->witness, 2,
-                                  o->row_quotient, j->lent, position);
+        return varuna_first_round(ASSIGNED(j), o->witness, 2, o->row_quotient, j->lent, position);
     case SECOND:
-        return varuna_second_round(j->r, j->c, j->x, j->ea, j->ea_length, j->eb, 3, j->ec, 3, j->z, 2, j->mask, j->m, 4, j->alpha, o->sums,
-                                   position);
+        return varuna_second_round(ASSIGNED(j), j->alpha, o->sums, position);
     case THIRD:
-        return varuna_third_round(j->r, j->c, j->x, j->ea, j->ea_length, j->eb, 3, j->ec, 3, j->z, 2, j->mask, j->m, 4, j->alpha, j->eta,
-                                  o->line_remainder, 1, o->line_quotient, 2 + j->lent, position);
+        return varuna_third_round(ASSIGNED(j), j->alpha, j->eta, o->line_remainder, 1, o->line_quotient, 2 + j->lent, position);
     case FOURTH:
-        return varuna_fourth_round(j->r, j->c, j->x, j->ea, j->ea_length, j->eb, 3, j->ec, 3, j->z, 2, j->mask, j->m, 4, j->alpha, j->eta,
-                                   j->beta, o->matrix_remainders[0], 0, o->matrix_remainders[1], 0, o->matrix_remainders[2], j->lent,
-                                   o->values, position);
+        return varuna_fourth_round(ASSIGNED(j), j->alpha, j->eta, j->beta, o->matrix_remainders[0], 0, o->matrix_remainders[1], 0,
+                                   o->matrix_remainders[2], j->lent, o->values, position);
     case FIFTH:
-        return varuna_fifth_round(j->r, j->c, j->x, j->ea, j->ea_length, j->eb, 3, j->ec, 3, j->z, 2, j->mask, j->m, 4, j->alpha, j->eta,
-                                  j->beta, j->delta, o->joined_quotient, j->lent, position);
+        return varuna_fifth_round(ASSIGNED(j), j->alpha, j->eta, j->beta, j->delta, o->joined_quotient, j->lent, position);
     default:
-        return varuna_openings(j->r, j->c, j->x, j->ea, j->ea_length, j->eb, 3, j->ec, 3, j->z, 2, j->mask, j->m, 4, j->alpha, j->eta,
-                               j->beta, j->delta, j->gamma, o->openings, position);
+        return varuna_openings(ASSIGNED(j), j->alpha, j->eta, j->beta, j->delta, j->gamma, o->openings, position);
     }
 }
 
@@ -228,49 +253,49 @@ static void test_job_refusals(enum call call)
 {
     static const size_t last_slice[CALLS] = {14, 6, 0, 6, 7, 5, 0};
     struct job j = square;
-    j.r = 3;
-    test_job_refusal(call, "a size", &j, 4, 0);
+    j.rows = 3;
+    test_job_refusal(call, "a size", &j, VARUNA_REFUSED_SIZE, 0);
     j = square;
-    j.x = 4;
-    test_job_refusal(call, "|X| above |C|", &j, 4, 2);
+    j.publics = 4;
+    test_job_refusal(call, "|X| above |C|", &j, VARUNA_REFUSED_SIZE, 2);
     j = square;
     j.ea_length = 2;
-    test_job_refusal(call, "an entry list", &j, 5, 0);
+    test_job_refusal(call, "an entry list", &j, VARUNA_REFUSED_LENGTH, 0);
     j = square;
     j.lent = 1;
     if (last_slice[call] != 0)
-        test_job_refusal(call, "a lent slice", &j, 5, last_slice[call]);
+        test_job_refusal(call, "a lent slice", &j, VARUNA_REFUSED_LENGTH, last_slice[call]);
     j = square;
     j.eb[2] = P;
-    test_job_refusal(call, "a word", &j, 6, 1);
+    test_job_refusal(call, "a word", &j, VARUNA_REFUSED_WORD, 1);
     j = square;
     j.ec[0] = 1;
-    test_job_refusal(call, "an entry", &j, 7, 2);
+    test_job_refusal(call, "an entry", &j, VARUNA_REFUSED_ENTRY, 2);
     if (call == INDEX)
         return;
     j = square;
     j.m[0] = 2;
-    test_job_refusal(call, "a mask", &j, 8, 0);
+    test_job_refusal(call, "a mask", &j, VARUNA_REFUSED_MASK, 0);
     j = square;
     j.z[1] = 4;
-    test_job_refusal(call, "z = 9 4", &j, 9, 0);
+    test_job_refusal(call, "z = 9 4", &j, VARUNA_REFUSED_ASSIGNMENT, 0);
     if (call == FIRST)
         return;
     j = square;
     j.alpha = 1;
-    test_job_refusal(call, "alpha = 1", &j, 10, 0);
+    test_job_refusal(call, "alpha = 1", &j, VARUNA_REFUSED_CHALLENGE, 0);
 }
 
 static void test_later_challenges(void)
 {
     struct job j = square;
     j.beta = P - 1;
-    test_job_refusal(FOURTH, "beta = p-1", &j, 10, 1);
-    test_job_refusal(FIFTH, "beta = p-1", &j, 10, 1);
-    test_job_refusal(OPENINGS, "beta = p-1", &j, 10, 1);
+    test_job_refusal(FOURTH, "beta = p-1", &j, VARUNA_REFUSED_CHALLENGE, 1);
+    test_job_refusal(FIFTH, "beta = p-1", &j, VARUNA_REFUSED_CHALLENGE, 1);
+    test_job_refusal(OPENINGS, "beta = p-1", &j, VARUNA_REFUSED_CHALLENGE, 1);
     j = square;
     j.gamma = 1;
-    test_job_refusal(OPENINGS, "gamma = 1", &j, 10, 2);
+    test_job_refusal(OPENINGS, "gamma = 1", &j, VARUNA_REFUSED_CHALLENGE, 2);
 }
 
 static const uint32_t expected_openings[VARUNA_OPENINGS] = {7, 19, 7, 4, 0, 0, 0, 0, 0, 1, P - 1, P - 1, P - 1, 1, P - 1, P - 1, P - 1, 1, 1, 1, 1};
@@ -409,28 +434,28 @@ static void test_steps(void)
     for (enum step s = ALPHA; s < STEPS; s++) {
         char name[80];
         snprintf(name, sizeof name, "session %s refuses a step out of turn", names[s]);
-        test(name, refuses_step(OPEN, s, &t, 1, 0) && refuses_step(STEPS, s, &t, 1, 0));
+        test(name, refuses_step(OPEN, s, &t, VARUNA_REFUSED_TURN, 0) && refuses_step(STEPS, s, &t, VARUNA_REFUSED_TURN, 0));
     }
     t.alpha = 1;
-    test("session alpha refuses alpha = 1", refuses_step(ALPHA, ALPHA, &t, 10, 0));
+    test("session alpha refuses alpha = 1", refuses_step(ALPHA, ALPHA, &t, VARUNA_REFUSED_CHALLENGE, 0));
     t.alpha = P;
-    test("session alpha refuses word p", refuses_step(ALPHA, ALPHA, &t, 6, 0));
+    test("session alpha refuses word p", refuses_step(ALPHA, ALPHA, &t, VARUNA_REFUSED_WORD, 0));
     t.eta[1] = P;
-    test("session eta refuses word p", refuses_step(ETA, ETA, &t, 6, 4));
+    test("session eta refuses word p", refuses_step(ETA, ETA, &t, VARUNA_REFUSED_WORD, 4));
     t.beta = P - 1;
-    test("session beta refuses beta = p-1", refuses_step(BETA, BETA, &t, 10, 1));
+    test("session beta refuses beta = p-1", refuses_step(BETA, BETA, &t, VARUNA_REFUSED_CHALLENGE, 1));
     t.beta = P;
-    test("session beta refuses word p", refuses_step(BETA, BETA, &t, 6, 0));
+    test("session beta refuses word p", refuses_step(BETA, BETA, &t, VARUNA_REFUSED_WORD, 0));
     t.remainders[2] = 1;
-    test("session delta refuses a length", refuses_step(DELTA, DELTA, &t, 11, 2));
+    test("session delta refuses a length", refuses_step(DELTA, DELTA, &t, VARUNA_REFUSED_DECLARED, 2));
     t.delta[0] = P;
-    test("session delta refuses word p", refuses_step(DELTA, DELTA, &t, 6, 3));
+    test("session delta refuses word p", refuses_step(DELTA, DELTA, &t, VARUNA_REFUSED_WORD, 3));
     t.gamma = 1;
-    test("session gamma refuses gamma = 1", refuses_step(GAMMA, GAMMA, &t, 10, 2));
+    test("session gamma refuses gamma = 1", refuses_step(GAMMA, GAMMA, &t, VARUNA_REFUSED_CHALLENGE, 2));
     t.gamma = P;
-    test("session gamma refuses word p", refuses_step(GAMMA, GAMMA, &t, 6, 0));
+    test("session gamma refuses word p", refuses_step(GAMMA, GAMMA, &t, VARUNA_REFUSED_WORD, 0));
     t.openings[20] = P;
-    test("session openings refuses word p", refuses_step(LAST, LAST, &t, 6, 20));
+    test("session openings refuses word p", refuses_step(LAST, LAST, &t, VARUNA_REFUSED_WORD, 20));
 }
 
 static void test_opening(void)
@@ -442,11 +467,13 @@ static void test_opening(void)
     int reached = reach(GAMMA, session);
     memcpy(kept, session, sizeof kept);
     uint32_t number = varuna_session_open(session, wrong_sizes, square_x, 1, &position);
-    test("session open refuses |X| above |C|", reached && is_refused(number, position, 4, 2) && same(session, kept, VARUNA_SESSION_WORDS));
+    test("session open refuses |X| above |C|", reached && is_refused(number, position, VARUNA_REFUSED_SIZE, 2) &&
+             same(session, kept, VARUNA_SESSION_WORDS));
     number = varuna_session_open(session, square_sizes, wrong_x, 2, &position);
-    test("session open refuses a length", is_refused(number, position, 5, 0) && same(session, kept, VARUNA_SESSION_WORDS));
+    test("session open refuses a length", is_refused(number, position, VARUNA_REFUSED_LENGTH, 0) &&
+             same(session, kept, VARUNA_SESSION_WORDS));
     number = varuna_session_open(session, square_sizes, wrong_x, 1, &position);
-    test("session open refuses word p", is_refused(number, position, 6, 0) && same(session, kept, VARUNA_SESSION_WORDS));
+    test("session open refuses word p", is_refused(number, position, VARUNA_REFUSED_WORD, 0) && same(session, kept, VARUNA_SESSION_WORDS));
 }
 
 static void test_declared_lengths(void)
@@ -456,15 +483,18 @@ static void test_declared_lengths(void)
     int reached = reach(ALPHA, session);
     memcpy(kept, session, sizeof kept);
     uint32_t number = varuna_session_alpha(session, 2, 5, 0, 2, &position);
-    test("session alpha refuses a length", reached && is_refused(number, position, 11, 1) && same(session, kept, VARUNA_SESSION_WORDS));
+    test("session alpha refuses a length", reached && is_refused(number, position, VARUNA_REFUSED_DECLARED, 1) &&
+             same(session, kept, VARUNA_SESSION_WORDS));
     reached = reach(BETA, session);
     memcpy(kept, session, sizeof kept);
     number = varuna_session_beta(session, 1, 3, 3, &position);
-    test("session beta refuses a length", reached && is_refused(number, position, 11, 1) && same(session, kept, VARUNA_SESSION_WORDS));
+    test("session beta refuses a length", reached && is_refused(number, position, VARUNA_REFUSED_DECLARED, 1) &&
+             same(session, kept, VARUNA_SESSION_WORDS));
     reached = reach(GAMMA, session);
     memcpy(kept, session, sizeof kept);
     number = varuna_session_gamma(session, 1, 5, &position);
-    test("session gamma refuses a length", reached && is_refused(number, position, 11, 0) && same(session, kept, VARUNA_SESSION_WORDS));
+    test("session gamma refuses a length", reached && is_refused(number, position, VARUNA_REFUSED_DECLARED, 0) &&
+             same(session, kept, VARUNA_SESSION_WORDS));
 }
 
 /* Where x and the transcript stand among a session's words. */
@@ -517,7 +547,7 @@ static void test_forged_sessions(void)
         int accepted = is_done(number, position) && verdict == VARUNA_ACCEPT;
         session[forged[i].place] = forged[i].word;
         snprintf(name, sizeof name, "session openings refuses %s that no step left", forged[i].what);
-        test(name, reached && accepted && refuses(session, LAST, &t, 1, 0));
+        test(name, reached && accepted && refuses(session, LAST, &t, VARUNA_REFUSED_TURN, 0));
     }
 }
 
@@ -556,9 +586,9 @@ static void test_writing(uint8_t *bytes)
     const uint32_t wrong_sizes[VARUNA_SIZES] = {1, 2, 1, 1, 3, 1};
     const uint32_t wrong_w[2] = {4, P};
     size_t position = NOWHERE;
-    test("write_record refuses a size", refuses_write(wrong_sizes, w, RECORD_BYTES, 4, 4));
-    test("write_record refuses a length", refuses_write(square_sizes, w, RECORD_BYTES - 4, 5, 11));
-    test("write_record refuses a word", refuses_write(square_sizes, wrong_w, RECORD_BYTES, 6, 1));
+    test("write_record refuses a size", refuses_write(wrong_sizes, w, RECORD_BYTES, VARUNA_REFUSED_SIZE, 4));
+    test("write_record refuses a length", refuses_write(square_sizes, w, RECORD_BYTES - 4, VARUNA_REFUSED_LENGTH, 11));
+    test("write_record refuses a word", refuses_write(square_sizes, wrong_w, RECORD_BYTES, VARUNA_REFUSED_WORD, 1));
     uint32_t number = write(square_sizes, w, bytes, RECORD_BYTES, &position);
     int all = is_done(number, position);
     for (size_t i = 0; i < COUNT(expected); i++)
@@ -581,12 +611,13 @@ static void test_reading(uint8_t *bytes)
     size_t position = NOWHERE;
     uint32_t number = varuna_read_record(bytes, RECORD_BYTES, sizes, &position);
     test("read_record", is_done(number, position) && same(sizes, square_sizes, VARUNA_SIZES));
-    test("read_record refuses an end", refuses_read(bytes, RECORD_BYTES - 1, 2, 0) && refuses_read(bytes, 71, 2, 0));
+    test("read_record refuses an end", refuses_read(bytes, RECORD_BYTES - 1, VARUNA_REFUSED_END, 0) &&
+             refuses_read(bytes, 71, VARUNA_REFUSED_END, 0));
     bytes[64] = 9;
-    test("read_record refuses a start", refuses_read(bytes, RECORD_BYTES, 3, 1));
+    test("read_record refuses a start", refuses_read(bytes, RECORD_BYTES, VARUNA_REFUSED_TRAILER, 1));
     bytes[64] = 8;
     memset(bytes + 4, 0xFF, 4);
-    test("read_record refuses a word", refuses_read(bytes, RECORD_BYTES, 6, 1));
+    test("read_record refuses a word", refuses_read(bytes, RECORD_BYTES, VARUNA_REFUSED_WORD, 1));
     memcpy(bytes + 4, (uint8_t[]){1, 0, 0, 0}, 4);
 }
 
@@ -599,28 +630,32 @@ static int refuses_section(const uint8_t *bytes, size_t length, size_t k, uint32
 
 static void test_sections(uint8_t *bytes)
 {
-    static const size_t starts[11] = {0, 8, 24, 24, 36, 40, 48, 60, 60, 60, 60};
-    static const size_t lengths[11] = {8, 16, 0, 12, 4, 8, 12, 0, 0, 0, 0};
+    static const size_t starts[VARUNA_SECTIONS] = {0, 8, 24, 24, 36, 40, 48, 60, 60, 60, 60};
+    static const size_t lengths[VARUNA_SECTIONS] = {8, 16, 0, 12, 4, 8, 12, 0, 0, 0, 0};
     int all = 1;
-    for (size_t k = 0; k < 11; k++) {
+    for (size_t k = 0; k < VARUNA_SECTIONS; k++) {
         size_t start = 77, length = 78, position = NOWHERE;
         uint32_t number = varuna_section(bytes, RECORD_BYTES, k, &start, &length, &position);
         all = all && is_done(number, position) && start == starts[k] && length == lengths[k];
     }
     test("section", all);
-    test("section refuses a number above 10", refuses_section(bytes, RECORD_BYTES, 11, 5, 11) &&
-                                                  refuses_section(bytes, RECORD_BYTES, SIZE_MAX, 5, SIZE_MAX));
-    test("section refuses an end", refuses_section(bytes, RECORD_BYTES - 4, 1, 2, 0) && refuses_section(bytes, 71, 11, 2, 0));
+    test("section refuses a number above 10", refuses_section(bytes, RECORD_BYTES, 11, VARUNA_REFUSED_LENGTH, 11) &&
+                                                  refuses_section(bytes, RECORD_BYTES, SIZE_MAX, VARUNA_REFUSED_LENGTH, SIZE_MAX));
+    test("section refuses an end", refuses_section(bytes, RECORD_BYTES - 4, 1, VARUNA_REFUSED_END, 0) &&
+             refuses_section(bytes, 71, 11, VARUNA_REFUSED_END, 0));
     bytes[64] = 9;
-    test("section refuses a start", refuses_section(bytes, RECORD_BYTES, 0, 3, 1) && refuses_section(bytes, RECORD_BYTES, 11, 3, 1));
+    test("section refuses a start", refuses_section(bytes, RECORD_BYTES, 0, VARUNA_REFUSED_TRAILER, 1) &&
+             refuses_section(bytes, RECORD_BYTES, 11, VARUNA_REFUSED_TRAILER, 1));
     bytes[64] = 8;
     memset(bytes + 4, 0xFF, 4);
-    test("section refuses a word", refuses_section(bytes, RECORD_BYTES, 10, 6, 1) && refuses_section(bytes, RECORD_BYTES, 11, 5, 11));
+    test("section refuses a word", refuses_section(bytes, RECORD_BYTES, 10, VARUNA_REFUSED_WORD, 1) &&
+             refuses_section(bytes, RECORD_BYTES, 11, VARUNA_REFUSED_LENGTH, 11));
 }
 
 int main(void)
 {
     uint8_t bytes[RECORD_BYTES];
+    test_constants();
     test_words();
     test_domains();
     test_evaluate();
@@ -636,6 +671,7 @@ int main(void)
     test_reading(bytes);
     test_sections(bytes);
     test_stack();
+    test_header();
     printf("%d passed, %d failed\n", passed, failed);
     return failed != 0;
 }

@@ -11,10 +11,10 @@
 #include "../../include/varuna.h"
 #include "test.h"
 
-#define N 1024
+#define N VARUNA_MAX_SIZE
 #define LIMIT ((size_t)256 * 1024)
 #define SIZES N, N, 1
-#define RECORD_BYTES (4 * (10 * N) + 72)
+#define RECORD_BYTES VARUNA_MAX_RECORD_BYTES
 
 /* A[i][i] = B[i][i] = C[i][i] = 1, z all 1: every row is 1 times 1 is 1. */
 static uint32_t entries[3 * N], z[N], m[2 * N];
@@ -87,7 +87,7 @@ static void opening(void)
 static void session_new(void)
 {
     varuna_session_new(session);
-    number = 0;
+    number = VARUNA_DONE;
 }
 
 static void session_open(void)
@@ -146,7 +146,7 @@ static void read_record(void)
 static void section(void)
 {
     size_t start, length;
-    number = varuna_section(record, RECORD_BYTES, 10, &start, &length, &position);
+    number = varuna_section(record, RECORD_BYTES, VARUNA_SECTION_H2, &start, &length, &position);
 }
 
 #define STACK_BYTES (4 * LIMIT)
@@ -208,7 +208,7 @@ void test_stack(void)
         number = 77;
         size_t used = stack_used(calls[i].call);
         snprintf(name, sizeof name, "stack of %s, %zu bytes", calls[i].name, used);
-        test(name, number == 0 && used < LIMIT);
+        test(name, number == VARUNA_DONE && used < LIMIT);
     }
     test("the proof of 1,024 rows is accepted", verdict == VARUNA_ACCEPT);
 }

@@ -1,6 +1,10 @@
-/* What the test files of this folder share. */
+/* What the test files of this folder share, in C and in C++. */
 #ifndef TEST_H
 #define TEST_H
+
+#ifdef __cplusplus
+extern "C" {
+#endif
 
 #define COUNT(list) (sizeof(list) / sizeof((list)[0]))
 
@@ -9,5 +13,12 @@ void test(const char *name, int ok);
 
 /* The tests of stack.c. */
 void test_stack(void);
+
+/* The tests of header.cpp. */
+void test_header(void);
+
+#ifdef __cplusplus
+}
+#endif
 
 #endif

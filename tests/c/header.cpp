@@ -1,0 +1,48 @@
+/*
+ * The header in C++: the verifier that its opening comment shows, line by line, and a call of each other kind. What fails here at first
+ * is the compiler, where the header is no C++, or the linker, where a call is not declared as C.
+ */
+#include "../../include/varuna.h"
+#include "test.h"
+
+static int accepts()
+{
+    uint32_t session[VARUNA_SESSION_WORDS], verdict = VARUNA_NO_VERDICT;
+    size_t position;
+    const uint32_t sizes[VARUNA_SIZES] = {1, 2, 1, 1, 1, 1};
+    const uint32_t x[1] = {9};
+    const uint32_t sigma[3] = {3, 3, 9}, eta[3] = {1, 1, 2};
+    const uint32_t omega[3] = {VARUNA_MODULUS - 1, VARUNA_MODULUS - 1, 2}, delta[3] = {1, 1, 1};
+    const uint32_t g_lengths[3] = {0, 0, 0};
+    const uint32_t openings[VARUNA_OPENINGS] = {
+        7, 19, 7, 4, 0, 0, 0, 0, 0,
+        1, VARUNA_MODULUS - 1, VARUNA_MODULUS - 1, VARUNA_MODULUS - 1,
+        1, VARUNA_MODULUS - 1, VARUNA_MODULUS - 1, VARUNA_MODULUS - 1,
+        1, 1, 1, 1,
+    };
+
+    return varuna_session_open(session, sizes, x, 1, &position) == VARUNA_DONE
+        && varuna_session_alpha(session, 2, 4, 0, 2, &position) == VARUNA_DONE
+        && varuna_session_eta(session, sigma, eta, &position) == VARUNA_DONE
+        && varuna_session_beta(session, 1, 2, 3, &position) == VARUNA_DONE
+        && varuna_session_delta(session, omega, g_lengths, delta, &position) == VARUNA_DONE
+        && varuna_session_gamma(session, 0, 5, &position) == VARUNA_DONE
+        && varuna_session_openings(session, openings, &verdict, &position) == VARUNA_DONE
+        && verdict == VARUNA_ACCEPT;
+}
+
+static int gives_and_refuses()
+{
+    uint32_t result = 77, elements[2] = {77, 78}, sizes[VARUNA_SIZES] = {};
+    uint8_t bytes[VARUNA_TRAILER_BYTES - 1] = {};
+    size_t position = 99;
+    return varuna_inverse(2, &result, &position) == VARUNA_DONE && result == 1006632961
+        && varuna_list_domain(2, elements, 2, &position) == VARUNA_DONE && elements[1] == VARUNA_MODULUS - 1
+        && varuna_read_record(bytes, sizeof bytes, sizes, &position) == VARUNA_REFUSED_END && position == 0;
+}
+
+void test_header()
+{
+    test("the header's verifier, in C++", accepts());
+    test("calls from C++", gives_and_refuses());
+}
