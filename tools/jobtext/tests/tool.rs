@@ -11,11 +11,11 @@ const P: u32 = 2_013_265_921;
 fn square() -> Vec<u8> {
     let circuit = [1, 2, 1, 1, 1, 1, 0, 1, 1, 0, 1, 1, 0, 0, 1];
     let rest = [9, 3, 1, 1, 0, P - 1, 1, 2, 1, 1, 2, 3, 1, 1, 1, 5];
-    job::bytes(&[&circuit[..], &rest].concat())
+    jobtext::bytes(&[&circuit[..], &rest].concat())
 }
 
 fn tool(arguments: &[&str], input: &[u8]) -> Output {
-    let mut command = Command::new(env!("CARGO_BIN_EXE_job"));
+    let mut command = Command::new(env!("CARGO_BIN_EXE_jobtext"));
     command.args(arguments).stdin(Stdio::piped()).stdout(Stdio::piped()).stderr(Stdio::piped());
     let mut child = command.spawn().expect("the tool starts");
     // with wrong arguments the tool ends without reading
@@ -41,7 +41,7 @@ fn problem(arguments: &[&str], input: &[u8]) -> String {
 fn packs_numbers() {
     let text = "1,2 , 3\t4 # 5 6\n\n#7\n 4294967295,\r\n0#8\n007";
     let words = [1, 2, 3, 4, u32::MAX, 0, 7];
-    assert_eq!(good("pack", text.as_bytes()), job::bytes(&words));
+    assert_eq!(good("pack", text.as_bytes()), jobtext::bytes(&words));
     assert_eq!(good("pack", b""), b"");
     assert_eq!(good("pack", b"# nothing"), b"");
 }
@@ -59,7 +59,7 @@ fn names_line_and_column() {
 #[test]
 fn asks_for_a_command() {
     for arguments in [&[][..], &["unpack"], &["pack", "file"]] {
-        assert!(problem(arguments, b"").starts_with("usage: job pack | job show | job record"));
+        assert!(problem(arguments, b"").starts_with("usage: jobtext pack | jobtext show | jobtext record"));
     }
 }
 
@@ -89,7 +89,7 @@ fn shows_the_square_job() {
 fn says_what_is_missing_or_left_over() {
     let job = square();
     let comments = |bytes: &[u8]| {
-        let shown = job::show(bytes);
+        let shown = jobtext::show(bytes);
         let comments = shown.lines().filter_map(|line| line.strip_prefix("# "));
         comments.map(str::to_string).collect::<Vec<_>>()
     };
@@ -107,7 +107,7 @@ fn says_what_is_missing_or_left_over() {
     assert_eq!(comments(&job[..66]), expected);
     let expected = ["missing: 1 of 3 words of |R| |C| |X|", "missing: 3 of 3 words of entries of A, B, C"];
     assert_eq!(comments(&job[..8]), [&expected[..], &["missing: all after them"]].concat());
-    let longer = job::show(&[&job[..], &[7, 0, 0, 0]].concat());
+    let longer = jobtext::show(&[&job[..], &[7, 0, 0, 0]].concat());
     let last = longer.lines().last().map(|line| line.split_whitespace().collect::<Vec<_>>());
     assert_eq!(last, Some(vec!["7", "#", "left", "over"]));
     assert_eq!(comments(&job), [""; 0]);
@@ -122,13 +122,13 @@ fn shown_square_job_packs_again() {
 fn shows_records() {
     let mut words = vec![4, 1, 1, 0, P - 1, 1, 3, 3, 9, 7, 1, 1, P - 1, P - 1, 2];
     words.extend([0, 8, 24, 24, 36, 40, 48, 60, 60, 60, 60, 1, 2, 1, 1, 1, 1, 60]);
-    let record = job::bytes(&words);
+    let record = jobtext::bytes(&words);
     let shown = String::from_utf8(good("record", &record)).expect("a shown record is text");
     let lines: Vec<String> = shown.lines().map(|line| line.split_whitespace().collect::<Vec<_>>().join(" ")).collect();
     assert_eq!(lines[0], "4 1 # w");
     assert_eq!(lines[2], "# h0");
     assert_eq!(lines[11], "0 8 24 24 36 40 48 60 60 60 60 # starts of the sections, in bytes");
     assert_eq!(lines[12..], ["1 2 1 1 1 1 # |R| |C| |X| |K_A| |K_B| |K_C|", "60 # start of the trailer, in bytes"]);
-    assert_eq!(job::pack(&shown), Ok(record.clone()));
-    assert!(job::show_record(&record[4..]).ends_with("# refused 2 0\n"));
+    assert_eq!(jobtext::pack(&shown), Ok(record.clone()));
+    assert!(jobtext::show_record(&record[4..]).ends_with("# refused 2 0\n"));
 }
