@@ -1,13 +1,19 @@
-//! Jobs of the program `prove` and proof records as text.
+//! Jobs of the program `prove` and proof records, between text and bytes.
 //!
-//! The text of a job is its words in decimal, separated by white space or commas; `#` begins a comment that ends with the line.
+//! The text of a job is its words in decimal, separated by white space or commas; `#` begins a comment that ends with the line. A
+//! negative number is read modulo p, however small it is: -1 is p - 1, and -p is 0. That is for field words: a size, an entry count,
+//! a row or a column is never negative. A number of p or more stays as it is, for the program to refuse.
+
+#![forbid(unsafe_code)]
+
+mod jobs;
+mod records;
+
+pub use jobs::{pack, show, MATRICES};
+pub use records::{record, record_fault, show_record};
 
 use std::fmt;
 
-/// What the three words of an entry are, by matrix.
-pub const MATRICES: [&str; 3] = ["A: row, column, value", "B: row, column, value", "C: row, column, value"];
-/// The names of the record's sections.
-const SECTIONS: [&str; 11] = ["w", "m", "h0", "s", "g1", "h1", "o", "ga", "gb", "gc", "h2"];
 /// The column at which a comment stands after a short field.
 const COMMENT_COLUMN: usize = 34;
 
@@ -54,27 +60,21 @@ fn words(bytes: &[u8]) -> Vec<u32> {
     bytes.chunks_exact(4).map(|word| u32::from_le_bytes([word[0], word[1], word[2], word[3]])).collect()
 }
 
-/// The word that a number in a text stands for.
+/// The parts of a line between white space and commas, each with its column.
+fn parts(line: &str) -> impl Iterator<Item = (usize, &str)> {
+    let parts = line.split(|sign: char| sign.is_whitespace() || sign == ',').filter(|part| !part.is_empty());
+    parts.map(|part| {
+        let start = part.as_ptr() as usize - line.as_ptr() as usize;
+        (line[..start].chars().count() + 1, part)
+    })
+}
+
+/// The word that a number without a sign stands for.
 fn word(number: &str) -> Result<u32, String> {
-    if !number.bytes().all(|byte| byte.is_ascii_digit()) {
+    if number.is_empty() || !number.bytes().all(|byte| byte.is_ascii_digit()) {
         return Err(format!("'{number}' is not a number"));
     }
     number.parse().map_err(|_| format!("{number} is 2^32 or more"))
-}
-
-/// The bytes of a job's text.
-pub fn pack(text: &str) -> Result<Vec<u8>, TextError> {
-    let mut packed = Vec::new();
-    for (place, line) in text.lines().enumerate() {
-        let numbers = line.split('#').next().unwrap_or("");
-        for number in numbers.split(|sign: char| sign.is_whitespace() || sign == ',').filter(|part| !part.is_empty()) {
-            let start = number.as_ptr() as usize - line.as_ptr() as usize;
-            let column = line[..start].chars().count() + 1;
-            let word = word(number).map_err(|problem| TextError { line: place + 1, column, problem })?;
-            packed.extend(word.to_le_bytes());
-        }
-    }
-    Ok(packed)
 }
 
 /// A text of fields that are taken from words in order, with what is missing once the words end.
@@ -85,6 +85,10 @@ struct Shown {
 }
 
 impl Shown {
+    fn new(bytes: &[u8]) -> Shown {
+        Shown { rest: words(bytes), text: String::new(), missing: Vec::new() }
+    }
+
     /// Takes a field of so many words.
     fn take(&mut self, name: &str, length: u64) {
         let given = self.rest.len().min(usize::try_from(length).unwrap_or(usize::MAX));
@@ -98,70 +102,4 @@ impl Shown {
             self.missing.push(format!("{lacking} of {length} words of {name}"));
         }
     }
-
-    /// Takes a matrix's entries, each a field.
-    fn take_entries(&mut self, matrix: usize, count: u32) {
-        let (mut left, name) = (u64::from(count), MATRICES[matrix]);
-        while left > 0 && self.rest.len() >= 3 {
-            self.take(name, 3);
-            left -= 1;
-        }
-        if left > 0 {
-            self.take(name, 3 * left);
-        }
-    }
-}
-
-/// The text of a job, a field to a line; of any bytes, as far as they go.
-pub fn show(job: &[u8]) -> String {
-    let mut shown = Shown { rest: words(job), text: String::new(), missing: Vec::new() };
-    let (head, columns) = (shown.rest.clone(), u64::from(shown.rest.get(1).copied().unwrap_or(0)));
-    shown.take("|R| |C| |X|", 3);
-    shown.take("entries of A, B, C", 3);
-    if head.len() >= 6 {
-        for matrix in 0..3 {
-            shown.take_entries(matrix, head[3 + matrix]);
-        }
-        let fields =
-            [("z", columns), ("r", 1), ("m", 2 * columns), ("alpha", 1), ("eta", 3), ("beta", 1), ("delta", 3)];
-        for (name, length) in fields {
-            shown.take(name, length);
-        }
-        shown.take("gamma", 1);
-    } else {
-        shown.missing.push("all after them".to_string());
-    }
-    let over = shown.rest.len() as u64;
-    if over > 0 {
-        shown.take("left over", over);
-    }
-    let part = &job[job.len() / 4 * 4..];
-    if !part.is_empty() {
-        shown.text.push_str(&format!("# {} bytes of a word: {part:?}\n", part.len()));
-    }
-    for missing in &shown.missing {
-        shown.text.push_str(&format!("# missing: {missing}\n"));
-    }
-    shown.text
-}
-
-/// The text of a proof record, a section to a line, then its trailer; of any other bytes, their words and the refusal.
-pub fn show_record(record: &[u8]) -> String {
-    let mut shown = Shown { rest: words(record), text: String::new(), missing: Vec::new() };
-    let sections: Result<Vec<_>, _> = (0..SECTIONS.len()).map(|number| second::section(record, number)).collect();
-    match sections {
-        Ok(sections) => {
-            for (name, section) in SECTIONS.into_iter().zip(sections) {
-                shown.take(name, section.len() as u64 / 4);
-            }
-            shown.take("starts of the sections, in bytes", 11);
-            shown.take("|R| |C| |X| |K_A| |K_B| |K_C|", 6);
-            shown.take("start of the trailer, in bytes", 1);
-        }
-        Err(refusal) => {
-            shown.take("words", record.len() as u64 / 4);
-            shown.text.push_str(&format!("# refused {} {}\n", refusal.number, refusal.position));
-        }
-    }
-    shown.text
 }
