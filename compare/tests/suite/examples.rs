@@ -1,7 +1,8 @@
 //! The jobs in examples/: each text NAME.txt, packed, must print NAME.out, through the program and through the second
-//! implementation.
+//! implementation; what is accepted makes a proof record that the library reads.
 
 use crate::program;
+use compare::library;
 use std::fs;
 use std::path::{Path, PathBuf};
 
@@ -35,4 +36,47 @@ fn shown_examples_are_the_same_jobs() {
         let packed = job::pack(&text).unwrap_or_else(|error| panic!("{name}: {error}"));
         assert_eq!(job::pack(&job::show(&packed)), Ok(packed), "{name}");
     }
+}
+
+/// The bytes of the words of a printed line, after its name.
+fn line_bytes(line: &str) -> Vec<u8> {
+    let words = line.split(' ').skip(1).map(|word| word.parse().expect("a word"));
+    job::bytes(&words.collect::<Vec<u32>>())
+}
+
+/// The tool's record of each accepted example: the library reads the job's sizes in it, and the printed words in its sections.
+#[test]
+fn records_of_accepted_examples_are_read() {
+    let accepted = examples().into_iter().filter(|(_, _, printed)| printed.ends_with("verdict accept\n"));
+    let mut count = 0;
+    for (name, text, _) in accepted {
+        let packed = job::pack(&text).unwrap_or_else(|error| panic!("{name}: {error}"));
+        let printed = program::prove(&packed);
+        let record = job::record(&packed, &printed).unwrap_or_else(|error| panic!("{name}: {error}"));
+        let words: Vec<u32> =
+            packed.chunks(4).map(|word| u32::from_le_bytes(word.try_into().expect("words"))).collect();
+        let sizes = library::read_record(&record).unwrap_or_else(|refusal| panic!("{name}: {refusal:?}"));
+        assert_eq!(sizes[..3], words[..3], "{name}");
+        for (size, entries) in sizes[3..].iter().zip(&words[3..6]) {
+            assert!(size >= entries && (*size == 1 || size / 2 < *entries), "{name}: {sizes:?}");
+        }
+        for (number, line) in printed.lines().take(11).enumerate() {
+            let (start, length) = library::section(&record, number).expect("a record that reads has its sections");
+            assert_eq!(record[start..start + length], line_bytes(line), "{name}, section {number}");
+        }
+        count += 1;
+    }
+    assert!(count >= 3, "{count} accepted examples");
+}
+
+/// Document 01's square case: 132 bytes, every one.
+#[test]
+fn record_of_the_square_example() {
+    let text = fs::read_to_string(folder().join("square.txt")).expect("there is the square case");
+    let packed = job::pack(&text).expect("the square case is a job");
+    let sections = [4, 1, 1, 0, second::MODULUS - 1, 1, 3, 3, 9, 7, 1, 1, second::MODULUS - 1, second::MODULUS - 1, 2];
+    let trailer = [0, 8, 24, 24, 36, 40, 48, 60, 60, 60, 60, 1, 2, 1, 1, 1, 1, 60];
+    let expected = job::bytes(&[&sections[..], &trailer].concat());
+    assert_eq!(expected.len(), 132);
+    assert_eq!(job::record(&packed, &program::prove(&packed)), Ok(expected));
 }
