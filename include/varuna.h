@@ -61,14 +61,14 @@
  * refused; a breach of this paragraph is not noticed.
  *
  * THE SESSION is the host's to guard. Its words are what the verifier knows, and whoever can write them can write a session that other
- * steps would have made: the verdict is then about those. So is the rest of what the calls can't see: that each challenge is drawn after
- * the messages before it and is not known to the prover earlier, that an opening is the value of a polynomial of the declared length
+ * steps would have made: the verdict is then about those. The host answers, too, for what no call can see: that each challenge is drawn
+ * after the messages before it and known to the prover no earlier, that an opening is the value of a polynomial of the declared length
  * that was fixed before the point, and that the index polynomials opened are those of the circuit meant.
  *
  * PLATFORM. The archive is one object for x86-64 with the System V calling convention, as on Linux; the toolchain builds for no other
  * target. It uses the base instruction set with SSE2 registers and the red zone below the stack pointer, is position independent, and has
- * no variables: calls on separate memory may run at the same time. It calls memcpy and memset and nothing else: no heap, no files, no
- * system calls. The stack is measured, not proved: tests/c/stack.c runs every call at the largest sizes. varuna_openings took the most,
+ * no variables: calls that write separate memory may run at the same time. It calls memcpy and memset and nothing else: no heap, no files,
+ * no system calls. The stack is measured, not proved: tests/c/stack.c runs every call at the largest sizes. varuna_openings took the most,
  * 62,480 bytes, then varuna_third_round, 50,072; a step of the session took at most 4,696.
  */
 #ifndef VARUNA_H
