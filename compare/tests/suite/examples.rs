@@ -80,3 +80,13 @@ fn record_of_the_square_example() {
     assert_eq!(expected.len(), 132);
     assert_eq!(job::record(&packed, &program::prove(&packed)), Ok(expected));
 }
+
+/// The job that README.md builds step by step is that of examples/cubic.txt.
+#[test]
+fn circuit_of_the_readme() {
+    let read = |file: &str| fs::read_to_string(folder().join(file)).unwrap_or_else(|error| panic!("{file}: {error}"));
+    let readme = read("../README.md");
+    let text = readme.split_once("cat > my.txt <<'END'\n").and_then(|(_, rest)| rest.split_once("    END\n"));
+    let (text, _) = text.expect("README.md has a job");
+    assert_eq!(job::pack(text), job::pack(&read("cubic.txt")));
+}
