@@ -3,10 +3,11 @@
  * its number, its position, and that it leaves the memory of its results and the session as they were, but for the verdict, which a
  * refused last step sets to none. Prints a line for each test and last the counts; exits with 1 where a test failed.
  */
+#include "../../include/varuna.h" /* first, since it must need no other header */
+
 #include <stdio.h>
 #include <string.h>
 
-#include "../../include/varuna.h"
 #include "test.h"
 
 #define P VARUNA_MODULUS
