@@ -40,19 +40,20 @@
  *
  * NAMES are document 01's, everywhere:
  *
- *     rows, columns, publics        the sizes |R|, |C|, |X|: the numbers of rows, of columns and of public columns
- *     entries_a, .._b, .._c         the entry lists of the matrices A, B, C
- *     x, z                          the public words; the assignment, a word for each column
- *     r, m                          the mask word; the mask polynomial
- *     w, h0, g1, h1, ga, gb, gc, h2 polynomials that the prover sends; w is document 01's w with a hat
- *     sigma, omega                  the claimed sums and the claimed matrix values, each for A, B, C
- *     alpha, eta, beta, delta, gamma the challenges; eta and delta have one each for A, B, C
- *     |K_A|, |K_B|, |K_C|, |K|      the smallest size not below the matrix's count of entries (1 for none); the largest of the three
+ *     rows, columns, publics          the sizes |R|, |C|, |X|: the numbers of rows, of columns and of public columns
+ *     |K_A|, |K_B|, |K_C|, |K|        the smallest size not below the matrix's count of entries (1 for none); the largest of the three
+ *     entries_a, entries_b, entries_c the entry lists of the matrices A, B, C
+ *     x, z                            the public words; the assignment, a word for each column
+ *     r, m                            the mask word; the mask polynomial
+ *     w, h0, g1, h1, ga, gb, gc, h2   polynomials that the prover sends; w is document 01's w with a hat
+ *     sigma, omega                    the claimed sums and the claimed matrix values, each for A, B, C
+ *     alpha, beta, gamma, eta, delta  the challenges; eta and delta have one each for A, B, C
  *
  * WORDS. A field word is below VARUNA_MODULUS. A size is a power of two from 1 to VARUNA_MAX_SIZE, and |X| is at most |C|. A polynomial is
  * its coefficients, the constant first, in exactly the length named; zeros at its end stay. An entry list has three words for each entry,
  * row, column, value: at most 1,024 entries, 3,072 words, rising by row and then by column; a row is below |R|, a column below |C|, a
- * value from 1 to p - 1. Column i is public exactly when i is a multiple of |C|/|X|; x has the words of z there, in order.
+ * value from 1 to p - 1. Column i is public exactly when i is a multiple of |C|/|X|; x has the words of z there, in order. R, C and K are
+ * the domains of sizes |R|, |C| and |K|: element i of the domain of size n is g^i with g = 31^((p-1)/n).
  *
  * MEMORY. A slice is a pointer and its length in elements: words, or bytes for a record. That many elements stand at the pointer. An array
  * parameter with a length in brackets has exactly that length. No pointer is null, also where the length is 0. Pointers to words are
@@ -68,8 +69,8 @@
  * PLATFORM. The archive is one object for x86-64 with the System V calling convention, as on Linux; the toolchain builds for no other
  * target. It uses the base instruction set with SSE2 registers and the red zone below the stack pointer, is position independent, and has
  * no variables: calls that write separate memory may run at the same time. It calls memcpy and memset and nothing else: no heap, no files,
- * no system calls. The stack is measured, not proved: tests/c/stack.c runs every call at the largest sizes. varuna_openings took the most,
- * 62,480 bytes, then varuna_third_round, 50,072; a step of the session took at most 4,696.
+ * no system calls. The stack is measured, not proved: tests/c/stack.c runs every call on more than single words at the largest sizes.
+ * varuna_openings took the most, 62,480 bytes, then varuna_third_round, 50,072; a step of the session took at most 4,696.
  */
 #ifndef VARUNA_H
 #define VARUNA_H
@@ -142,7 +143,7 @@ extern "C" {
 #define VARUNA_REFUSED_LENGTH 5     /* a slice of a wrong length, or too long: which list; a section number above 10: that number */
 #define VARUNA_REFUSED_WORD 6       /* a field word of p or more: which word */
 #define VARUNA_REFUSED_ENTRY 7      /* row or column past its domain, value 0, or not above the entry before it: which entry */
-#define VARUNA_REFUSED_MASK 8       /* m does not add to 0 over the columns' domain; 0 */
+#define VARUNA_REFUSED_MASK 8       /* m does not add to 0 over C; 0 */
 #define VARUNA_REFUSED_ASSIGNMENT 9 /* z fails a row: the lowest such row */
 #define VARUNA_REFUSED_CHALLENGE 10 /* a challenge in its forbidden domain: 0 for alpha, 1 for beta, 2 for gamma */
 #define VARUNA_REFUSED_DECLARED 11  /* a declared length above the table of messages: which one of its step */
@@ -168,7 +169,7 @@ uint32_t varuna_power(uint32_t a, uint32_t n, uint32_t *result, size_t *position
 /* *result = 1/a, and 0 for 0. Refusal 6. */
 uint32_t varuna_inverse(uint32_t a, uint32_t *result, size_t *position);
 
-/* Domains and polynomials. Element i of the domain of size n is g^i with g = 31^((p-1)/n). */
+/* Domains and polynomials. */
 
 /* Fills elements (list 0, n words) with the domain of size n, in order. Refusals 4, 5. */
 uint32_t varuna_list_domain(uint32_t n, uint32_t *elements, size_t elements_length, size_t *position);
@@ -202,10 +203,10 @@ uint32_t varuna_index(uint32_t rows, uint32_t columns, uint32_t publics, const u
  *     entries_a, entries_b, entries_c     lists 0 to 2: three words for each entry, at most 3,072
  *     z                                   list 3: |C| words, and every row holds: (A z)(B z) = C z
  *     r                                   the mask word
- *     m                                   list 4: 2|C| words, whose values add to 0 over the columns' domain: m[0] + m[|C|] is 0 or p
+ *     m                                   list 4: 2|C| words, whose values add to 0 over C: m[0] + m[|C|] is 0 or p
  *
  * The field words, in order, are the values of the entries of A, B and C, then z, r, m, then the challenges as they stand. Refusals are
- * 4, 5, 6, 7, 8, 9 and, where there are challenges, 10: alpha is outside the rows' domain, beta outside the columns', gamma outside K.
+ * 4, 5, 6, 7, 8, 9 and, where there are challenges, 10: alpha is outside R, beta outside C, gamma outside K.
  */
 
 /* Round 1 fills w (list 5, |C| - |X| + 1 words) and h0 (list 6, |R| - 1 words). z has |C| words, m 2|C|. Refusals 4 to 9. */
@@ -277,15 +278,14 @@ void varuna_session_new(uint32_t session[VARUNA_SESSION_WORDS]);
 uint32_t varuna_session_open(uint32_t session[VARUNA_SESSION_WORDS], const uint32_t sizes[VARUNA_SIZES], const uint32_t *x,
                              size_t x_length, size_t *position);
 
-/* Step 2, the declared lengths of w (at most |C| - |X| + 1), m (2|C|) and h0 (|R| - 1), then alpha, outside the rows' domain. Refusals 1,
- * 6, 10, 11. */
+/* Step 2, the declared lengths of w (at most |C| - |X| + 1), m (2|C|) and h0 (|R| - 1), then alpha, outside R. Refusals 1, 6, 10, 11. */
 uint32_t varuna_session_alpha(uint32_t session[VARUNA_SESSION_WORDS], uint32_t w_length, uint32_t m_length, uint32_t h0_length,
                               uint32_t alpha, size_t *position);
 
 /* Step 3, the three sigma (words 0 to 2), then the three eta (3 to 5). Refusals 1, 6. */
 uint32_t varuna_session_eta(uint32_t session[VARUNA_SESSION_WORDS], const uint32_t sigma[3], const uint32_t eta[3], size_t *position);
 
-/* Step 4, the declared lengths of g1 (at most |C| - 1) and h1 (|C|), then beta, outside the columns' domain. Refusals 1, 6, 10, 11. */
+/* Step 4, the declared lengths of g1 (at most |C| - 1) and h1 (|C|), then beta, outside C. Refusals 1, 6, 10, 11. */
 uint32_t varuna_session_beta(uint32_t session[VARUNA_SESSION_WORDS], uint32_t g1_length, uint32_t h1_length, uint32_t beta,
                              size_t *position);
 
@@ -294,7 +294,7 @@ uint32_t varuna_session_beta(uint32_t session[VARUNA_SESSION_WORDS], uint32_t g1
 uint32_t varuna_session_delta(uint32_t session[VARUNA_SESSION_WORDS], const uint32_t omega[3], const uint32_t g_lengths[3],
                               const uint32_t delta[3], size_t *position);
 
-/* Step 6, the declared length of h2 (at most |K| - 1), then gamma, outside the domain of size |K|. Refusals 1, 6, 10, 11. */
+/* Step 6, the declared length of h2 (at most |K| - 1), then gamma, outside K. Refusals 1, 6, 10, 11. */
 uint32_t varuna_session_gamma(uint32_t session[VARUNA_SESSION_WORDS], uint32_t h2_length, uint32_t gamma, size_t *position);
 
 /* Step 7, the 21 openings in the order that stands at VARUNA_OPENINGS. *verdict is one of the four verdicts, and VARUNA_NO_VERDICT where
