@@ -21,6 +21,7 @@ static int accepts()
         1, 1, 1, 1,
     };
 
+    varuna_session_new(session);
     return varuna_session_open(session, sizes, x, 1, &position) == VARUNA_DONE
         && varuna_session_alpha(session, 2, 4, 0, 2, &position) == VARUNA_DONE
         && varuna_session_eta(session, sigma, eta, &position) == VARUNA_DONE
