@@ -672,6 +672,7 @@ int main(void)
     test_reading(bytes);
     test_sections(bytes);
     test_stack();
+    test_unread();
     test_header();
     printf("%d passed, %d failed\n", passed, failed);
     return failed != 0;

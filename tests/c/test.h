@@ -14,6 +14,9 @@ void test(const char *name, int ok);
 /* The tests of stack.c. */
 void test_stack(void);
 
+/* The tests of unread.c. */
+void test_unread(void);
+
 /* The tests of header.cpp. */
 void test_header(void);
 
