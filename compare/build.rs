@@ -2,14 +2,19 @@
 
 use std::path::PathBuf;
 
+#[path = "src/sources.rs"]
+mod sources;
+
 fn main() {
     println!("cargo::rerun-if-env-changed=VARUNA_LIBRARY");
     let given = std::env::var_os("VARUNA_LIBRARY").map(PathBuf::from);
-    let folder = given.unwrap_or_else(|| PathBuf::from(env!("CARGO_MANIFEST_DIR")).join("../target/staticlib"));
+    let folder = given.unwrap_or_else(|| sources::in_repository("target/staticlib"));
     let file = folder.join("libvaruna_c.a");
-    println!("cargo::rerun-if-changed={}", file.display());
-    if !file.is_file() {
-        println!("cargo::error=there is no {}: make it by `rt staticlib varuna_c` in the repository", file.display());
+    for path in [file.clone(), sources::in_repository("crates"), sources::in_repository("crates.txt")] {
+        println!("cargo::rerun-if-changed={}", path.display());
+    }
+    if let Err(fault) = sources::check_made(&file, "rt staticlib varuna_c") {
+        println!("cargo::error={fault}");
         println!("cargo::error=or set VARUNA_LIBRARY to the folder that holds libvaruna_c.a");
         return;
     }

@@ -197,3 +197,9 @@ fn two(outcome: Outcome) -> Result<[Vec<u32>; 2], Refusal> {
 pub fn prove(side: Side, case: &Case) -> Result<Proof, Refusal> {
     proof_of(case, CIRCUIT_CALLS.map(|call| circuit_call(side, call, case)))
 }
+
+/// A satisfied case, with the second implementation's proof of it.
+pub fn proved(case: Case) -> (Case, Proof) {
+    let proof = prove(Side::Second, &case).expect("a satisfied case is proved");
+    (case, proof)
+}

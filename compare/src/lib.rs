@@ -1,7 +1,8 @@
 //! The proved library beside the second implementation.
 //!
 //! `library` wraps the C interface; `case` holds a prover's inputs and `damage` what is put wrong in them; `calls` makes any
-//! public call on either side; `random` gives seeded words and circuits.
+//! public call on either side and `steps` takes those of a session on both; `random` gives seeded words and circuits; `sources`
+//! finds a library or program that is older than what it is made of.
 
 #![allow(clippy::too_many_arguments)] // the calls have the inputs that docs/CALLS.md lists
 #![deny(unsafe_code)] // but for the wrapper of the C interface
@@ -12,3 +13,5 @@ pub mod damage;
 #[allow(unsafe_code)]
 pub mod library;
 pub mod random;
+pub mod sources;
+pub mod steps;

@@ -1,11 +1,11 @@
 //! Seeded random words, sizes and satisfied circuits.
 //!
-//! The environment variable SEED is the seed of all tests (1 by default). COUNT is how many times the random part of each test is
-//! done (1 by default): 100 makes a long run.
+//! The environment variable SEED is the seed of all tests, a number below 2^56 (1 by default). COUNT is how many times the random
+//! part of each test is done, at least 1 (1 by default): 100 makes a long run.
 
 use crate::case::Case;
 use second::MODULUS;
-use std::collections::BTreeSet;
+use std::collections::{BTreeMap, BTreeSet};
 
 /// The most entries of a matrix.
 const ENTRY_LIMIT: u64 = 1024;
@@ -17,25 +17,46 @@ pub const SIZES: [u32; 11] = [1, 2, 4, 8, 16, 32, 64, 128, 256, 512, 1024];
 /// Numbers that are no sizes, and near ones or far.
 pub const NO_SIZES: [u32; 10] = [0, 3, 5, 6, 1023, 1025, 2048, 1 << 31, (1 << 31) + 1, u32::MAX];
 
+/// A number of the environment, 1 by default.
 fn setting(name: &str) -> u64 {
     let Ok(text) = std::env::var(name) else {
         return 1;
     };
-    text.parse().unwrap_or_else(|_| panic!("{name} is {text}, not a number"))
+    text.parse().unwrap_or_else(|_| panic!("{name} is {text}, not a number below 2^64"))
 }
 
 /// How many times a random test is done, from its default number.
 pub fn count(default: u64) -> u64 {
-    default * setting("COUNT")
+    let times = setting("COUNT");
+    assert_ne!(times, 0, "COUNT is 0, and nothing would be compared: it must be at least 1");
+    default.checked_mul(times).unwrap_or_else(|| panic!("COUNT is {times}, which is too large"))
+}
+
+/// How many comparisons a random test has made. A test that ends without any fails.
+#[derive(Default)]
+pub struct Compared(u64);
+
+impl Compared {
+    pub fn one(&mut self) {
+        self.0 += 1;
+    }
+}
+
+impl Drop for Compared {
+    fn drop(&mut self) {
+        assert!(std::thread::panicking() || self.0 > 0, "the test has compared nothing");
+    }
 }
 
 /// Marsaglia's xorshift with 64 bits.
 pub struct Random(u64);
 
 impl Random {
-    /// Different for each seed and each test.
+    /// Different for each seed and each test, of which there are fewer than 256: the factor is odd, so it keeps them apart.
     pub fn new(test: u64) -> Random {
-        let mut random = Random((setting("SEED") << 8 | test).wrapping_mul(0x9e37_79b9_7f4a_7c15) | 1);
+        let seed = setting("SEED");
+        assert!(seed < 1 << 56, "SEED is {seed}: it must be below 2^56");
+        let mut random = Random((seed << 8 | test).wrapping_mul(0x9e37_79b9_7f4a_7c15) | 1);
         random.next();
         random
     }
@@ -207,6 +228,32 @@ impl Random {
         let [a, b] = [self.entry_count(most), self.entry_count(most)].map(|count| self.matrix(rows, columns, count));
         let assignment = self.assignment(columns);
         self.closed(sizes, a, b, assignment)
+    }
+
+    /// A satisfied case of given sizes and numbers of entries. Every fourth word of the assignment is 0: there C has the entries
+    /// that no row needs, so its number must be at least that of the rows with entries of both A and B.
+    pub fn case_of_counts(&mut self, sizes: [u32; 3], counts: [usize; 3]) -> Case {
+        let [rows, columns, _] = sizes;
+        let assignment: Vec<u32> =
+            (0..columns).map(|column| if column % 4 == 1 { 0 } else { self.nonzero() }).collect();
+        let [a, b] = [0, 1].map(|matrix| self.matrix(rows, columns, counts[matrix]));
+        let [left, right] = [&a, &b].map(|list| row_sums(list, rows, &assignment));
+        assert!(counts[2] <= (rows * (columns / 4)) as usize, "too many entries of C for its rows and columns");
+        let fourth = |random: &mut Random| 4 * random.below(u64::from(columns / 4)) as u32;
+        let mut entries = BTreeMap::new();
+        for (row, (&left, &right)) in (0..).zip(left.iter().zip(&right)) {
+            let (product, column) = (times(left, right), fourth(self));
+            if product != 0 {
+                entries.insert((row, column), over(product, u64::from(assignment[column as usize])) as u32);
+            }
+        }
+        while entries.len() < counts[2] {
+            let place = (self.below(u64::from(rows)) as u32, fourth(self) + 1);
+            entries.insert(place, self.nonzero());
+        }
+        let c: Vec<u32> = entries.into_iter().flat_map(|((row, column), value)| [row, column, value]).collect();
+        assert_eq!(c.len(), 3 * counts[2], "more rows need an entry of C");
+        self.with_challenges(sizes, [a, b, c], assignment)
     }
 
     /// A satisfied case with |R| = |C| = size, as many entries in each matrix, and |X| a quarter of it.
