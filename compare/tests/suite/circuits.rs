@@ -2,19 +2,35 @@
 
 use compare::calls::{compare_circuit, proof_of, Outcome};
 use compare::case::{uneven_case, Case, ALPHA, BETA, GAMMA};
-use compare::random::{count, elements, Random, SIZES};
-use second::Refusal;
+use compare::random::{count, elements, Compared, Random, SIZES};
+use compare::steps::{Answers, Pair, Step};
+use second::{Refusal, Verdict};
 
 /// The refusals of the seven circuit calls.
 fn refusals(outcomes: &[Outcome; 7]) -> [Option<(u32, usize)>; 7] {
     outcomes.each_ref().map(|outcome| outcome.answer.as_ref().err().map(|refusal| (refusal.number, refusal.position)))
 }
 
-/// Compares a satisfied case, which no call may refuse.
-fn compare_good(case: &Case) {
+/// Compares a satisfied case, which no call may refuse, and a whole session on its proof, which must be accepted. Gives the steps.
+fn compare_good(case: &Case) -> [Step; 7] {
     let outcomes = compare_circuit(case);
     assert_eq!(refusals(&outcomes), [None; 7], "a satisfied case is refused:\n{case}");
-    assert!(proof_of(case, outcomes).is_ok());
+    let proof = proof_of(case, outcomes).expect("no call is refused");
+    let steps = Step::of_proof(case, &proof);
+    let mut pair = Pair::after(&steps[..6]);
+    assert_eq!(pair.take(&steps[6]), Ok(Some(Verdict::Accept)), "a good proof fails:\n{case}");
+    steps
+}
+
+/// Compares the verdicts on a good proof, whole and with each opening replaced.
+fn compare_openings(random: &mut Random, steps: &[Step; 7], answers: &mut Answers) {
+    let pair = Pair::after(&steps[..6]);
+    answers.add(&pair.clone().take(&steps[6]));
+    for opening in 0..21 {
+        let mut last = steps[6].clone();
+        *last.words()[opening] = random.word();
+        answers.add(&pair.clone().take(&last));
+    }
 }
 
 #[test]
@@ -27,38 +43,76 @@ fn square() {
 #[test]
 fn small_circuits() {
     let mut random = Random::new(10);
+    let mut compared = Compared::default();
     for _ in 0..count(1_500) {
         compare_good(&random.case(4));
+        compared.one();
     }
 }
 
 #[test]
 fn middle_circuits() {
     let mut random = Random::new(11);
+    let mut compared = Compared::default();
     for _ in 0..count(60) {
         compare_good(&random.case(7));
+        compared.one();
     }
 }
 
+/// Each size as that of R and of C goes through a whole session, with good openings and false ones.
 #[test]
 fn all_sizes() {
     let mut random = Random::new(12);
     for size in SIZES {
+        let mut answers = Answers::default();
         for sizes in [[size, 2, 1], [1, size, 1], [2, size, size], [size, size, 1 + size / 4]] {
             let sizes = [sizes[0], sizes[1], 1 << sizes[2].ilog2()];
-            compare_good(&random.case_of(sizes, 64));
+            let steps = compare_good(&random.case_of(sizes, 64));
+            compare_openings(&mut random, &steps, &mut answers);
         }
+        answers.expect(1, &[]);
     }
+}
+
+#[test]
+fn any_sizes() {
+    let mut random = Random::new(19);
+    let mut compared = Compared::default();
     for _ in 0..count(3) {
         compare_good(&random.case(10));
+        compared.one();
+    }
+}
+
+/// Each size as |K_A|, |K_B| and |K_C|, reached by as many entries and by one more than half as many, through whole sessions.
+#[test]
+fn all_entry_counts() {
+    let mut random = Random::new(20);
+    for size in SIZES.map(|size| size as usize) {
+        let mut answers = Answers::default();
+        for (matrix, entries) in [0, 1, 2].into_iter().flat_map(|matrix| [(matrix, size), (matrix, size / 2 + 1)]) {
+            let mut counts = [1, 3, 2 + random.place(14)];
+            counts[matrix] = entries;
+            counts[2] = counts[2].max(counts[0].min(counts[1]));
+            let case = random.case_of_counts([64, 128, 4], counts);
+            assert_eq!(case.places()[matrix] as usize, case.entries[matrix].len().div_ceil(3).next_power_of_two());
+            let steps = compare_good(&case);
+            compare_openings(&mut random, &steps, &mut answers);
+        }
+        answers.expect(1, &[]);
     }
 }
 
 #[test]
 fn largest_circuit() {
-    let case = Random::new(13).full_case(1024);
+    let mut random = Random::new(13);
+    let case = random.full_case(1024);
     assert_eq!(case.six_sizes(), [1024, 1024, 256, 1024, 1024, 1024]);
-    compare_good(&case);
+    let steps = compare_good(&case);
+    let mut answers = Answers::default();
+    compare_openings(&mut random, &steps, &mut answers);
+    answers.expect(1, &[]);
 }
 
 /// Matrices without entries, all of them or some; K_A, K_B and K_C all different.
@@ -81,11 +135,13 @@ fn empty_and_uneven_matrices() {
         case.lend_again();
         compare_good(&case);
     }
+    let mut compared = Compared::default();
     for _ in 0..count(200) {
         let case = random.case(5);
         let [a, b, c] = case.places();
         if a != b && b != c && a != c {
             compare_good(&case);
+            compared.one();
         }
     }
 }
@@ -108,11 +164,10 @@ fn damaged_square() {
 #[test]
 fn damaged_everywhere() {
     let mut random = Random::new(15);
-    for _ in 0..count(25) {
-        compare_damages(&random.case(2));
-    }
-    for _ in 0..count(4) {
-        compare_damages(&random.case(3));
+    let mut compared = Compared::default();
+    for round in 0..count(29) {
+        compare_damages(&random.case(if round % 7 == 6 { 3 } else { 2 }));
+        compared.one();
     }
 }
 
@@ -134,6 +189,7 @@ fn damaged_in_several_places() {
 #[test]
 fn damaged_large_circuits() {
     let mut random = Random::new(17);
+    let mut compared = Compared::default();
     for _ in 0..count(40) {
         let case = random.case(8);
         for _ in 0..4 {
@@ -141,6 +197,7 @@ fn damaged_large_circuits() {
             let damage = random.damage(&case);
             damaged.damage(damage);
             compare_circuit(&damaged);
+            compared.one();
         }
     }
 }
