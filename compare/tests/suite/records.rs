@@ -4,7 +4,7 @@ use compare::calls;
 use compare::calls::Input;
 use compare::case::{lengths, Case};
 use compare::library::{self, UNWRITTEN};
-use compare::random::{count, Random, BOUNDARY_WORDS, NO_SIZES, SIZES};
+use compare::random::{count, Compared, Random, BOUNDARY_WORDS, NO_SIZES, SIZES};
 use second::{Refusal, MODULUS};
 use std::fmt;
 
@@ -125,6 +125,7 @@ fn square() {
 #[test]
 fn round_trip() {
     let mut random = Random::new(30);
+    let mut compared = Compared::default();
     for size in SIZES {
         let written = Written::new(&mut random, [size; 6]);
         assert_eq!(compare_read(&written.record()), Ok([size; 6]));
@@ -133,6 +134,7 @@ fn round_trip() {
         let sizes = random.six_sizes(10);
         let written = Written::new(&mut random, sizes);
         assert_eq!(compare_read(&written.record()), Ok(sizes));
+        compared.one();
     }
 }
 
@@ -249,6 +251,7 @@ fn damaged_records() {
 #[test]
 fn other_total_lengths() {
     let mut random = Random::new(33);
+    let mut compared = Compared::default();
     for _ in 0..count(200) {
         let sizes = random.six_sizes(3);
         let record = Written::new(&mut random, sizes).record();
@@ -261,12 +264,14 @@ fn other_total_lengths() {
         let last = changed.len() / 4 - 1;
         let changed = with_word(&changed, last, changed.len() as u32 - 72);
         assert_eq!(compare_read(&changed), Err(Refusal { number: 3, position: 17 }));
+        compared.one();
     }
 }
 
 #[test]
 fn random_damage() {
     let mut random = Random::new(34);
+    let mut compared = Compared::default();
     for _ in 0..count(3_000) {
         let sizes = random.six_sizes(2);
         let mut record = Written::new(&mut random, sizes).record();
@@ -280,12 +285,14 @@ fn random_damage() {
             };
         }
         let _ = compare_read(&record);
+        compared.one();
     }
 }
 
 #[test]
 fn random_bytes() {
     let mut random = Random::new(35);
+    let mut compared = Compared::default();
     for _ in 0..count(3_000) {
         let length = random.place(200);
         let mut bytes: Vec<u8> = (0..length).map(|_| random.below(256) as u8).collect();
@@ -293,5 +300,30 @@ fn random_bytes() {
             bytes = with_word(&bytes, length / 4 - 1, length as u32 - 72);
         }
         assert!(compare_read(&bytes).is_err());
+        compared.one();
+    }
+}
+
+/// A field word of p or more far in a record, past its first KiB, is refused at its place by the writer, the reader and the finder of
+/// sections.
+#[test]
+fn words_far_in() {
+    let mut random = Random::new(37);
+    for sizes in [[1024; 6], [64, 1024, 1, 128, 512, 256], [1024, 16, 4, 256, 1, 2]] {
+        let good = Written::new(&mut random, sizes);
+        let record = good.record();
+        let mut place = 0;
+        for section in 0..11 {
+            let length = good.sections[section].len();
+            for word in [0, length / 2, length.saturating_sub(1)].into_iter().filter(|&word| word < length) {
+                let refusal = Refusal { number: 6, position: place + word };
+                let mut bad = good.clone();
+                bad.sections[section][word] = MODULUS;
+                assert_eq!(bad.compare().answer, Err(refusal));
+                assert_eq!(compare_read(&with_word(&record, place + word, u32::MAX)), Err(refusal));
+            }
+            place += length;
+        }
+        assert!(place > 1024, "the record's words go on past 4 KiB");
     }
 }
