@@ -2,7 +2,7 @@
 
 use compare::calls::{lend, Outcome};
 use compare::library;
-use compare::random::{count, Random, BOUNDARY_WORDS, NO_SIZES, SIZES};
+use compare::random::{count, Compared, Random, BOUNDARY_WORDS, NO_SIZES, SIZES};
 use second::{Refusal, MODULUS};
 
 /// All calls on one word or two.
@@ -22,12 +22,14 @@ fn words() {
         }
     }
     let mut random = Random::new(1);
+    let mut compared = Compared::default();
     for _ in 0..count(20_000) {
         let (a, b) = (random.word(), random.word());
         compare_words(a, b);
         compare_words(random.damaged(), random.damaged());
         compare_words(a, random.damaged());
         compare_words(random.damaged(), b);
+        compared.one();
     }
 }
 
@@ -90,6 +92,7 @@ fn evaluations() {
             compare_evaluate(&bad, MODULUS);
         }
     }
+    let mut compared = Compared::default();
     for _ in 0..count(2_000) {
         let length = random.place(70);
         let mut words = random.words(length);
@@ -98,6 +101,7 @@ fn evaluations() {
             words[place] = random.damaged();
         }
         compare_evaluate(&words, if random.one_in(3) { random.damaged() } else { random.word() });
+        compared.one();
     }
 }
 
@@ -133,11 +137,13 @@ fn interpolations() {
             compare_interpolate(size, &vec![MODULUS; length], length);
         }
     }
+    let mut compared = Compared::default();
     for _ in 0..count(1_000) {
         let size = 1 << random.below(7);
         let mut values = random.words(size as usize);
         let place = random.place(size as usize);
         values[place] = random.damaged();
         compare_interpolate(size, &values, size as usize);
+        compared.one();
     }
 }

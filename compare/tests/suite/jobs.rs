@@ -3,9 +3,10 @@
 use crate::program;
 use compare::calls::Input;
 use compare::case::{uneven_case, Case};
-use compare::random::{count, elements, Random, BOUNDARY_WORDS, NO_SIZES};
+use compare::random::{count, elements, Compared, Random, BOUNDARY_WORDS, NO_SIZES};
 use second::MODULUS;
 use std::fmt;
+use std::time::Duration;
 
 /// The places of words in the square job.
 const SIZE_PLACES: std::ops::Range<usize> = 0..3;
@@ -26,7 +27,7 @@ impl fmt::Display for Job<'_> {
 }
 
 /// Runs a job on both sides; the text is that of both.
-fn compare_job(bytes: &[u8]) -> String {
+pub fn compare_job(bytes: &[u8]) -> String {
     let shown = Job(bytes);
     let _input = Input(&shown);
     let ours = program::prove(bytes);
@@ -144,6 +145,15 @@ fn cut_and_lengthened() {
     }
 }
 
+/// A satisfied case whose job has as many bytes as any.
+fn longest_case() -> Case {
+    let mut case = Case::new([1024, 1, 1], [Vec::new(), Vec::new(), Vec::new()], vec![0]);
+    case.entries[0] = (0..335).flat_map(|row| [row, 0, row + 1]).collect();
+    case.mask = vec![MODULUS - 1, 1];
+    case.challenges = [5, 1, 1, 1, 3, 1, 1, 1, 5];
+    case
+}
+
 #[test]
 fn about_the_longest() {
     for length in [4092, 4095, 4096] {
@@ -154,10 +164,7 @@ fn about_the_longest() {
         let square = Case::square().job();
         assert_eq!(compare_job(&[&square[..], &vec![0; length - square.len()]].concat()), "job too long\n");
     }
-    let mut case = Case::new([1024, 1, 1], [Vec::new(), Vec::new(), Vec::new()], vec![0]);
-    case.entries[0] = (0..335).flat_map(|row| [row, 0, row + 1]).collect();
-    case.mask = vec![MODULUS - 1, 1];
-    case.challenges = [5, 1, 1, 1, 3, 1, 1, 1, 5];
+    let case = longest_case();
     assert_eq!(case.job().len(), 4096);
     assert!(compare_job(&case.job()).ends_with("\nverdict accept\n"));
     assert_eq!(compare_job(&[case.job(), vec![0]].concat()), "job too long\n");
@@ -173,8 +180,10 @@ fn compare_good(case: &Case) {
 #[test]
 fn seeded() {
     let mut random = Random::new(51);
+    let mut compared = Compared::default();
     for _ in 0..count(300) {
         compare_good(&random.case(4));
+        compared.one();
     }
     for _ in 0..count(12) {
         let columns = random.below(7);
@@ -204,4 +213,55 @@ fn seeded_and_damaged() {
         }
     }
     assert!((4..=10).all(|number| seen[number] > 3), "too few refusals of some number: {seen:?}");
+}
+
+/// The program's text for a job fed in pieces of these lengths, over and over; it must be that of both sides for the whole job.
+fn compare_in_pieces(bytes: &[u8], lengths: &[usize], pause: Duration) {
+    let mut pieces = Vec::new();
+    let mut rest = bytes;
+    for &length in lengths.iter().cycle() {
+        if rest.is_empty() {
+            break;
+        }
+        let (piece, after) = rest.split_at(length.min(rest.len()));
+        pieces.push(piece);
+        rest = after;
+    }
+    let text = program::prove_in_pieces(&pieces, pause);
+    assert_eq!(text, compare_job(bytes), "fed in pieces of {lengths:?} bytes, then whole:\n{}", Job(bytes));
+}
+
+/// Jobs fed slowly: byte by byte, in pieces that are no whole words, and with the pipe closed early.
+#[test]
+fn fed_in_pieces() {
+    let (pause, square, longest) = (Duration::from_micros(500), Case::square().job(), longest_case().job());
+    let too_long = [&longest[..], &[0; 300]].concat();
+    for length in [0, 1, 3, 23, 24, 25, 60, 123, 124] {
+        compare_in_pieces(&square[..length], &[1], pause);
+    }
+    for job in [&square, &longest, &too_long] {
+        compare_in_pieces(job, &[3, 1, 64, 7], pause);
+        compare_in_pieces(&job[..job.len() - 1], &[5, 90, 2], pause);
+    }
+    for job in [&longest[..], &longest[..4095], &too_long[..4097]] {
+        compare_in_pieces(job, &[1], Duration::ZERO);
+        compare_in_pieces(job, &[2048], Duration::from_millis(20));
+        compare_in_pieces(job, &[4095], Duration::from_millis(20));
+    }
+}
+
+#[test]
+fn seeded_and_fed_in_pieces() {
+    let mut random = Random::new(53);
+    let mut compared = Compared::default();
+    for _ in 0..count(20) {
+        let case = random.case(4);
+        let mut job = case.job();
+        if random.one_in(4) {
+            job.truncate(random.place(job.len()));
+        }
+        let lengths: Vec<usize> = (0..5).map(|_| 1 + random.place(40)).collect();
+        compare_in_pieces(&job, &lengths, Duration::from_micros(200));
+        compared.one();
+    }
 }

@@ -15,8 +15,11 @@
 mod arithmetic;
 mod circuits;
 mod examples;
+mod forged;
 mod jobs;
+mod positions;
 mod program;
 mod records;
 mod sessions;
+mod tampered;
 mod texts;

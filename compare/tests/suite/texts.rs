@@ -1,11 +1,12 @@
 //! Jobs as text: what is shown packs again.
 
-use compare::random::{count, Random};
+use compare::random::{count, Compared, Random};
 
 /// What is shown packs to the same words, for any bytes.
 #[test]
 fn shown_text_packs_again() {
     let mut random = Random::new(60);
+    let mut compared = Compared::default();
     for _ in 0..count(500) {
         let case = random.case(3);
         let mut words = case.job_words();
@@ -19,6 +20,7 @@ fn shown_text_packs_again() {
         }
         let whole = &bytes[..bytes.len() / 4 * 4];
         assert_eq!(job::pack(&job::show(&bytes)).as_deref(), Ok(whole), "{case}");
+        compared.one();
     }
 }
 
@@ -26,8 +28,10 @@ fn shown_text_packs_again() {
 #[test]
 fn printed_cases_are_jobs() {
     let mut random = Random::new(61);
+    let mut compared = Compared::default();
     for _ in 0..count(50) {
         let case = random.case(4);
         assert_eq!(job::pack(&case.to_string()), Ok(case.job()));
+        compared.one();
     }
 }
