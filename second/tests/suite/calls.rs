@@ -2,7 +2,7 @@
 
 use crate::arithmetic::{self, P};
 use crate::case::refusal;
-use crate::random::Random;
+use crate::random::{count, Checked, Random};
 
 const LAST: u32 = 2013265920;
 
@@ -31,7 +31,8 @@ fn field_words() {
 #[test]
 fn random_field_words() {
     let mut random = Random::new(1);
-    for _ in 0..1000 {
+    let mut checked = Checked::default();
+    for _ in 0..count(1000) {
         let [a, b] = [random.word(), random.word()];
         let [wide_a, wide_b] = [u64::from(a), u64::from(b)];
         assert_eq!(second::add(a, b).map(u64::from), Ok(arithmetic::plus(wide_a, wide_b)));
@@ -40,6 +41,7 @@ fn random_field_words() {
         assert_eq!(second::power(a, b).map(u64::from), Ok(arithmetic::power(wide_a, wide_b)));
         let inverse = second::inverse(a).unwrap();
         assert_eq!(arithmetic::times(wide_a, u64::from(inverse)), u64::from(a != 0));
+        checked.one();
     }
 }
 

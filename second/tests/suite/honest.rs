@@ -2,7 +2,7 @@
 
 use crate::case::{refusal, square, Case};
 use crate::identities::Rules;
-use crate::random::Random;
+use crate::random::{count, Checked, Random};
 use second::Verdict;
 use std::time::Instant;
 
@@ -26,10 +26,12 @@ fn square_case() {
 #[test]
 fn sizes_up_to_16() {
     let mut random = Random::new(8);
-    for _ in 0..400 {
+    let mut checked = Checked::default();
+    for _ in 0..count(400) {
         let sizes = random.sizes(4);
         let most_entries = random.below(24);
         check(&random.case(sizes, most_entries), 100);
+        checked.one();
     }
 }
 
@@ -57,7 +59,8 @@ fn size_of_1024() {
 #[test]
 fn small_and_zero_challenges() {
     let mut random = Random::new(11);
-    for _ in 0..100 {
+    let mut checked = Checked::default();
+    for _ in 0..count(100) {
         let sizes = random.sizes(3);
         let mut case = random.case(sizes, 8);
         case.alpha = 0;
@@ -66,13 +69,15 @@ fn small_and_zero_challenges() {
         case.eta[random.below(3) as usize] = 0;
         case.delta[random.below(3) as usize] = 0;
         check(&case, 100);
+        checked.one();
     }
 }
 
 #[test]
 fn unsatisfied_rows_are_refused() {
     let mut random = Random::new(12);
-    for _ in 0..100 {
+    let mut checked = Checked::default();
+    for _ in 0..count(100) {
         let sizes = random.sizes(4);
         let mut case = random.case(sizes, 16);
         let Some(last) = case.entries[2].chunks(3).last().map(<[u32]>::to_vec) else {
@@ -82,5 +87,6 @@ fn unsatisfied_rows_are_refused() {
         case.entries[2][value] = if last[2] == 1 { 2 } else { 1 };
         let satisfied = case.assignment[last[1] as usize] == 0;
         assert_eq!(refusal(case.proof()), (!satisfied).then_some((9, last[0] as usize)));
+        checked.one();
     }
 }

@@ -2,7 +2,7 @@
 
 use crate::arithmetic::{elements, over, times, value_at};
 use crate::case::{square, Case};
-use crate::random::Random;
+use crate::random::{count, Checked, Random};
 
 /// Reads a matrix's entries back from its four polynomials: the places whose weighted value isn't 0.
 fn decode(sizes: [u32; 3], places: usize, polynomials: &[Vec<u32>]) -> Vec<u32> {
@@ -39,9 +39,11 @@ fn square_case() {
 #[test]
 fn random_circuits() {
     let mut random = Random::new(6);
-    for _ in 0..200 {
+    let mut checked = Checked::default();
+    for _ in 0..count(200) {
         let sizes = random.sizes(4);
         check(&random.case(sizes, 20));
+        checked.one();
     }
 }
 

@@ -1,7 +1,7 @@
 //! The program `prove`: lengths, refusals and their order, and text against the calls.
 
 use crate::case::{square, Case};
-use crate::random::Random;
+use crate::random::{count, Checked, Random};
 
 const P: u32 = second::MODULUS;
 
@@ -74,12 +74,14 @@ fn longest_job() {
 fn text_is_the_proof() {
     let mut random = Random::new(5);
     let names = ["w", "m", "h0", "s", "g1", "h1", "o", "ga", "gb", "gc", "h2"];
-    for _ in 0..30 {
+    let mut checked = Checked::default();
+    for _ in 0..count(30) {
         let sizes = random.sizes(4);
         let case = random.case(sizes, 16);
         let sections = case.proof().unwrap().sections;
         let words = sections.map(|section| section.iter().map(|word| format!(" {word}")).collect::<String>());
         let lines = names.iter().zip(words).map(|(name, words)| format!("{name}{words}\n"));
         assert_eq!(second::prove(&case.job()), lines.collect::<String>() + "verdict accept\n");
+        checked.one();
     }
 }

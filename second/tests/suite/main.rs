@@ -1,4 +1,7 @@
 //! The tests of the second implementation, through its public calls only.
+//!
+//!     cargo test --release                          one seed
+//!     SEED=7 COUNT=100 cargo test --release         another seed, and the random part of each test a hundred times as long
 
 mod arithmetic;
 mod calls;

@@ -1,15 +1,54 @@
 //! Seeded random circuits with satisfying assignments, masks and allowed challenges.
+//!
+//! The environment variable SEED is the seed of all tests, a number below 2^56 (1 by default). COUNT is how many times the random
+//! part of each test is done, at least 1 (1 by default).
 
 use crate::arithmetic::{minus, over, plus, power, times, P};
 use crate::case::Case;
 use std::collections::BTreeSet;
 
+/// A number of the environment, 1 by default.
+fn setting(name: &str) -> u64 {
+    let Ok(text) = std::env::var(name) else {
+        return 1;
+    };
+    text.parse().unwrap_or_else(|_| panic!("{name} is {text}, not a number below 2^64"))
+}
+
+/// How many times a random test is done, from its default number.
+pub fn count(default: u64) -> u64 {
+    let times = setting("COUNT");
+    assert_ne!(times, 0, "COUNT is 0, and nothing would be checked: it must be at least 1");
+    default.checked_mul(times).unwrap_or_else(|| panic!("COUNT is {times}, which is too large"))
+}
+
+/// How many checks a random test has made. A test that ends without any fails.
+#[derive(Default)]
+pub struct Checked(u64);
+
+impl Checked {
+    pub fn one(&mut self) {
+        self.0 += 1;
+    }
+}
+
+impl Drop for Checked {
+    fn drop(&mut self) {
+        assert!(std::thread::panicking() || self.0 > 0, "the test has checked nothing");
+    }
+}
+
 /// Marsaglia's xorshift with 64 bits.
 pub struct Random(u64);
 
 impl Random {
-    pub fn new(seed: u64) -> Random {
-        Random(seed.wrapping_mul(0x9e37_79b9_7f4a_7c15) | 1)
+    /// Different for each seed and each test, of which there are fewer than 256: the factor is odd, so it keeps them apart.
+    pub fn new(test: u64) -> Random {
+        let seed = setting("SEED");
+        assert!(seed < 1 << 56, "SEED is {seed}: it must be below 2^56");
+        let mut random = Random((seed << 8 | test).wrapping_mul(0x9e37_79b9_7f4a_7c15) | 1);
+        random.next();
+        random
     }
 
     pub fn next(&mut self) -> u64 {

@@ -1,7 +1,7 @@
 //! The proof record: refusals 2 to 6, sections, and the round trip.
 
 use crate::case::{lengths, refusal, square};
-use crate::random::Random;
+use crate::random::{count, Checked, Random};
 use second::Refusal;
 
 const P: u32 = second::MODULUS;
@@ -162,7 +162,8 @@ fn write_words_in_order() {
 #[test]
 fn round_trip() {
     let mut random = Random::new(3);
-    for _ in 0..100 {
+    let mut checked = Checked::default();
+    for _ in 0..count(100) {
         let three = random.sizes(10);
         let places = [0, 1, 2].map(|_| 1 << random.below(11));
         let sizes = [three[0], three[1], three[2], places[0], places[1], places[2]];
@@ -174,6 +175,7 @@ fn round_trip() {
             let expected: Vec<u8> = section.iter().flat_map(|word| word.to_le_bytes()).collect();
             assert_eq!(second::section(&bytes, number), Ok(&expected[..]));
         }
+        checked.one();
     }
     assert_eq!(second::read_record(&zeros([1; 6])), Ok([1; 6]));
     assert_eq!(second::read_record(&zeros([1024; 6])), Ok([1024; 6]));
@@ -182,7 +184,8 @@ fn round_trip() {
 #[test]
 fn any_bytes_have_an_answer() {
     let mut random = Random::new(4);
-    for _ in 0..2000 {
+    let mut checked = Checked::default();
+    for _ in 0..count(2000) {
         let mut bytes = square_record();
         for _ in 0..=random.below(3) {
             let place = random.below(132) as usize;
@@ -193,5 +196,6 @@ fn any_bytes_have_an_answer() {
         let sections: Result<Vec<&[u8]>, Refusal> = (0..11).map(|number| second::section(&bytes, number)).collect();
         assert_eq!(sections.as_ref().err(), answer.as_ref().err());
         assert_eq!(sections.map_or(60, |sections| sections.concat().len()), 60);
+        checked.one();
     }
 }

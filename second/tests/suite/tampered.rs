@@ -2,14 +2,14 @@
 
 use crate::arithmetic::{combination, interpolated, minus, plus, times, value_at, vanishing, P};
 use crate::case::{Case, Proof};
-use crate::random::Random;
+use crate::random::{count, Random};
 use second::{Check, Verdict};
 
 /// Random cases with full matrices, and their proofs.
-fn cases(seed: u64) -> Vec<(Case, Proof)> {
-    let mut random = Random::new(seed);
+fn cases(test: u64) -> Vec<(Case, Proof)> {
+    let mut random = Random::new(test);
     let mut cases = Vec::new();
-    while cases.len() < 40 {
+    while (cases.len() as u64) < count(40) {
         let sizes = random.sizes(4);
         let case = random.case(sizes, 16);
         if case.entries.iter().all(|list| !list.is_empty()) {

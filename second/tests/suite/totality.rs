@@ -1,7 +1,7 @@
 //! Every call has an answer for all words, lengths and orders of steps; a refusal changes no lent slice.
 
 use crate::case::{Case, UNTOUCHED};
-use crate::random::Random;
+use crate::random::{count, Checked, Random};
 use second::{Refusal, Session};
 
 const P: u32 = second::MODULUS;
@@ -87,13 +87,15 @@ fn call_all(random: &mut Random, case: &Case) {
 #[test]
 fn prover_and_indexer() {
     let mut random = Random::new(20);
-    for _ in 0..3000 {
+    let mut checked = Checked::default();
+    for _ in 0..count(3000) {
         let sizes = random.sizes(3);
         let mut case = random.case(sizes, 8);
         for _ in 0..random.below(4) {
             damage(&mut random, &mut case);
         }
         call_all(&mut random, &case);
+        checked.one();
     }
 }
 
@@ -140,7 +142,7 @@ impl<Answer> MapRefused for (Session, Result<Answer, Refusal>) {
 fn sessions() {
     let mut random = Random::new(21);
     let mut steps = 0;
-    for _ in 0..3000 {
+    for _ in 0..count(3000) {
         let sizes = [(); 6].map(|()| if random.below(10) == 0 { any_word(&mut random) } else { 1 << random.below(4) });
         let length = sizes[2].min(1100) as usize + usize::from(random.below(10) == 0);
         let public: Vec<u32> = (0..length).map(|_| tame_word(&mut random)).collect();
@@ -160,7 +162,7 @@ fn sessions() {
 fn sessions_of_any_words() {
     let mut random = Random::new(23);
     let mut steps = 0;
-    for _ in 0..5000 {
+    for _ in 0..count(5000) {
         let mut session = any_session(&mut random);
         for _ in 0..10 {
             let (next, refused) = any_step(&mut random, session);
@@ -174,7 +176,8 @@ fn sessions_of_any_words() {
 #[test]
 fn records_and_jobs() {
     let mut random = Random::new(22);
-    for _ in 0..5000 {
+    let mut checked = Checked::default();
+    for _ in 0..count(5000) {
         let length = random.below(60) as usize;
         let mut words = any_words(&mut random, length);
         if let Some(last) = words.last_mut() {
@@ -185,5 +188,6 @@ fn records_and_jobs() {
         assert_eq!(section.err(), second::read_record(&bytes).err());
         let text = second::prove(&bytes);
         assert!(["refused ", "job too ", "w "].iter().any(|start| text.starts_with(start)));
+        checked.one();
     }
 }
