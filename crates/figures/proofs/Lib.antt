@@ -1,6 +1,8 @@
-pub mod LineLaws
 pub mod PrimePowers
-pub mod RangeLaws
+pub mod RecordLaws
 pub mod ScanLaws
+pub mod LineLaws
+pub mod CircuitLaws
+pub mod TableLaws
 pub mod SheetLaws
 pub mod Counts

@@ -1,69 +1,126 @@
--- Lines put into a buffer one after the other, and a line put in its parts. Assumes nothing.
+-- The lines of a text: how a line grows and where it ends, and a table of short lines. Assumes nothing.
 use mathlib.Core.Path.{_≡_, refl, sym, ap, _∙_}
-use mathlib.Core.List.{List, [], _∷_, _++_, append-nil, append-assoc}
-use Prim.Native.Nat.{ℕ, _+_, _*_, _≤_, _<_}
+use mathlib.Core.Bool.{Bool, true, false}
+use mathlib.Core.List.{List, [], _∷_, _++_, foldr, append-nil}
+use Prim.Native.Nat.{ℕ, zero, suc, _+_, _-_, _≤_, _<_}
 use native.Mathlib.Omega.{arith}
-use lib.ListN.{length, length-append}
-use Rattle.text.specs.Ascii.{ascii}
-use Rattle.text.specs.Decimal.{decimal}
-use Rattle.text.specs.Written.{Written}
-use Rattle.text.proofs.DecimalLaws.{decimal-short}
-use Rattle.text.proofs.WrittenLaws.{written-then, written-as, written-length}
-use Rattle.figures.specs.Sheet.{Figure, figureText, figuresText}
-use Rattle.figures.specs.Line.{nameText, sourceText, lineText, lineRoom, Lines}
+use native.Mathlib.Numerals.{add-one}
+use lib.Dec.{ltb}
+use lib.ListN.{length, take, drop, getD, length-drop, drop-of-length-le}
+use lib.Seq.{drop-cons, take-suc, drop-nil, drop-drop, getD-drop}
+use Rattle.algebra.proofs.Choice.{pick-true, pick-false}
+use borrow.Author.Tests.{eq-eqb, ne-eqb, ltb-true, ltb-false}
+use Rattle.figures.specs.Placed.{LineEnd}
+use Rattle.figures.specs.Sheet.{onFirst, linesOf}
 
-pub length-name : (name : List ℕ) → length (nameText name) ≡ length name + 2
-unfolding nameText
-length-name name = length-append name (ascii ": ")
+-- a first line with more in front of it
+abbrev pub onFirstAll : List ℕ → List (List ℕ) → List (List ℕ)
+onFirstAll front lines = foldr onFirst lines front
 
-pub length-source : (source : List ℕ) → length (sourceText source) ≡ length source + 4
-unfolding sourceText
-length-source source = omega (arith, length-append (ascii " (") (source ++ ascii ")\n"), length-append source (ascii ")\n"))
+in-front : (front line : List ℕ) (lines : List (List ℕ)) → onFirstAll front (line ∷ lines) ≡ (front ++ line) ∷ lines
+in-front [] line lines = refl
+in-front (b ∷ front) line lines = ap (onFirst b) (in-front front line lines)
 
--- a word has at most ten digits, a place at most twenty
-pub word-digits : (n : ℕ) → n < 4294967296 → length (decimal n) ≤ 10
-word-digits n h = decimal-short 9 n (omega arith)
+one-more : (front : List ℕ) (b : ℕ) (lines : List (List ℕ)) → onFirstAll (front ++ (b ∷ [])) lines ≡ onFirstAll front (onFirst b lines)
+one-more [] b lines = refl
+one-more (a ∷ front) b lines = ap (onFirst a) (one-more front b lines)
 
-pub place-digits : (n : ℕ) → n < 18446744073709551616 → length (decimal n) ≤ 20
-place-digits n h = decimal-short 19 n (omega arith)
+only : (b : ℕ) (front : List ℕ) → onFirstAll (b ∷ front) [] ≡ (b ∷ front) ∷ []
+only b [] = refl
+only b (a ∷ front) = ap (onFirst b) (only a front)
 
--- the name, the digits and the source are a line
-pub one-line :
-    (name source : List ℕ) {b c d e digits : List ℕ} {at place next end : ℕ}
-    → Written b at (nameText name) place c → Written c place digits next d → Written d next (sourceText source) end e
-    → length name + length digits + length source + 6 ≤ lineRoom → Lines b at (lineText name digits source) 1 end e
-unfolding lineText
-one-line name source first second third short =
-    record {
-      written = written-then first (written-then second third);
-      within = omega (arith, first .next, second .next, third .next, length-name name, length-source source);
-    }
+module _ (text : List ℕ) (start : ℕ) where
+  -- the bytes from the start to i are in one line
+  pub record Reached (i : ℕ) : Type 0 where
+    pub after : start ≤ i
+    pub within : i ≤ length text
+    pub lines : linesOf (drop start text) ≡ onFirstAll (take (i - start) (drop start text)) (linesOf (drop i text))
 
--- lines, and then more
-pub lines-then : {b c d s t : List ℕ} {at place end j k : ℕ} → Lines b at s j place c → Lines c place t k end d
-    → Lines b at (s ++ t) (j + k) end d
-lines-then first second =
-    record { written = written-then (first .written) (second .written); within = omega (arith, first .within, second .within) }
+  pub reached-start : start ≤ length text → Reached start
+  reached-start h =
+      let none : start - start ≡ 0 = omega arith in
+      record { after = omega arith; within = h; lines = rw none refl }
 
--- the last line of a list of figures
-pub lines-end : {b c s : List ℕ} {at place k : ℕ} → Lines b at s k place c → Lines b at (s ++ []) k place c
-lines-end {s} l = record { written = written-as (sym (append-nil s)) (l .written); within = l .within }
+  module _ (i : ℕ) (r : Reached i) (below : i < length text) where
+    abbrev byte : ℕ
+    byte = getD text i 0
 
-pub lines-length : {b c s : List ℕ} {at place k : ℕ} → Lines b at s k place c → length c ≡ length b
-lines-length l = written-length (l .written)
+    next-lines : linesOf (drop i text) ≡ linesOf (byte ∷ drop (i + 1) text)
+    next-lines = ap linesOf (drop-cons text i 0 below ∙ ap (λ n. byte ∷ drop n text) (sym (add-one i)))
 
--- the room for the lines that follow
-pub room-after : {b c s : List ℕ} {at place j : ℕ} (k : ℕ) → Lines b at s j place c → at + lineRoom * (j + k) ≤ length b
-    → place + lineRoom * k ≤ length c
-room-after k l room = omega (arith, l .within, lines-length l)
+    longer : take (i + 1 - start) (drop start text) ≡ take (i - start) (drop start text) ++ (byte ∷ [])
+    longer =
+        let more : i + 1 - start ≡ suc (i - start) = omega (arith, r .after) in
+        let place : start + (i - start) ≡ i = omega (arith, r .after) in
+        ap (λ n. take n (drop start text)) more
+        ∙ take-suc (drop start text) (i - start) 0 (omega (arith, length-drop start text, r .after))
+        ∙ ap (λ b. take (i - start) (drop start text) ++ (b ∷ [])) (getD-drop start text (i - start) 0 ∙ ap (λ n. getD text n 0) place)
 
-figures-append : (fs gs : List Figure) → figuresText (fs ++ gs) ≡ figuresText fs ++ figuresText gs
-unfolding figuresText
-figures-append [] gs = refl
-figures-append (f ∷ fs) gs =
-    ap (λ t. figureText f ++ t) (figures-append fs gs) ∙ sym (append-assoc (figureText f) (figuresText fs) (figuresText gs))
+    pub reached-more : (byte ≡ 10 → ⊥) → Reached (i + 1)
+    unfolding linesOf
+    reached-more other =
+        record {
+          after = omega (arith, r .after);
+          within = omega arith;
+          lines =
+              r .lines ∙ ap (onFirstAll (take (i - start) (drop start text))) (next-lines ∙ pick-false _ _ (ne-eqb byte 10 other))
+              ∙ sym (one-more (take (i - start) (drop start text)) byte (linesOf (drop (i + 1) text)))
+              ∙ ap (λ front. onFirstAll front (linesOf (drop (i + 1) text))) (sym longer);
+        }
 
--- the lines of figures, and then those of more
-pub figures-then : (fs gs : List Figure) {b c d : List ℕ} {at place end j k : ℕ} → Lines b at (figuresText fs) j place c
-    → Lines c place (figuresText gs) k end d → Lines b at (figuresText (fs ++ gs)) (j + k) end d
-figures-then fs gs first second = rw figures-append (lines-then first second)
+    pub ends-at : byte ≡ 10 → LineEnd text start i
+    unfolding linesOf
+    ends-at newline =
+        record {
+          after = r .after;
+          within = r .within;
+          lines =
+              r .lines ∙ ap (onFirstAll (take (i - start) (drop start text))) (next-lines ∙ pick-true _ _ (eq-eqb byte 10 newline))
+              ∙ in-front (take (i - start) (drop start text)) [] (linesOf (drop (i + 1) text))
+              ∙ ap (λ line. line ∷ linesOf (drop (i + 1) text)) (append-nil (take (i - start) (drop start text)));
+        }
+
+  pub ends-last : (i : ℕ) → Reached i → length text ≤ i → start < length text → LineEnd text start i
+  unfolding linesOf
+  ends-last i r past before =
+      record {
+        after = r .after;
+        within = r .within;
+        lines =
+            r .lines ∙ ap (λ l. onFirstAll line (linesOf l)) (drop-of-length-le text past)
+            ∙ whole (drop start text) (i - start) (omega (arith, length-drop start text)) (omega arith)
+            ∙ ap (λ l. line ∷ linesOf l) (sym (drop-of-length-le text past-end));
+      }
+    where
+      line : List ℕ
+      line = take (i - start) (drop start text)
+
+      past-end : length text ≤ i + 1
+      past-end = omega arith
+
+      whole : (l : List ℕ) (n : ℕ) → 0 < length l → 0 < n → onFirstAll (take n l) [] ≡ take n l ∷ []
+      whole [] n some many = absurd (omega arith)
+      whole (b ∷ l) zero some many = absurd (omega arith)
+      whole (b ∷ l) (suc n) some many = only b (take n l)
+
+-- the lines after the first n
+module _ (text : List ℕ) (start n : ℕ) (left : linesOf (drop start text) ≡ drop n (linesOf text)) where
+  pub line-left : n < length (linesOf text) → start < length text
+  unfolding linesOf
+  line-left below =
+      go (ltb start (length text)) refl
+    where
+      go : (t : Bool) → ltb start (length text) ≡ t → start < length text
+      go true e = ltb-true start (length text) e
+      go false e =
+          let none : drop start text ≡ [] = drop-of-length-le text (ltb-false start (length text) e) in
+          absurd (omega (arith, ap length (sym left ∙ ap linesOf none), length-drop n (linesOf text)))
+
+  module _ (end : ℕ) (e : LineEnd text start end) where
+    pub lines-after : linesOf (drop (end + 1) text) ≡ drop (n + 1) (linesOf text)
+    lines-after = ap (drop 1) (sym (e .lines) ∙ left) ∙ drop-drop 1 n (linesOf text)
+
+    pub line-is : getD (linesOf text) n [] ≡ take (end - start) (drop start text)
+    line-is =
+        let same : n + 0 ≡ n = omega arith in
+        sym (getD-drop n (linesOf text) 0 [] ∙ ap (λ i. getD (linesOf text) i []) same) ∙ ap (λ (l : List (List ℕ)). getD l 0 []) (sym left ∙ e .lines)

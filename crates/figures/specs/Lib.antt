@@ -1,6 +1,6 @@
 pub mod Count
 pub mod Numbers
+pub mod Figures
 pub mod Sheet
-pub mod Line
-pub mod Range
 pub mod Scanning
+pub mod Placed

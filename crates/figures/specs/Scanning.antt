@@ -1,15 +1,15 @@
--- Six numbers read from text one byte at a time: the state, its step, and what reading answers. Assumes nothing.
+-- Six numbers read from a line one byte at a time: the state, its step, and what reading answers. Assumes nothing.
 use mathlib.Core.Bool.{Bool, true, false}
 use mathlib.Core.List.{List, [], _∷_, foldl}
 use mathlib.Core.Option.{Option, none, some}
 use Prim.Native.Nat.{ℕ, _+_, min}
 use lib.Dec.{eqb}
-use lib.ListN.{length}
+use lib.ListN.{length, getD}
 use Rattle.algebra.specs.Lists.{pick}
 use Rattle.figures.specs.declared.numbers.Request.{Request}
 use Rattle.figures.specs.declared.numbers.Scan.{Scan}
 use Rattle.figures.specs.declared.numbers.Reading.{Reading}
-use Rattle.figures.specs.declared.numbers.Reading.the-variants.{Six, Other}
+use Rattle.figures.specs.declared.numbers.Reading.the-variants.{Empty, Six, Other}
 use Rattle.figures.specs.Numbers.{isDigit, isBlank, extend}
 
 -- the number whose digits are being read, if there is one
@@ -55,15 +55,17 @@ scanStart = record { fine = true; within = false; number = 0; count = 0; six = n
 unfoldable pub scanned : List ℕ → Scan
 scanned text = numberEnded (foldl stepped scanStart text)
 
--- |R|, |C|, |X| and the entry counts of A, B, C
-abbrev pub requestNumbers : Request → List ℕ
-requestNumbers q = q .r ∷ q .c ∷ q .x ∷ q .entries .a ∷ q .entries .b ∷ q .entries .c ∷ []
+-- the circuit of six numbers
+abbrev pub requestBy : List ℕ → Request
+requestBy ns =
+    record {
+      r = getD ns 0 0;
+      c = getD ns 1 0;
+      x = getD ns 2 0;
+      entries = record { a = getD ns 3 0; b = getD ns 4 0; c = getD ns 5 0 };
+    }
 
--- the numbers where there are six of them
-abbrev pub onlySix : Option (List ℕ) → Option (List ℕ)
-onlySix none = none
-onlySix (some ns) = pick (eqb (length ns) 6) (some ns) none
-
-abbrev pub readingMeaning : Reading → Option (List ℕ)
-readingMeaning (Six q) = some (requestNumbers q)
-readingMeaning Other = none
+-- none, six, or another count of numbers, or none where something else stands in the line
+abbrev pub readingOf : Option (List ℕ) → Reading
+readingOf none = Other
+readingOf (some ns) = pick (eqb (length ns) 0) Empty (pick (eqb (length ns) 6) (Six (requestBy ns)) Other)

@@ -1,12 +1,12 @@
-// Six numbers read from text: digits, and blanks between the numbers.
+// Six numbers read from a line: digits, and blanks between the numbers.
 use protocol::Triple;
 ghost use mathlib.Core.Path.{_≡_};
 ghost use mathlib.Core.Bool.{true};
 ghost use Prim.Native.Nat.{_-_};
 ghost use Rattle.figures.specs.Numbers.{isDigit, isBlank, extend as extended, numbersIn};
-ghost use Rattle.figures.specs.Scanning.{numberRead, pushed, counted, numberEnded, stepped, scanned, onlySix, readingMeaning};
+ghost use Rattle.figures.specs.Scanning.{numberRead, pushed, counted, numberEnded, stepped, scanned, readingOf};
 
-// What the planner gives: |R|, |C|, |X| and the entry counts of A, B, C.
+// What the planner gives of a circuit: |R|, |C|, |X| and the entry counts of A, B, C.
 pub struct Request {
     pub r: u32,
     pub c: u32,
@@ -15,6 +15,7 @@ pub struct Request {
 }
 
 pub enum Reading {
+    Empty,
     Six(Request),
     Other,
 }
@@ -167,13 +168,16 @@ fn scan_all(text: &[u8]) -> Scan
     end_number(s)
 }
 
-// The numbers, where the text has six of them and nothing else.
-pub fn read(text: &[u8]) -> Reading
-    ensures { λ r. ⌜ readingMeaning r ≡ onlySix (numbersIn (now (text .entry))) ⌝ }
+// The numbers, where the line has six of them and nothing else.
+pub fn read(line: &[u8]) -> Reading
+    ensures { λ r. ⌜ r ≡ readingOf (numbersIn (now (line .entry))) ⌝ }
 {
-    let s = scan_all(text);
+    let s = scan_all(line);
     if !s.fine {
         return Reading::Other;
+    }
+    if s.count == 0 {
+        return Reading::Empty;
     }
     if s.count == WANTED {
         let six = s.six;

@@ -1,0 +1,64 @@
+-- `figures::table::put_number` meets its contract. Assumes nothing.
+use mathlib.Core.Path.{_≡_, ap, _∙_}
+use native.Mathlib.Omega.{arith}
+use Prim.Native.Nat.{_+_, _-_}
+use lib.ListN.{length}
+use Rattle.domain.specs.BabyBear.{babyBear}
+use Rattle.text.specs.Decimal.{decimal}
+use Rattle.text.proofs.WrittenLaws.{written-as}
+use Rattle.figures.specs.Placed.{given, figureAt}
+use Rattle.figures.proofs.TableLaws.{within-room, few-digits, powers-lines, power-short, power-row}
+use borrow.Author.Needs.{needs}
+use Rattle.figures.proofs.table.put_number.Statement.{statement}
+use Rattle.figures.proofs.table.put_number.Tie as tie
+
+number-requires : tie.Need-number-requires
+number-requires c κs = search needs
+
+put-decimal-requires : tie.Need-put-decimal-requires
+put-decimal-requires c κs =
+    let start = c .before .before .before .before in
+    omega (arith, start .pre .1, few-digits (c .before .number .result) (omega (arith, c .before .number .ok)))
+
+same-length : tie.Need-same-length
+same-length c = search needs
+
+returns : tie.Need-returns
+returns c =
+    let numbered = c .before .before .before .before in
+    let short = few-digits (numbered .number .result) (omega (arith, numbered .number .ok)) in
+    within-room 28 (omega (arith, ap (λ n. length (decimal n)) (numbered .number .ensures)))
+    (written-as (ap decimal (numbered .number .ensures)) (c .before .before .put-decimal .ensures))
+
+slice-aggregate-put-line : tie.Need-slice-aggregate-put-line
+slice-aggregate-put-line c = search needs
+
+put-line-requires : tie.Need-put-line-requires
+put-line-requires c κs =
+    let start = c .before .before .before .before in
+    (omega (arith, ap length powers-lines), omega (arith, start .pre .1, power-short (start .args .row - 31)))
+
+same-length-2 : tie.Need-same-length-2
+same-length-2 c = search needs
+
+returns-2 : tie.Need-returns-2
+returns-2 c =
+    let start = c .before .before .before .before .before .before .before in
+    let row = start .args .row in
+    let same : 31 + (row - 31) ≡ row = omega arith in
+    let g = given (start .args .request) in
+    let line = power-row (row - 31) g (omega (arith, start .pre .0)) ∙ ap (λ i. decimal (figureAt babyBear i .number g)) same in
+    within-room 28 (omega (arith, ap length line, power-short (row - 31))) (written-as line (c .before .before .put-line .ensures))
+
+pub put-number-spec : {M : Type 1} → statement M
+put-number-spec =
+    tie.close
+    (tie.spec
+    number-requires
+    put-decimal-requires
+    same-length
+    returns
+    slice-aggregate-put-line
+    put-line-requires
+    same-length-2
+    returns-2)
