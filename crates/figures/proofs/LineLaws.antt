@@ -7,9 +7,9 @@ use native.Mathlib.Omega.{arith}
 use native.Mathlib.Numerals.{add-one}
 use lib.Dec.{ltb}
 use lib.ListN.{length, take, drop, getD, length-drop, drop-of-length-le}
-use lib.Seq.{drop-cons, take-suc, drop-nil, drop-drop, getD-drop}
-use Rattle.algebra.proofs.Choice.{pick-true, pick-false}
+use lib.Seq.{drop-cons, take-suc, drop-drop, getD-drop}
 use borrow.Author.Tests.{eq-eqb, ne-eqb, ltb-true, ltb-false}
+use Rattle.algebra.proofs.Choice.{pick-true, pick-false}
 use Rattle.figures.specs.Placed.{LineEnd}
 use Rattle.figures.specs.Sheet.{onFirst, linesOf}
 

@@ -1,12 +1,12 @@
 -- Texts with their room put one after the other, the rows and cells of the table, and the figures by their rows. Assumes nothing.
 use mathlib.Core.Path.{_≡_, refl, sym, ap, _∙_}
-use mathlib.Core.Bool.{Bool, true, false, _&&_}
+use mathlib.Core.Bool.{Bool, true, _&&_}
 use mathlib.Core.List.{List, [], _∷_, _++_, map, map-append, append-nil, append-assoc}
-use Prim.Native.Nat.{ℕ, zero, suc, _+_, _-_, _*_, _%_, _≤_, _<_}
+use Prim.Native.Nat.{ℕ, zero, suc, _+_, _*_, _%_, _≤_, _<_}
 use native.Mathlib.Omega.{arith}
 use native.Mathlib.Numerals.{add-one}
 use lib.Dec.{leb}
-use lib.ListN.{length, take, drop, getD, length-append, length-map, List·getD-append, List·getD-map}
+use lib.ListN.{length, take, getD, length-map, List·getD-append, List·getD-map}
 use lib.Seq.{take-suc, getD-append-add}
 use borrow.Author.Tests.{leb-true}
 use Rattle.algebra.specs.Lists.{pick}
@@ -21,8 +21,8 @@ use Rattle.text.proofs.WrittenLaws.{written-then, written-length, written-as}
 use Rattle.figures.specs.declared.numbers.Request.{Request}
 use Rattle.figures.specs.Figures.{Given, Figure, figure, sizeFigures, lengthFigures, checkFigures, tripleFigures, figures}
 use Rattle.figures.specs.Placed.{given, figureAt, Within, cellRoom, rowRoom}
-use Rattle.figures.proofs.PrimePowers.{squared, cubed, prime-squared, prime-cubed}
 use Rattle.figures.specs.Sheet.{linesOf, cellText, cellsText, rowText, rowsText}
+use Rattle.figures.proofs.PrimePowers.{squared, cubed, prime-squared, prime-cubed}
 
 -- a short text
 pub within-room : {b c t : List ℕ} {at place : ℕ} (room : ℕ) → length t ≤ room → Written b at t place c → Within room b at t place c

@@ -2,18 +2,17 @@
 -- buffer with room to spare. Assumes nothing.
 use mathlib.Core.Path.{_≡_}
 use mathlib.Core.Bool.{Bool, true, false}
-use mathlib.Core.List.{List, [], _∷_, _++_, map}
-use Prim.Native.Nat.{ℕ, _+_, _-_, _*_, _≤_, _<_, min}
+use mathlib.Core.List.{List, [], _∷_, map}
+use Prim.Native.Nat.{ℕ, _+_, _-_, _≤_, min}
 use lib.ListN.{length, take, drop, getD}
 use Rattle.field.specs.Prime.{Prime}
 use Rattle.protocol.specs.Meanings.{three}
-use Rattle.protocol.specs.Refusals.{Refusal}
 use Rattle.text.specs.Written.{Written}
 use Rattle.figures.specs.declared.numbers.Request.{Request}
 use Rattle.figures.specs.declared.circuits.Found.{Found}
 use Rattle.figures.specs.declared.circuits.Found.the-variants as found
 use Rattle.figures.specs.Figures.{Given, Figure, figure, figures}
-use Rattle.figures.specs.Sheet.{Line, Blank, Circuit, Wrong, notSix, linesOf, lineOf, refusedText}
+use Rattle.figures.specs.Sheet.{Line, Blank, Circuit, Wrong, notSix, linesOf, refusedText}
 
 -- the circuit of a request
 abbrev pub given : Request → Given

@@ -1,6 +1,6 @@
 -- Six numbers read from a line one byte at a time: the state, its step, and what reading answers. Assumes nothing.
 use mathlib.Core.Bool.{Bool, true, false}
-use mathlib.Core.List.{List, [], _∷_, foldl}
+use mathlib.Core.List.{List, foldl}
 use mathlib.Core.Option.{Option, none, some}
 use Prim.Native.Nat.{ℕ, _+_, min}
 use lib.Dec.{eqb}

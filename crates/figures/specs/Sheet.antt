@@ -22,6 +22,26 @@ longestText = 2048
 abbrev pub mostCircuits : ℕ
 mostCircuits = 16
 
+-- the messages
+abbrev pub tooLong : List ℕ
+tooLong = ascii "sheet reads at most 2048 bytes\n"
+
+abbrev pub usage : List ℕ
+usage = ascii "sheet reads one circuit a line: |R| |C| |X| and the entry counts of A, B, C\n"
+
+abbrev pub tooMany : List ℕ
+tooMany = ascii "sheet takes at most 16 circuits\n"
+
+-- those for a line, and what stands before them for line n
+abbrev pub notSix : List ℕ
+notSix = ascii "six numbers are |R| |C| |X| and the entry counts of A, B, C\n"
+
+abbrev pub refusedText : Refusal → List ℕ
+refusedText r = ascii "refused " ++ (decimal (r .number) ++ (ascii " " ++ (decimal (r .position) ++ ascii "\n")))
+
+unfoldable pub wrongText : ℕ → List ℕ → List ℕ
+wrongText n message = ascii "line " ++ (decimal n ++ (ascii ": " ++ message))
+
 -- a byte more in front of the first line
 abbrev pub onFirst : ℕ → List (List ℕ) → List (List ℕ)
 onFirst b [] = (b ∷ []) ∷ []
@@ -46,16 +66,11 @@ sheetRefusal g =
     ∷ listRefusal (map (λ n. leb n maxSize) (listed (g .entries)))
     ∷ [])
 
-abbrev pub refusedText : Refusal → List ℕ
-refusedText r = ascii "refused " ++ (decimal (r .number) ++ (ascii " " ++ (decimal (r .position) ++ ascii "\n")))
-
 abbrev pub circuitLine : Given → Option Refusal → Line
 circuitLine g none = Circuit g
 circuitLine g (some r) = Wrong (refusedText r)
 
-abbrev pub notSix : List ℕ
-notSix = ascii "six numbers are |R| |C| |X| and the entry counts of A, B, C\n"
-
+-- the circuit of six numbers
 abbrev pub givenBy : List ℕ → Given
 givenBy ns =
     record {
@@ -65,7 +80,7 @@ givenBy ns =
       entries = record { a = getD ns 3 0; b = getD ns 4 0; c = getD ns 5 0 };
     }
 
--- a line by its numbers
+-- a line by its numbers, where it has nothing but numbers
 abbrev pub lineBy : Option (List ℕ) → Line
 lineBy none = Wrong notSix
 lineBy (some ns) =
@@ -74,17 +89,18 @@ lineBy (some ns) =
 unfoldable pub lineOf : List ℕ → Line
 lineOf line = lineBy (numbersIn line)
 
--- the message for line n
-unfoldable pub wrongText : ℕ → List ℕ → List ℕ
-wrongText n message = ascii "line " ++ (decimal n ++ (ascii ": " ++ message))
-
--- the message for the first wrong line; the first of the lines is line n of the text
+-- the message for the first wrong line, if there is one; the first of the lines is line n of the text
 abbrev pub wrong : ℕ → List Line → Option (List ℕ)
 wrong n [] = none
 wrong n (Blank ∷ ls) = wrong (suc n) ls
 wrong n (Circuit g ∷ ls) = wrong (suc n) ls
 wrong n (Wrong message ∷ ls) = some (wrongText n message)
 
+abbrev pub unlessWrong : Option (List ℕ) → List ℕ → List ℕ
+unlessWrong none text = text
+unlessWrong (some message) text = message
+
+-- the circuits of the lines, in order
 abbrev pub circuits : List Line → List Given
 circuits [] = []
 circuits (Blank ∷ ls) = circuits ls
@@ -104,26 +120,12 @@ rowText gs f = ascii (f .name) ++ (cellsText f gs ++ (ascii "\t" ++ (ascii (f .s
 unfoldable pub rowsText : List Given → List Figure → List ℕ
 rowsText gs fs = foldr (λ f rest. rowText gs f ++ rest) [] fs
 
--- the messages of no line
-abbrev pub tooLong : List ℕ
-tooLong = ascii "sheet reads at most 2048 bytes\n"
-
-abbrev pub usage : List ℕ
-usage = ascii "sheet reads one circuit a line: |R| |C| |X| and the entry counts of A, B, C\n"
-
-abbrev pub tooMany : List ℕ
-tooMany = ascii "sheet takes at most 16 circuits\n"
-
--- the first message, and the text where there is none
-abbrev pub unlessWrong : Option (List ℕ) → List ℕ → List ℕ
-unlessWrong none text = text
-unlessWrong (some message) text = message
-
 module _ (q : Prime) where
   -- the table, where there are circuits and not too many
   unfoldable pub tableText : List Given → List ℕ
   tableText gs = pick (eqb (length gs) 0) usage (pick (leb (length gs) mostCircuits) (rowsText gs (figures q)) tooMany)
 
+  -- the text is too long, or a line is wrong, or there is the table of all lines' circuits
   unfoldable pub sheetText : List ℕ → List ℕ
   sheetText text =
       let lines : List Line = map lineOf (linesOf text) in

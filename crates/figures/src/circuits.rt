@@ -15,6 +15,8 @@ ghost use Rattle.figures.specs.Figures.{Given};
 ghost use Rattle.figures.specs.Placed.{given, foundLine, isWrong as wrongFound, Kept};
 ghost use Rattle.figures.specs.Sheet.{sheetRefusal, circuitLine, linesOf, lineOf, wrong, circuits as circuitsIn};
 
+pub const MOST_CIRCUITS: usize = 16;
+
 // What a line holds.
 pub enum Found {
     Nothing,
@@ -31,11 +33,9 @@ pub struct Judged {
 
 // The first 16 circuits, and the count of all of them, 17 for more than 16.
 pub struct Circuits {
-    pub array: [Request; 16],
+    pub array: [Request; MOST_CIRCUITS],
     pub count: usize,
 }
-
-const MOST_CIRCUITS: usize = 16;
 
 // 4 for the sizes, then 5 for the counts.
 fn judge(request: Request) -> Fault
@@ -145,7 +145,7 @@ pub fn collect(text: &[u8]) -> Circuits
         entries: Triple { a: 0, b: 0, c: 0 },
     };
     let mut c = Circuits {
-        array: [none; 16],
+        array: [none; MOST_CIRCUITS],
         count: 0,
     };
     let mut start = 0;

@@ -2,27 +2,26 @@
 mod circuits;
 mod column;
 mod lines;
+mod messages;
 mod numbers;
 mod table;
 
-use circuits::Found;
+use circuits::MOST_CIRCUITS;
 use circuits::collect;
 use circuits::first_wrong;
 use circuits::is_wrong;
+use messages::put_wrong;
 use numbers::Request;
 use table::put_table;
-use text::put_byte;
 use text::put_bytes;
-use text::put_decimal;
-ghost use mathlib.Core.List.{List, _++_};
-ghost use Prim.Native.Nat.{_+_, _≤_};
+ghost use mathlib.Core.List.{List};
+ghost use Prim.Native.Nat.{_≤_};
 ghost use lib.ListN.{length};
 ghost use Rattle.domain.specs.BabyBear.{babyBear};
-ghost use Rattle.text.specs.Decimal.{decimal};
 ghost use Rattle.text.specs.Written.{Written};
 ghost use Rattle.figures.specs.Figures.{Given};
-ghost use Rattle.figures.specs.Placed.{foundLine, messageOf, Kept, Within, sheetRoom};
-ghost use Rattle.figures.specs.Sheet.{refusedText, wrongText, tableText, sheetText};
+ghost use Rattle.figures.specs.Placed.{Kept, sheetRoom};
+ghost use Rattle.figures.specs.Sheet.{tableText, sheetText};
 
 // The longest text that is read.
 pub const LONGEST_TEXT: usize = 2048;
@@ -30,55 +29,8 @@ pub const LONGEST_TEXT: usize = 2048;
 // Room for every sheet.
 pub const SHEET_BYTES: usize = 19600;
 
-const MOST_CIRCUITS: usize = 16;
-
-// A number with what stands before it.
-fn put_number(label: &[u8], n: usize, out: &mut [u8], at: usize) -> usize
-    requires { ⌜ at + length (now label) + 20 ≤ length (now out) ⌝ }
-    ensures { λ r. ⌜ Within (length (now (label .entry)) + 20) (now (out .entry)) at (now (label .entry) ++ decimal n) r (now (out .exit)) ⌝ }
-{
-    let place = put_bytes(label, out, at);
-    put_decimal(n, out, place)
-}
-
-fn put_refused(number: u32, position: usize, out: &mut [u8], at: usize) -> usize
-    requires { ⌜ at + 50 ≤ length (now out) ⌝ }
-    ensures { λ r. ⌜ Written (now (out .entry)) at (refusedText (record { number = number; position = position })) r (now (out .exit)) ⌝ }
-{
-    let place = put_number(b"refused ", number as usize, out, at);
-    let place = put_number(b" ", position, out, place);
-    put_byte(b'\n', out, place)
-}
-
-// The message for what is wrong with a line.
-fn put_message(found: Found, out: &mut [u8], at: usize) -> usize
-    requires { ⌜ at + 80 ≤ length (now out) ⌝ }
-    ensures { λ r. ⌜ Written (now (out .entry)) at (messageOf (foundLine found)) r (now (out .exit)) ⌝ }
-{
-    match found {
-        Found::NotSix => put_bytes(
-            b"six numbers are |R| |C| |X| and the entry counts of A, B, C\n",
-            out,
-            at,
-        ),
-        Found::Refused(number, position) => put_refused(number, position, out, at),
-        Found::Nothing => at,
-        Found::Circuit(_) => at,
-    }
-}
-
-// The message for a wrong line.
-fn put_wrong(line: usize, found: Found, out: &mut [u8]) -> usize
-    requires { ⌜ sheetRoom ≤ length (now out) ⌝ }
-    ensures { λ r. ⌜ Written (now (out .entry)) 0 (wrongText line (messageOf (foundLine found))) r (now (out .exit)) ⌝ }
-{
-    let place = put_number(b"line ", line, out, 0);
-    let place = put_bytes(b": ", out, place);
-    put_message(found, out, place)
-}
-
 // The table, where there are circuits and not too many.
-fn put_circuits(array: [Request; 16], count: usize, out: &mut [u8]) -> usize
+fn put_circuits(array: [Request; MOST_CIRCUITS], count: usize, out: &mut [u8]) -> usize
     requires { ⌜ sheetRoom ≤ length (now out) ⌝ }
     ensures { λ r. ⌜ ((gs : List Given) → Kept gs array count → Written (now (out .entry)) 0 (tableText babyBear gs) r (now (out .exit))) ⌝ }
 {

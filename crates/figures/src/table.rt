@@ -1,12 +1,12 @@
 // The table: a row for each figure, with its name, a number for each circuit, and the theorem behind it.
+use crate::circuits::MOST_CIRCUITS;
 use crate::column::NUMBERS;
 use crate::column::number;
 use crate::lines::put_line;
 use crate::numbers::Request;
 use text::put_byte;
 use text::put_decimal;
-ghost use mathlib.Core.Path.{_≡_};
-ghost use mathlib.Core.List.{[], _∷_, _++_, map};
+ghost use mathlib.Core.List.{map};
 ghost use Prim.Native.Nat.{_+_, _*_, _≤_, _<_};
 ghost use lib.ListN.{length, take};
 ghost use Rattle.domain.specs.BabyBear.{babyBear};
@@ -83,7 +83,13 @@ fn put_cell(row: usize, request: Request, out: &mut [u8], at: usize) -> usize
 }
 
 // The cells of a row for the first circuits of the array.
-fn put_cells(row: usize, array: [Request; 16], count: usize, out: &mut [u8], at: usize) -> usize
+fn put_cells(
+    row: usize,
+    array: [Request; MOST_CIRCUITS],
+    count: usize,
+    out: &mut [u8],
+    at: usize,
+) -> usize
     requires { ⌜ row < 35 ⌝ }
     requires { ⌜ count ≤ 16 ⌝ }
     requires { ⌜ at + cellRoom * count ≤ length (now out) ⌝ }
@@ -99,7 +105,13 @@ fn put_cells(row: usize, array: [Request; 16], count: usize, out: &mut [u8], at:
     place
 }
 
-fn put_row(row: usize, array: [Request; 16], count: usize, out: &mut [u8], at: usize) -> usize
+fn put_row(
+    row: usize,
+    array: [Request; MOST_CIRCUITS],
+    count: usize,
+    out: &mut [u8],
+    at: usize,
+) -> usize
     requires { ⌜ row < 35 ⌝ }
     requires { ⌜ count ≤ 16 ⌝ }
     requires { ⌜ at + rowRoom ≤ length (now out) ⌝ }
@@ -113,7 +125,7 @@ fn put_row(row: usize, array: [Request; 16], count: usize, out: &mut [u8], at: u
 }
 
 // The table of the first circuits of the array, from the start of the buffer.
-pub fn put_table(array: [Request; 16], count: usize, out: &mut [u8]) -> usize
+pub fn put_table(array: [Request; MOST_CIRCUITS], count: usize, out: &mut [u8]) -> usize
     requires { ⌜ count ≤ 16 ⌝ }
     requires { ⌜ sheetRoom ≤ length (now out) ⌝ }
     ensures { λ r. ⌜ Written (now (out .entry)) 0 (rowsText (map given (take count array)) (figures babyBear)) r (now (out .exit)) ⌝ }

@@ -16,7 +16,7 @@ same-length : tie.Need-same-length
 same-length c = search needs
 
 returns : tie.Need-returns
-returns c =     λ gs kept. written-as (table-empty babyBear gs kept (search needs)) (c .before .before .put-bytes .ensures)
+returns c = λ gs kept. written-as (table-empty babyBear gs kept (search needs)) (c .before .before .put-bytes .ensures)
 
 slice-aggregate-put-bytes-2 : tie.Need-slice-aggregate-put-bytes-2
 slice-aggregate-put-bytes-2 c = search needs
@@ -28,7 +28,7 @@ same-length-2 : tie.Need-same-length-2
 same-length-2 c = search needs
 
 returns-2 : tie.Need-returns-2
-returns-2 c =     λ gs kept. written-as (table-full babyBear gs kept (search needs)) (c .before .before .put-bytes2 .ensures)
+returns-2 c = λ gs kept. written-as (table-full babyBear gs kept (search needs)) (c .before .before .put-bytes2 .ensures)
 
 put-table-requires : tie.Need-put-table-requires
 put-table-requires c κs = search needs
@@ -37,7 +37,7 @@ same-length-3 : tie.Need-same-length-3
 same-length-3 c = search needs
 
 returns-3 : tie.Need-returns-3
-returns-3 c =     λ gs kept. written-as (table-rows babyBear gs kept (search needs) (search needs)) (c .before .before .put-table .ensures)
+returns-3 c = λ gs kept. written-as (table-rows babyBear gs kept (search needs) (search needs)) (c .before .before .put-table .ensures)
 
 pub put-circuits-spec : {M : Type 1} → statement M
 put-circuits-spec =

@@ -1,5 +1,5 @@
 -- `figures::put_sheet` meets its contract. Assumes nothing.
-use mathlib.Core.Path.{sym, ap, _∙_}
+use mathlib.Core.Path.{sym, _∙_}
 use Rattle.domain.specs.BabyBear.{babyBear}
 use Rattle.text.proofs.WrittenLaws.{written-as}
 use Rattle.figures.proofs.SheetLaws.{sheet-long, sheet-wrong, sheet-table}

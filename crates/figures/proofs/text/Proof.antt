@@ -1,6 +1,5 @@
 -- `figures::text` meets its contract: the buffer has room for every sheet. Assumes nothing.
 use native.Mathlib.Omega.{arith}
-use borrow.Author.Needs.{needs}
 use Rattle.figures.proofs.text.Statement.{statement}
 use Rattle.figures.proofs.text.Tie as tie
 

@@ -2,7 +2,6 @@
 use mathlib.Core.Path.{_≡_, refl, sym, ap, _∙_}
 use mathlib.Core.List.{map}
 use Prim.Native.Nat.{_+_, _-_, _≤_}
-use native.Mathlib.Omega.{arith}
 use lib.ListN.{length, drop}
 use Rattle.figures.specs.Sheet.{linesOf, lineOf, wrong}
 use Rattle.figures.proofs.CircuitLaws.{wrong-here, wrong-later, no-more-lines}
@@ -11,7 +10,7 @@ use Rattle.figures.proofs.circuits.first_wrong.Statement.{statement}
 use Rattle.figures.proofs.circuits.first_wrong.Tie as tie
 
 abbrev Inv-loop : tie.InvT-loop
-Inv-loop text line₀ start₀ line start =     (line ≤ start + 1) × (wrong line (map lineOf (linesOf (drop start text))) ≡ wrong 1 (map lineOf (linesOf text)))
+Inv-loop text line₀ start₀ line start = (line ≤ start + 1) × (wrong line (map lineOf (linesOf (drop start text))) ≡ wrong 1 (map lineOf (linesOf text)))
 
 abbrev μ-loop : tie.MeasureT-loop
 μ-loop text line₀ start₀ line start = length text - start
@@ -65,7 +64,7 @@ loop-again c =
       search needs,
       wrong-later text (l .start) (c1 .line-end .result) (c1 .line-end .ensures) (c2 .read-line .result) (c2 .read-line .ensures) (l .line)
           (sym (c .before .is-wrong .ensures) ∙ c .if1 .left)
-      ∙ l .inv .1,
+          ∙ l .inv .1,
     )
 
 returns-2 : tie.Need-returns-2 Inv-loop μ-loop

@@ -3,13 +3,13 @@ use mathlib.Core.Path.{sym, _∙_}
 use mathlib.Core.List.{List, [], _∷_, map}
 use mathlib.Core.Option.{Option}
 use lib.Dec.{leb}
+use borrow.Author.Tests.{not-true, not-false}
 use Rattle.domain.specs.Size.{maxSize}
 use Rattle.protocol.specs.Meanings.{three}
 use Rattle.protocol.specs.Refusals.{Refusal, listRefusal}
 use Rattle.protocol.specs.Three.{listed}
-use Rattle.figures.specs.declared.numbers.Request.{Request}
-use borrow.Author.Tests.{not-true, not-false}
 use Rattle.protocol.proofs.EarlyReturns.{stops, goes-on, last-answer}
+use Rattle.figures.specs.declared.numbers.Request.{Request}
 use Rattle.figures.specs.Sheet.{sheetRefusal}
 use borrow.Author.Needs.{needs}
 use Rattle.figures.proofs.circuits.judge.Statement.{statement}

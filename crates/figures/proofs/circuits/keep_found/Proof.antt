@@ -1,7 +1,7 @@
 -- `figures::circuits::keep_found` meets its contract. Assumes nothing.
-use mathlib.Core.Path.{sym, ap}
-use mathlib.Core.List.{[], _∷_, _++_}
-use Rattle.figures.specs.Placed.{foundLine, Kept}
+use mathlib.Core.Path.{ap}
+use mathlib.Core.List.{[], _∷_}
+use Rattle.figures.specs.Placed.{foundLine}
 use Rattle.figures.specs.Sheet.{circuits}
 use Rattle.figures.proofs.CircuitLaws.{kept-same}
 use borrow.Author.Needs.{needs}

@@ -1,7 +1,7 @@
 -- `figures::column::number` meets its contract. Assumes nothing.
 use mathlib.Core.Path.{_≡_, sym, ap, _∙_}
+use Prim.Native.Nat.{_+_, _-_}
 use native.Mathlib.Omega.{arith}
-use Prim.Native.Nat.{_+_, _-_, _<_}
 use lib.ListN.{getD}
 use Rattle.domain.specs.BabyBear.{babyBear}
 use Rattle.figures.specs.Figures.{Figure, sizeFigures, lengthFigures, checkFigures}

@@ -1,8 +1,8 @@
 -- `figures::lines::line_end` meets its contract: no newline stands between the start and i. Assumes nothing.
 use Prim.Native.Nat.{_-_}
 use lib.ListN.{length}
-use borrow.Author.Needs.{needs}
 use Rattle.figures.proofs.LineLaws.{Reached, reached-start, reached-more, ends-at, ends-last}
+use borrow.Author.Needs.{needs}
 use Rattle.figures.proofs.lines.line_end.Statement.{statement}
 use Rattle.figures.proofs.lines.line_end.Tie as tie
 

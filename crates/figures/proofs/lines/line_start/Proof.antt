@@ -2,10 +2,10 @@
 use mathlib.Core.Path.{_≡_, refl, ap, _∙_}
 use Prim.Native.Nat.{_-_, _≤_}
 use native.Mathlib.Omega.{arith}
-use lib.ListN.{length, drop}
-use borrow.Author.Needs.{needs}
+use lib.ListN.{drop}
 use Rattle.figures.specs.Sheet.{linesOf}
 use Rattle.figures.proofs.LineLaws.{line-left, lines-after}
+use borrow.Author.Needs.{needs}
 use Rattle.figures.proofs.lines.line_start.Statement.{statement}
 use Rattle.figures.proofs.lines.line_start.Tie as tie
 

@@ -1,7 +1,7 @@
 -- `figures::lines::put_line` meets its contract. Assumes nothing.
-use mathlib.Core.Path.{_≡_, sym, ap}
-use lib.ListN.{length}
+use mathlib.Core.Path.{sym, ap}
 use native.Mathlib.Omega.{arith}
+use lib.ListN.{length}
 use Rattle.text.proofs.WrittenLaws.{written-as}
 use Rattle.figures.proofs.LineLaws.{line-is}
 use borrow.Author.Needs.{needs}

@@ -6,8 +6,8 @@ use native.Mathlib.Omega.{arith}
 use native.Mathlib.Numerals.{add-one}
 use lib.ListN.{length, drop}
 use lib.Seq.{drop-cons, drop-length}
-use borrow.Author.Needs.{needs}
 use Rattle.figures.specs.Scanning.{numberEnded, stepped, scanned, scanStart}
+use borrow.Author.Needs.{needs}
 use Rattle.figures.proofs.numbers.scan_all.Statement.{statement}
 use Rattle.figures.proofs.numbers.scan_all.Tie as tie
 

@@ -1,6 +1,6 @@
 -- `figures::table::put_cell` meets its contract. Assumes nothing.
-use Rattle.figures.specs.Sheet.{cellText}
 use native.Mathlib.Omega.{arith}
+use Rattle.figures.specs.Sheet.{cellText}
 use Rattle.figures.proofs.TableLaws.{within-room, within-then}
 use borrow.Author.Needs.{needs}
 use Rattle.figures.proofs.table.put_cell.Statement.{statement}

@@ -1,12 +1,11 @@
 -- `figures::table::put_cells` meets its contract: the cells of the first k circuits stand in the buffer. Assumes nothing.
-use mathlib.Core.Path.{_≡_, sym, ap, _∙_}
-use mathlib.Core.List.{[], _∷_, _++_, map, map-append}
+use mathlib.Core.Path.{_≡_}
+use mathlib.Core.List.{map}
 use Prim.Native.Nat.{_-_, _*_, _≤_}
 use native.Mathlib.Omega.{arith}
-use native.Mathlib.Numerals.{add-one}
-use lib.ListN.{length, take}
+use lib.ListN.{take}
 use Rattle.domain.specs.BabyBear.{babyBear}
-use Rattle.text.proofs.WrittenLaws.{written-none, written-as}
+use Rattle.text.proofs.WrittenLaws.{written-none}
 use Rattle.figures.specs.Placed.{given, figureAt, Within, cellRoom}
 use Rattle.figures.specs.Sheet.{cellsText}
 use Rattle.figures.proofs.TableLaws.{within-room, within-length, cell-turn}
@@ -15,7 +14,7 @@ use Rattle.figures.proofs.table.put_cells.Statement.{statement}
 use Rattle.figures.proofs.table.put_cells.Tie as tie
 
 abbrev Inv-loop : tie.InvT-loop
-Inv-loop row count out₀ at array place₀ k₀ out place k =     (k ≤ count) × Within (cellRoom * k) out₀ at (cellsText (figureAt babyBear row) (map given (take k array))) place out
+Inv-loop row count out₀ at array place₀ k₀ out place k = (k ≤ count) × Within (cellRoom * k) out₀ at (cellsText (figureAt babyBear row) (map given (take k array))) place out
 
 abbrev μ-loop : tie.MeasureT-loop
 μ-loop row count out₀ at array place₀ k₀ out place k = count - k

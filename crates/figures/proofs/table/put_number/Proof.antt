@@ -1,7 +1,7 @@
 -- `figures::table::put_number` meets its contract. Assumes nothing.
 use mathlib.Core.Path.{_≡_, ap, _∙_}
-use native.Mathlib.Omega.{arith}
 use Prim.Native.Nat.{_+_, _-_}
+use native.Mathlib.Omega.{arith}
 use lib.ListN.{length}
 use Rattle.domain.specs.BabyBear.{babyBear}
 use Rattle.text.specs.Decimal.{decimal}

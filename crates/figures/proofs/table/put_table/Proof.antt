@@ -1,9 +1,9 @@
 -- `figures::table::put_table` meets its contract: the first rows stand in the buffer. Assumes nothing.
-use mathlib.Core.Path.{_≡_, sym, ap, _∙_}
+use mathlib.Core.Path.{_≡_, ap}
 use mathlib.Core.List.{map}
 use Prim.Native.Nat.{_-_, _*_, _≤_}
 use native.Mathlib.Omega.{arith}
-use lib.ListN.{length, take}
+use lib.ListN.{take}
 use lib.Seq.{take-all}
 use Rattle.domain.specs.BabyBear.{babyBear}
 use Rattle.text.proofs.WrittenLaws.{written-none, written-as}
@@ -16,14 +16,14 @@ use Rattle.figures.proofs.table.put_table.Statement.{statement}
 use Rattle.figures.proofs.table.put_table.Tie as tie
 
 abbrev Inv-loop : tie.InvT-loop
-Inv-loop array count out₀ place₀ row₀ out place row =     (row ≤ 35) × Within (rowRoom * row) out₀ 0 (rowsText (map given (take count array)) (take row (figures babyBear))) place out
+Inv-loop array count out₀ place₀ row₀ out place row = (row ≤ 35) × Within (rowRoom * row) out₀ 0 (rowsText (map given (take count array)) (take row (figures babyBear))) place out
 
 abbrev μ-loop : tie.MeasureT-loop
 μ-loop array count out₀ place₀ row₀ out place row = 35 - row
 
 loop-holds : tie.Need-loop-holds Inv-loop μ-loop
 unfolding rowsText
-loop-holds c =     (search needs, within-room 0 (omega arith) (written-none (c .before .args .out .now) 0 (omega arith)))
+loop-holds c = (search needs, within-room 0 (omega arith) (written-none (c .before .args .out .now) 0 (omega arith)))
 
 put-row-requires : tie.Need-put-row-requires Inv-loop μ-loop
 put-row-requires c κs =

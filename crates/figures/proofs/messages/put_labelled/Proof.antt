@@ -1,10 +1,10 @@
--- `figures::put_number` meets its contract. Assumes nothing.
+-- `figures::messages::put_labelled` meets its contract. Assumes nothing.
 use native.Mathlib.Omega.{arith}
 use Rattle.text.proofs.WrittenLaws.{written-length}
 use Rattle.figures.proofs.TableLaws.{within-room, within-then, few-digits}
 use borrow.Author.Needs.{needs}
-use Rattle.figures.proofs.put_number.Statement.{statement}
-use Rattle.figures.proofs.put_number.Tie as tie
+use Rattle.figures.proofs.messages.put_labelled.Statement.{statement}
+use Rattle.figures.proofs.messages.put_labelled.Tie as tie
 
 put-bytes-requires : tie.Need-put-bytes-requires
 put-bytes-requires c κs = search needs
@@ -26,5 +26,5 @@ returns c =
     within-then (within-room _ (omega arith) (c1 .put-bytes .ensures))
     (within-room 20 (few-digits (start .args .n) (omega (arith, start .fits .n))) (c2 .put-decimal .ensures))
 
-pub put-number-spec : {M : Type 1} → statement M
-put-number-spec = tie.close (tie.spec put-bytes-requires put-decimal-requires same-length returns)
+pub put-labelled-spec : {M : Type 1} → statement M
+put-labelled-spec = tie.close (tie.spec put-bytes-requires put-decimal-requires same-length returns)

@@ -1,10 +1,10 @@
--- `figures::put_message` meets its contract. Assumes nothing.
+-- `figures::messages::put_message` meets its contract. Assumes nothing.
 use mathlib.Core.Path.{sym, ap}
 use Rattle.text.proofs.WrittenLaws.{written-none, written-as}
 use Rattle.figures.specs.Placed.{foundLine, messageOf}
 use borrow.Author.Needs.{needs}
-use Rattle.figures.proofs.put_message.Statement.{statement}
-use Rattle.figures.proofs.put_message.Tie as tie
+use Rattle.figures.proofs.messages.put_message.Statement.{statement}
+use Rattle.figures.proofs.messages.put_message.Tie as tie
 
 enum-told : tie.Need-enum-told
 enum-told c = search needs
