@@ -1,9 +1,6 @@
 -- `sheet::main` is safe and ends: what is read lies within its array, and the sheet within the buffer. Assumes nothing.
 use mathlib.Core.Path.{sym}
-use mathlib.Core.Logic.{⊎-elim}
-use Prim.Native.Nat.{_≤_}
 use native.Mathlib.Omega.{arith}
-use lib.ListN.{length}
 use lib.Seq.{length-take-le}
 use Rattle.text.proofs.WrittenLaws.{written-length}
 use borrow.Author.Needs.{needs}
@@ -16,20 +13,11 @@ slice-aggregate-read-full c = search needs
 read-full-requires : tie.Need-read-full-requires
 read-full-requires c κs = search needs
 
-buffer-requires : tie.Need-buffer-requires
-buffer-requires c κs = search needs
-
 array-share-prefix-input : tie.Need-array-share-prefix-input
-array-share-prefix-input c =
-    let read = c .before .before .before .read-full in
-    ⊎-elim (λ w. omega (arith, read .ensures .0)) (λ w. omega (arith, read .ensures .0)) (c .before .if1 .came)
+array-share-prefix-input c = search needs
 
 slice-aggregate-text : tie.Need-slice-aggregate-text
-slice-aggregate-text c =
-    let read = c .before .before .before .before .read-full in
-    let within : c .before .before .if1 .n ≤ length (read .last .1 .0) =
-    ⊎-elim (λ w. omega (arith, read .ensures .0)) (λ w. omega (arith, read .ensures .0)) (c .before .before .if1 .came) in
-    sym (length-take-le _ _ within)
+slice-aggregate-text c = search needs
 
 text-requires : tie.Need-text-requires
 text-requires c κs = search needs
@@ -56,7 +44,6 @@ main-spec =
     (tie.spec
     slice-aggregate-read-full
     read-full-requires
-    buffer-requires
     array-share-prefix-input
     slice-aggregate-text
     text-requires
