@@ -1,0 +1,152 @@
+//! The program `sheet`: circuits as text, one a line, to a table with a row for each figure and a column for each circuit.
+
+use crate::field::MODULUS;
+use crate::refusal::{self, Refusal};
+
+/// The most bytes of a text.
+const TEXT_LIMIT: usize = 2048;
+/// The most circuits of a text.
+const CIRCUIT_LIMIT: usize = 16;
+/// The most entries of a matrix, which is also the largest size.
+const ENTRY_LIMIT: u128 = 1024;
+/// The bytes of a word and of the record's trailer of 18 words.
+const WORD_BYTES: u128 = 4;
+const TRAILER_BYTES: u128 = 18 * WORD_BYTES;
+/// p.
+const P: u128 = MODULUS as u128;
+
+/// What is given of a circuit: |R|, |C|, |X| and the entry counts of A, B, C.
+struct Given {
+    rows: u128,
+    columns: u128,
+    public: u128,
+    entries: [u128; 3],
+}
+
+/// A figure's name, its number for a circuit, and the theorem behind it.
+type Row = (&'static str, fn(&Given) -> u128, &'static str);
+
+/// The rows of the table, in order.
+const ROWS: [Row; 35] = [
+    ("|R|", |g| g.rows, "given"),
+    ("|C|", |g| g.columns, "given"),
+    ("|X|", |g| g.public, "given"),
+    ("entries of A", |g| g.entries[0], "given"),
+    ("entries of B", |g| g.entries[1], "given"),
+    ("entries of C", |g| g.entries[2], "given"),
+    ("size of K_A", |g| g.places(0), "sizeFor"),
+    ("size of K_B", |g| g.places(1), "sizeFor"),
+    ("size of K_C", |g| g.places(2), "sizeFor"),
+    ("size of K", Given::most_places, "largest"),
+    ("words of w", |g| g.section(0), "rules-kept"),
+    ("words of m", |g| g.section(1), "rules-kept"),
+    ("words of h0", |g| g.section(2), "rules-kept"),
+    ("words of s", |g| g.section(3), "rules-kept"),
+    ("words of g1", |g| g.section(4), "rules-kept"),
+    ("words of h1", |g| g.section(5), "rules-kept"),
+    ("words of o", |g| g.section(6), "rules-kept"),
+    ("words of ga", |g| g.section(7), "rules-kept"),
+    ("words of gb", |g| g.section(8), "rules-kept"),
+    ("words of gc", |g| g.section(9), "rules-kept"),
+    ("words of h2", |g| g.section(10), "rules-kept"),
+    ("bytes of the record", Given::record_bytes, "read-written"),
+    ("degree of Row", |g| 2 * g.rows - 2, "row-means"),
+    ("allowed points of Row", |g| P - g.rows, "allowed-points"),
+    ("degree of Line", |g| 2 * g.columns - 1, "line-means"),
+    ("allowed points of Line", |g| P - g.columns, "allowed-points"),
+    ("degree of Matrix for A", |g| 2 * g.places(0) - 2, "matrix-means"),
+    ("degree of Matrix for B", |g| 2 * g.places(1) - 2, "matrix-means"),
+    ("degree of Matrix for C", |g| 2 * g.places(2) - 2, "matrix-means"),
+    ("degree of Matrix joined", |g| 2 * g.most_places() - 2, "values-caught"),
+    ("allowed points of Matrix", |g| P - g.most_places(), "allowed-points"),
+    ("triples of eta", |_| P.pow(3), "all-triples"),
+    ("triples of eta that save a false sum, at most", |_| P.pow(2), "sums-caught"),
+    ("triples of delta", |_| P.pow(3), "all-triples"),
+    ("triples of delta that save a false matrix value, at most", |_| P.pow(2), "values-caught"),
+];
+
+impl Given {
+    /// The circuit of a line's numbers: refusal 4 for a size, then 5 for a count over 1,024.
+    fn new(numbers: [u128; 6]) -> Result<Given, Refusal> {
+        let [rows, columns, public, a, b, c] = numbers;
+        refusal::sizes(&[rows, columns, public].map(|size| u32::try_from(size).unwrap_or(u32::MAX)))?;
+        refusal::lists(&[a, b, c].map(|count| count <= ENTRY_LIMIT))?;
+        Ok(Given { rows, columns, public, entries: [a, b, c] })
+    }
+
+    /// |K_M|: the smallest size not below the entry count.
+    fn places(&self, matrix: usize) -> u128 {
+        self.entries[matrix].max(1).next_power_of_two()
+    }
+
+    /// |K|: the largest |K_M|.
+    fn most_places(&self) -> u128 {
+        self.places(0).max(self.places(1)).max(self.places(2))
+    }
+
+    /// The words of a section of the record: w, m, h0, s, g1, h1, o, ga, gb, gc, h2.
+    fn section(&self, section: usize) -> u128 {
+        match section {
+            0 => self.columns - self.public + 1,
+            1 => 2 * self.columns,
+            2 => self.rows - 1,
+            4 => self.columns - 1,
+            5 => self.columns,
+            7..=9 => self.places(section - 7) - 1,
+            10 => self.most_places() - 1,
+            _ => 3,
+        }
+    }
+
+    fn record_bytes(&self) -> u128 {
+        let words: u128 = (0..11).map(|section| self.section(section)).sum();
+        WORD_BYTES * words + TRAILER_BYTES
+    }
+}
+
+/// A number of digits alone; one past 128 bits is as good as the largest.
+fn number(digits: &[u8]) -> Option<u128> {
+    digits.iter().try_fold(0u128, |number, &digit| {
+        digit.is_ascii_digit().then(|| number.saturating_mul(10).saturating_add(u128::from(digit - b'0')))
+    })
+}
+
+/// What a line holds: nothing, a circuit, or what is wrong with it.
+fn line(line: &[u8]) -> Result<Option<Given>, String> {
+    let words = line.split(|&byte| matches!(byte, b' ' | b'\t' | b'\r')).filter(|word| !word.is_empty());
+    let numbers: Option<Vec<u128>> = words.map(number).collect();
+    let numbers = numbers.unwrap_or_else(|| vec![0]); // one number is as wrong as a word that is none
+    if numbers.is_empty() {
+        return Ok(None);
+    }
+    let Ok(six) = <[u128; 6]>::try_from(numbers) else {
+        return Err("six numbers are |R| |C| |X| and the entry counts of A, B, C".to_string());
+    };
+    let circuit = Given::new(six).map_err(|Refusal { number, position }| format!("refused {number} {position}"))?;
+    Ok(Some(circuit))
+}
+
+/// The text that the program prints for a text.
+pub fn sheet(text: &[u8]) -> String {
+    if text.len() > TEXT_LIMIT {
+        return format!("sheet reads at most {TEXT_LIMIT} bytes\n");
+    }
+    let mut circuits = Vec::new();
+    for (place, bytes) in text.split(|&byte| byte == b'\n').enumerate() {
+        match line(bytes) {
+            Ok(circuit) => circuits.extend(circuit),
+            Err(message) => return format!("line {}: {message}\n", place + 1),
+        }
+    }
+    if circuits.is_empty() {
+        return "sheet reads one circuit a line: |R| |C| |X| and the entry counts of A, B, C\n".to_string();
+    }
+    if circuits.len() > CIRCUIT_LIMIT {
+        return format!("sheet takes at most {CIRCUIT_LIMIT} circuits\n");
+    }
+    let row = |(name, figure, source): &Row| {
+        let numbers: String = circuits.iter().map(|circuit| format!("\t{}", figure(circuit))).collect();
+        format!("{name}{numbers}\t{source}\n")
+    };
+    ROWS.iter().map(row).collect()
+}
