@@ -1,10 +1,11 @@
-//! The proved library and the program `prove` beside the second implementation, on the same inputs.
+//! The proved library and the programs `prove` and `sheet` beside the second implementation, on the same inputs.
 //!
 //! Every answer, every word of every lent slice and every session is compared whole. A test stops at the first difference and
 //! prints the input that shows it, a job as the text that `job pack` takes.
 //!
 //! What is needed first, in the repository: `rt staticlib varuna_c` makes target/staticlib/libvaruna_c.a, and
-//! `rt check prove` target/bin/prove. VARUNA_LIBRARY names another folder for the library, VARUNA_PROVE another program.
+//! `rt check prove sheet` target/bin/prove and target/bin/sheet. VARUNA_LIBRARY names another folder for the library,
+//! VARUNA_PROVE and VARUNA_SHEET other programs.
 //!
 //!     cargo test --release                          one seed, under two minutes
 //!     SEED=7 COUNT=100 cargo test --release         another seed, and the random part of each test a hundred times as long
@@ -21,5 +22,6 @@ mod positions;
 mod program;
 mod records;
 mod sessions;
+mod sheet;
 mod tampered;
 mod texts;

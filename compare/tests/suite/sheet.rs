@@ -1,0 +1,265 @@
+//! Texts through the program `sheet` and through the second implementation: what is printed must be the same.
+
+use compare::random::{count, Random, NO_SIZES, SIZES};
+use std::io::Write;
+use std::path::{Path, PathBuf};
+use std::process::{Command, Stdio};
+
+/// The most bytes of a text, and the most circuits.
+const TEXT_LIMIT: usize = 2048;
+const CIRCUIT_LIMIT: usize = 16;
+
+const NOT_SIX: &str = "six numbers are |R| |C| |X| and the entry counts of A, B, C";
+const USAGE: &str = "sheet reads one circuit a line: |R| |C| |X| and the entry counts of A, B, C\n";
+const TOO_LONG: &str = "sheet reads at most 2048 bytes\n";
+const TOO_MANY: &str = "sheet takes at most 16 circuits\n";
+
+/// A circuit with six different numbers.
+const DIFFERENT: &str = "128 512 64 1000 300 7\n";
+
+/// The program's path: VARUNA_SHEET, or target/bin/sheet of the repository. A test without it fails.
+fn program() -> PathBuf {
+    let given = std::env::var_os("VARUNA_SHEET").map(PathBuf::from);
+    let path = given.unwrap_or_else(|| Path::new(env!("CARGO_MANIFEST_DIR")).join("../target/bin/sheet"));
+    assert!(
+        path.is_file(),
+        "there is no {}: make it by `rt check sheet` in the repository, or set VARUNA_SHEET to the program",
+        path.display()
+    );
+    path
+}
+
+/// What the program prints for a text. It must end well and print nothing on standard error.
+fn sheet(text: &[u8]) -> String {
+    let mut command = Command::new(program());
+    command.stdin(Stdio::piped()).stdout(Stdio::piped()).stderr(Stdio::piped());
+    let mut child = command.spawn().expect("the program starts");
+    let mut input = child.stdin.take().expect("standard input is a pipe");
+    // the program may stop reading a text that is too long, so a broken pipe is no fault
+    let _ = input.write_all(text);
+    drop(input);
+    let output = child.wait_with_output().expect("the program ends");
+    assert!(output.status.success(), "the program ended with {}", output.status);
+    assert_eq!(String::from_utf8_lossy(&output.stderr), "", "the program wrote to standard error");
+    String::from_utf8(output.stdout).expect("the program prints text")
+}
+
+/// Runs a text on both sides; what is printed is that of both.
+fn compare_text(text: impl AsRef<[u8]>) -> String {
+    let text = text.as_ref();
+    let ours = sheet(text);
+    let shown = String::from_utf8_lossy(text);
+    assert_eq!(ours, second::sheet(text), "the program's sheet, then the second implementation's, for {shown:?}");
+    ours
+}
+
+/// The columns of a table, after its shape was looked at: 35 rows, with a name and a theorem beside so many numbers.
+fn columns(table: &str, circuits: usize) -> Vec<Vec<String>> {
+    let rows: Vec<Vec<&str>> = table.lines().map(|row| row.split('\t').collect()).collect();
+    assert_eq!(rows.len(), 35, "{table}");
+    assert!(rows.iter().all(|row| row.len() == circuits + 2), "{table}");
+    (0..circuits + 2).map(|column| rows.iter().map(|row| row[column].to_string()).collect()).collect()
+}
+
+/// A text of so many copies of a circuit.
+fn copies(times: usize) -> String {
+    DIFFERENT.repeat(times)
+}
+
+/// A circuit with six different numbers, whole: the name, the number and the theorem of each figure.
+#[test]
+fn whole_table() {
+    let table = "\
+        |R|\t128\tgiven\n|C|\t512\tgiven\n|X|\t64\tgiven\n\
+        entries of A\t1000\tgiven\nentries of B\t300\tgiven\nentries of C\t7\tgiven\n\
+        size of K_A\t1024\tsizeFor\nsize of K_B\t512\tsizeFor\nsize of K_C\t8\tsizeFor\nsize of K\t1024\tlargest\n\
+        words of w\t449\trules-kept\nwords of m\t1024\trules-kept\nwords of h0\t127\trules-kept\n\
+        words of s\t3\trules-kept\nwords of g1\t511\trules-kept\nwords of h1\t512\trules-kept\n\
+        words of o\t3\trules-kept\nwords of ga\t1023\trules-kept\nwords of gb\t511\trules-kept\n\
+        words of gc\t7\trules-kept\nwords of h2\t1023\trules-kept\nbytes of the record\t20844\tread-written\n\
+        degree of Row\t254\trow-means\nallowed points of Row\t2013265793\tallowed-points\n\
+        degree of Line\t1023\tline-means\nallowed points of Line\t2013265409\tallowed-points\n\
+        degree of Matrix for A\t2046\tmatrix-means\ndegree of Matrix for B\t1022\tmatrix-means\n\
+        degree of Matrix for C\t14\tmatrix-means\ndegree of Matrix joined\t2046\tvalues-caught\n\
+        allowed points of Matrix\t2013264897\tallowed-points\n\
+        triples of eta\t8160249294558465929206824961\tall-triples\n\
+        triples of eta that save a false sum, at most\t4053239668659978241\tsums-caught\n\
+        triples of delta\t8160249294558465929206824961\tall-triples\n\
+        triples of delta that save a false matrix value, at most\t4053239668659978241\tvalues-caught\n";
+    assert_eq!(compare_text(DIFFERENT), table);
+}
+
+/// Each circuit has its own column, in the order of the lines.
+#[test]
+fn columns_are_circuits() {
+    let lines = ["128 512 64 1000 300 7", "1 2 1 0 5 33", "1024 16 8 129 4 1024"];
+    let table = columns(&compare_text(lines.join("\n")), 3);
+    for (place, line) in lines.iter().enumerate() {
+        let alone = columns(&compare_text(line), 1);
+        assert_eq!(table[place + 1], alone[1], "the column of {line}");
+        assert_eq!((&table[0], &table[4]), (&alone[0], &alone[2]), "names and theorems");
+    }
+}
+
+/// Every size in each place, and entry counts at and beside every size.
+#[test]
+fn boundary_sizes() {
+    let mut tables = 0;
+    for size in SIZES {
+        let text = format!("{size} 1024 1 {size} {} {}\n1 {size} {size} 0 1024 1\n", size - 1, (size + 1).min(1024));
+        columns(&compare_text(text), 2);
+        tables += 1;
+    }
+    assert_eq!(tables, SIZES.len());
+}
+
+/// From one to sixteen circuits there is a table, and a seventeenth is too many, wherever blank lines stand.
+#[test]
+fn counts_of_circuits() {
+    for circuits in 1..=CIRCUIT_LIMIT {
+        columns(&compare_text(copies(circuits)), circuits);
+    }
+    for circuits in CIRCUIT_LIMIT + 1..=CIRCUIT_LIMIT + 3 {
+        assert_eq!(compare_text(copies(circuits)), TOO_MANY);
+    }
+    assert_eq!(compare_text(copies(1000 / DIFFERENT.len())), TOO_MANY);
+    columns(&compare_text(format!("\n\n{}\n \n", copies(CIRCUIT_LIMIT))), CIRCUIT_LIMIT);
+}
+
+/// Spaces, tabs, carriage returns and blank lines change no number; a last line needs no newline.
+#[test]
+fn blanks_and_line_ends() {
+    let plain = compare_text("4 8 2 3 5 6\n16 2 1 9 0 1\n");
+    for same in [
+        "4 8 2 3 5 6\n16 2 1 9 0 1",
+        "4 8 2 3 5 6\r\n16 2 1 9 0 1\r\n",
+        "\t4\t8  2 3 5\t 6 \n\n \t\r\n  16 2 1 9 0 1\n\n",
+        "\n\n4 8 2 3 5 6\n16 2 1 9 0 1\r",
+        "0004 08 2 3 5 000000000006\n16 2 00000001 9 0 1\n",
+    ] {
+        assert_eq!(compare_text(same), plain, "{same:?}");
+    }
+}
+
+/// A text with no circuit.
+#[test]
+fn usage() {
+    for text in ["", "\n", " ", "\t\r\n\n  \n", &"\n".repeat(TEXT_LIMIT)] {
+        assert_eq!(compare_text(text), USAGE, "{text:?}");
+    }
+}
+
+/// A text of exactly 2,048 bytes is read, whatever it holds, and one byte more is not.
+#[test]
+fn longest_text() {
+    let padded = |length: usize| format!("{DIFFERENT}{}", " ".repeat(length - DIFFERENT.len()));
+    assert_eq!(compare_text(padded(TEXT_LIMIT)), compare_text(DIFFERENT));
+    assert_eq!(compare_text(padded(TEXT_LIMIT + 1)), TOO_LONG);
+    assert_eq!(compare_text("\n".repeat(TEXT_LIMIT + 1)), TOO_LONG);
+    assert_eq!(compare_text("x".repeat(TEXT_LIMIT)), format!("line 1: {NOT_SIX}\n"));
+    assert_eq!(compare_text("x".repeat(TEXT_LIMIT + 1)), TOO_LONG);
+    assert_eq!(compare_text("1".repeat(10 * TEXT_LIMIT)), TOO_LONG);
+}
+
+/// A line that is not six numbers is named by its number, blank lines counted; the first one is named.
+#[test]
+fn not_six_numbers() {
+    for line in [
+        "1",
+        "4 8 2 3 5",
+        "4 8 2 3 5 6 7",
+        "4 8 2 3 5 x",
+        "-4 8 2 3 5 6",
+        "+4 8 2 3 5 6",
+        "4,8,2,3,5,6",
+        "4 8 2 3 5 6.0",
+        "4 8 2 3 5 6#",
+        "0x4 8 2 3 5 6",
+        "4 8 2 3 5 \u{fc}",
+        "|R| |C| |X| 1 1 1",
+        "4 8\u{b}2 3 5 6",
+        "\0",
+        "4 8 2 3 5 6 \0",
+    ] {
+        for before in [0, 1, 2, 11] {
+            let text = format!("{}\n{}{line}\n{DIFFERENT}x\n", DIFFERENT.trim_end(), "\n".repeat(before));
+            assert_eq!(compare_text(text), format!("line {}: {NOT_SIX}\n", before + 2), "{line:?}");
+        }
+    }
+    let invalid = [b"1 1 1 1 1 1\n".as_slice(), &[0xff, 0xfe, b'\n']].concat();
+    assert_eq!(compare_text(invalid), format!("line 2: {NOT_SIX}\n"));
+}
+
+/// Each refusal, with each number above what is allowed, above 32 bits and above 128 bits; a wrong line is named before too many
+/// circuits are.
+#[test]
+fn refusals() {
+    let six = ["128", "512", "64", "1000", "300", "7"];
+    let no_sizes = NO_SIZES.map(|word| word.to_string());
+    let large =
+        ["65535", "65536", "4294967295", "4294967296", "99999999999999999999", &"9".repeat(60)].map(str::to_string);
+    let mut refused = 0;
+    for place in 0..6 {
+        let counts = ["1025".to_string()];
+        let wrong = if place < 3 { no_sizes.iter() } else { counts.iter() };
+        for number in wrong.chain(&large) {
+            let mut words = six;
+            words[place] = number;
+            let message = format!("line 2: refused {} {}\n", 4 + place / 3, place % 3);
+            assert_eq!(compare_text(format!("{DIFFERENT}{}\n", words.join(" "))), message);
+            assert_eq!(compare_text(format!("{DIFFERENT}{}\n{}", words.join("\t"), copies(20))), message);
+            refused += 1;
+        }
+    }
+    assert!(refused >= 60, "{refused} refusals were compared");
+    assert_eq!(compare_text("128 64 128 1 1 1"), "line 1: refused 4 2\n"); // |X| above |C|
+    assert_eq!(compare_text("3 3 3 2000 2000 2000"), "line 1: refused 4 0\n");
+    assert_eq!(compare_text("2 2 2 1 2000 2000"), "line 1: refused 5 1\n");
+}
+
+/// A number for a random line: allowed in its place, mostly.
+fn random_number(random: &mut Random, place: usize) -> String {
+    if random.one_in(60) {
+        return random.damaged().to_string();
+    }
+    match place {
+        0..=2 => random.one_of(&SIZES).to_string(),
+        _ => random.below(1026).to_string(),
+    }
+}
+
+/// A random line: mostly six numbers, else none, more, fewer or something else.
+fn random_line(random: &mut Random) -> String {
+    if random.one_in(8) {
+        return random.one_of(&["", " ", "\t\r", "\r"]).to_string();
+    }
+    let mut words: Vec<String> = (0..6).map(|place| random_number(random, place)).collect();
+    if random.one_in(2) {
+        words[2] = "1".to_string();
+    }
+    if random.one_in(60) {
+        words.truncate(random.place(6));
+    }
+    if random.one_in(60) {
+        words.push(random.one_of(&["7", "x", "-1", "\0", "1e3"]).to_string());
+    }
+    words.join(random.one_of(&[" ", "\t", "  ", " \t"]))
+}
+
+/// Random texts: most are tables, some are refused, and each kind is met.
+#[test]
+fn random_texts() {
+    let mut random = Random::new(70);
+    let (mut tables, mut wrong, mut others) = (0, 0, 0);
+    for _ in 0..count(400) {
+        let lines: Vec<String> = (0..random.below(20)).map(|_| random_line(&mut random)).collect();
+        let printed = compare_text(lines.join(random.one_of(&["\n", "\r\n"])));
+        match printed.split(' ').next() {
+            Some("line") => wrong += 1,
+            Some("sheet") => others += 1,
+            _ => tables += 1,
+        }
+    }
+    println!("{tables} tables, {wrong} wrong lines, {others} other messages");
+    assert!(tables > 0 && wrong > 0 && others > 0, "{tables} tables, {wrong} wrong lines, {others} other messages");
+}
