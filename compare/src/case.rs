@@ -1,6 +1,6 @@
 //! A prover's inputs as one value, with the lengths of the slices that its calls lend.
 
-use job::Field;
+use jobtext::Field;
 use std::fmt;
 
 /// The places of α, η, β, δ, γ among the challenges.
@@ -124,7 +124,7 @@ impl Case {
     fn fields(&self) -> Vec<Field> {
         let counts = self.lists().map(|list| (list.len() / 3) as u32);
         let mut fields = vec![Field::new("|R| |C| |X|", &self.sizes), Field::new("entries of A, B, C", &counts)];
-        for (name, list) in job::MATRICES.iter().zip(self.lists()) {
+        for (name, list) in jobtext::MATRICES.iter().zip(self.lists()) {
             fields.extend(list.chunks(3).map(|entry| Field::new(name, entry)));
         }
         fields.push(Field::new("z", &self.assignment));
@@ -145,7 +145,7 @@ impl Case {
 
     /// The bytes of the job.
     pub fn job(&self) -> Vec<u8> {
-        job::bytes(&self.job_words())
+        jobtext::bytes(&self.job_words())
     }
 }
 

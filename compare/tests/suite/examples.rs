@@ -24,7 +24,7 @@ fn examples_print_what_stands_beside_them() {
     let examples = examples();
     assert!(examples.len() >= 6, "{} examples", examples.len());
     for (name, text, expected) in examples {
-        let packed = job::pack(&text).unwrap_or_else(|error| panic!("{name}: {error}"));
+        let packed = jobtext::pack(&text).unwrap_or_else(|error| panic!("{name}: {error}"));
         assert_eq!(second::prove(&packed), expected, "{name}, the second implementation");
         assert_eq!(program::prove(&packed), expected, "{name}, the program");
     }
@@ -33,15 +33,15 @@ fn examples_print_what_stands_beside_them() {
 #[test]
 fn shown_examples_are_the_same_jobs() {
     for (name, text, _) in examples() {
-        let packed = job::pack(&text).unwrap_or_else(|error| panic!("{name}: {error}"));
-        assert_eq!(job::pack(&job::show(&packed)), Ok(packed), "{name}");
+        let packed = jobtext::pack(&text).unwrap_or_else(|error| panic!("{name}: {error}"));
+        assert_eq!(jobtext::pack(&jobtext::show(&packed)), Ok(packed), "{name}");
     }
 }
 
 /// The bytes of the words of a printed line, after its name.
 fn line_bytes(line: &str) -> Vec<u8> {
     let words = line.split(' ').skip(1).map(|word| word.parse().expect("a word"));
-    job::bytes(&words.collect::<Vec<u32>>())
+    jobtext::bytes(&words.collect::<Vec<u32>>())
 }
 
 /// The tool's record of each accepted example: the library reads the job's sizes in it, and the printed words in its sections.
@@ -50,9 +50,9 @@ fn records_of_accepted_examples_are_read() {
     let accepted = examples().into_iter().filter(|(_, _, printed)| printed.ends_with("verdict accept\n"));
     let mut count = 0;
     for (name, text, _) in accepted {
-        let packed = job::pack(&text).unwrap_or_else(|error| panic!("{name}: {error}"));
+        let packed = jobtext::pack(&text).unwrap_or_else(|error| panic!("{name}: {error}"));
         let printed = program::prove(&packed);
-        let record = job::record(&packed, &printed).unwrap_or_else(|error| panic!("{name}: {error}"));
+        let record = jobtext::record(&packed, &printed).unwrap_or_else(|error| panic!("{name}: {error}"));
         let words: Vec<u32> =
             packed.chunks(4).map(|word| u32::from_le_bytes(word.try_into().expect("words"))).collect();
         let sizes = library::read_record(&record).unwrap_or_else(|refusal| panic!("{name}: {refusal:?}"));
@@ -73,12 +73,12 @@ fn records_of_accepted_examples_are_read() {
 #[test]
 fn record_of_the_square_example() {
     let text = fs::read_to_string(folder().join("square.txt")).expect("there is the square case");
-    let packed = job::pack(&text).expect("the square case is a job");
+    let packed = jobtext::pack(&text).expect("the square case is a job");
     let sections = [4, 1, 1, 0, second::MODULUS - 1, 1, 3, 3, 9, 7, 1, 1, second::MODULUS - 1, second::MODULUS - 1, 2];
     let trailer = [0, 8, 24, 24, 36, 40, 48, 60, 60, 60, 60, 1, 2, 1, 1, 1, 1, 60];
-    let expected = job::bytes(&[&sections[..], &trailer].concat());
+    let expected = jobtext::bytes(&[&sections[..], &trailer].concat());
     assert_eq!(expected.len(), 132);
-    assert_eq!(job::record(&packed, &program::prove(&packed)), Ok(expected));
+    assert_eq!(jobtext::record(&packed, &program::prove(&packed)), Ok(expected));
 }
 
 /// The job that README.md builds step by step is that of examples/cubic.txt.
@@ -88,5 +88,5 @@ fn circuit_of_the_readme() {
     let readme = read("../README.md");
     let text = readme.split_once("cat > my.txt <<'END'\n").and_then(|(_, rest)| rest.split_once("    END\n"));
     let (text, _) = text.expect("README.md has a job");
-    assert_eq!(job::pack(text), job::pack(&read("cubic.txt")));
+    assert_eq!(jobtext::pack(text), jobtext::pack(&read("cubic.txt")));
 }

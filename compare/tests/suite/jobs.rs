@@ -17,12 +17,12 @@ const ALPHA: usize = 22;
 const BETA: usize = 26;
 const GAMMA: usize = 30;
 
-/// A job, shown as the text that the job tool takes.
+/// A job, shown as the text that jobtext takes.
 struct Job<'a>(&'a [u8]);
 
 impl fmt::Display for Job<'_> {
     fn fmt(&self, text: &mut fmt::Formatter) -> fmt::Result {
-        write!(text, "{}# {} bytes", job::show(self.0), self.0.len())
+        write!(text, "{}# {} bytes", jobtext::show(self.0), self.0.len())
     }
 }
 
@@ -41,7 +41,7 @@ fn with_words(changes: &[(usize, u32)]) -> String {
     for &(place, word) in changes {
         words[place] = word;
     }
-    compare_job(&job::bytes(&words))
+    compare_job(&jobtext::bytes(&words))
 }
 
 /// Document 01's square case, whole.
@@ -110,7 +110,7 @@ fn challenges_at_domains() {
                 let mut words = case.job_words();
                 let place = words.len() - from_end;
                 words[place] = element;
-                let refused = compare_job(&job::bytes(&words)) == format!("refused 10 {position}\n");
+                let refused = compare_job(&jobtext::bytes(&words)) == format!("refused 10 {position}\n");
                 assert_eq!(refused, exponent.is_multiple_of(2));
             }
         }
@@ -203,7 +203,7 @@ fn seeded_and_damaged() {
             let place = if random.one_in(3) { random.place(words.len()) } else { words.len() - 1 - random.place(12) };
             words[place] = random.damaged();
         }
-        let mut bytes = job::bytes(&words);
+        let mut bytes = jobtext::bytes(&words);
         if random.one_in(12) {
             bytes.truncate(random.place(bytes.len()));
         }

@@ -1,7 +1,7 @@
 //! The proved library and the programs `prove` and `sheet` beside the second implementation, on the same inputs.
 //!
 //! Every answer, every word of every lent slice and every session is compared whole. A test stops at the first difference and
-//! prints the input that shows it, a job as the text that `job pack` takes.
+//! prints the input that shows it, a job as the text that `jobtext pack` takes.
 //!
 //! What is needed first, in the repository: `rt staticlib varuna_c` makes target/staticlib/libvaruna_c.a, and
 //! `rt check prove sheet` target/bin/prove and target/bin/sheet. VARUNA_LIBRARY names another folder for the library,

@@ -72,7 +72,7 @@ struct Bytes<'a>(&'a [u8]);
 
 impl fmt::Display for Bytes<'_> {
     fn fmt(&self, text: &mut fmt::Formatter) -> fmt::Result {
-        write!(text, "{} bytes:\n{}{:?}", self.0.len(), job::show_record(self.0), self.0)
+        write!(text, "{} bytes:\n{}{:?}", self.0.len(), jobtext::show_record(self.0), self.0)
     }
 }
 

@@ -1,9 +1,7 @@
 //! Texts through the program `sheet` and through the second implementation: what is printed must be the same.
 
+use crate::program::sheet;
 use compare::random::{count, Random, NO_SIZES, SIZES};
-use std::io::Write;
-use std::path::{Path, PathBuf};
-use std::process::{Command, Stdio};
 
 /// The most bytes of a text, and the most circuits.
 const TEXT_LIMIT: usize = 2048;
@@ -16,33 +14,6 @@ const TOO_MANY: &str = "sheet takes at most 16 circuits\n";
 
 /// A circuit with six different numbers.
 const DIFFERENT: &str = "128 512 64 1000 300 7\n";
-
-/// The program's path: VARUNA_SHEET, or target/bin/sheet of the repository. A test without it fails.
-fn program() -> PathBuf {
-    let given = std::env::var_os("VARUNA_SHEET").map(PathBuf::from);
-    let path = given.unwrap_or_else(|| Path::new(env!("CARGO_MANIFEST_DIR")).join("../target/bin/sheet"));
-    assert!(
-        path.is_file(),
-        "there is no {}: make it by `rt check sheet` in the repository, or set VARUNA_SHEET to the program",
-        path.display()
-    );
-    path
-}
-
-/// What the program prints for a text. It must end well and print nothing on standard error.
-fn sheet(text: &[u8]) -> String {
-    let mut command = Command::new(program());
-    command.stdin(Stdio::piped()).stdout(Stdio::piped()).stderr(Stdio::piped());
-    let mut child = command.spawn().expect("the program starts");
-    let mut input = child.stdin.take().expect("standard input is a pipe");
-    // the program may stop reading a text that is too long, so a broken pipe is no fault
-    let _ = input.write_all(text);
-    drop(input);
-    let output = child.wait_with_output().expect("the program ends");
-    assert!(output.status.success(), "the program ended with {}", output.status);
-    assert_eq!(String::from_utf8_lossy(&output.stderr), "", "the program wrote to standard error");
-    String::from_utf8(output.stdout).expect("the program prints text")
-}
 
 /// Runs a text on both sides; what is printed is that of both.
 fn compare_text(text: impl AsRef<[u8]>) -> String {

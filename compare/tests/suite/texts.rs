@@ -14,12 +14,12 @@ fn shown_text_packs_again() {
             let place = random.place(words.len());
             words[place] = random.damaged();
         }
-        let mut bytes = job::bytes(&words);
+        let mut bytes = jobtext::bytes(&words);
         if random.one_in(3) {
             bytes.truncate(random.place(bytes.len()));
         }
         let whole = &bytes[..bytes.len() / 4 * 4];
-        assert_eq!(job::pack(&job::show(&bytes)).as_deref(), Ok(whole), "{case}");
+        assert_eq!(jobtext::pack(&jobtext::show(&bytes)).as_deref(), Ok(whole), "{case}");
         compared.one();
     }
 }
@@ -31,7 +31,7 @@ fn printed_cases_are_jobs() {
     let mut compared = Compared::default();
     for _ in 0..count(50) {
         let case = random.case(4);
-        assert_eq!(job::pack(&case.to_string()), Ok(case.job()));
+        assert_eq!(jobtext::pack(&case.to_string()), Ok(case.job()));
         compared.one();
     }
 }
