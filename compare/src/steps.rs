@@ -139,7 +139,7 @@ pub struct Pair {
 }
 
 impl Pair {
-    pub fn new() -> Pair {
+    pub fn unopened() -> Pair {
         let theirs = second::Session::from_words(&[0; SESSION_WORDS]);
         let pair = Pair { ours: library::Session::unopened(), theirs, run: Run { start: None, steps: Vec::new() } };
         pair.compare();
@@ -179,7 +179,7 @@ impl Pair {
 
     /// Sessions that have taken these steps, none of which may be refused.
     pub fn after(steps: &[Step]) -> Pair {
-        let mut pair = Pair::new();
+        let mut pair = Pair::unopened();
         steps.iter().for_each(|step| assert!(pair.take(step).is_ok(), "a good step is refused: {step:?}"));
         pair
     }

@@ -96,7 +96,7 @@ fn all_entry_counts() {
             counts[matrix] = entries;
             counts[2] = counts[2].max(counts[0].min(counts[1]));
             let case = random.case_of_counts([64, 128, 4], counts);
-            assert_eq!(case.places()[matrix] as usize, case.entries[matrix].len().div_ceil(3).next_power_of_two());
+            assert_eq!(case.places()[matrix] as usize, size);
             let steps = compare_good(&case);
             compare_openings(&mut random, &steps, &mut answers);
         }

@@ -112,7 +112,7 @@ fn small_sessions() {
         let (case, proof) = proved(random.case(3));
         let steps = Step::of_proof(&case, &proof);
         let taken = good_and_bad(&steps);
-        let mut good = Pair::new();
+        let mut good = Pair::unopened();
         for step in &steps {
             assert!(good.take(step).is_ok());
             for words in forgeries(&mut random, good.ours.words()) {

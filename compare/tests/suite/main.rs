@@ -4,8 +4,8 @@
 //! prints the input that shows it, a job as the text that `jobtext pack` takes.
 //!
 //! What is needed first, in the repository: `rt staticlib varuna_c` makes target/staticlib/libvaruna_c.a, and
-//! `rt check prove sheet` target/bin/prove and target/bin/sheet. VARUNA_LIBRARY names another folder for the library,
-//! VARUNA_PROVE and VARUNA_SHEET other programs.
+//! `rt check prove sheet` target/bin/prove and target/bin/sheet; one that is older than its sources is refused. VARUNA_LIBRARY
+//! names another folder for the library, VARUNA_PROVE and VARUNA_SHEET other programs.
 //!
 //!     cargo test --release                          one seed, under two minutes
 //!     SEED=7 COUNT=100 cargo test --release         another seed, and the random part of each test a hundred times as long

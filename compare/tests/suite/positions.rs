@@ -71,7 +71,7 @@ fn words_of_lists() {
             let answers =
                 [library::interpolate, second::interpolate].map(|call| call(1024, &bad[..1024], &mut [0; 1024]));
             assert_eq!(answers, [Err(refused); 2]);
-            assert_eq!(Pair::new().take(&Step::Open([1024; 6], bad[..1024].to_vec())), Err(refused));
+            assert_eq!(Pair::unopened().take(&Step::Open([1024; 6], bad[..1024].to_vec())), Err(refused));
         }
     }
     let answers = [library::evaluate(&words, MODULUS), second::evaluate(&words, MODULUS)];

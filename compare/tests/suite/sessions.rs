@@ -31,7 +31,7 @@ fn good_runs() {
     for round in 0..count(200) {
         let (case, proof) = proved(random.case(if round % 20 == 0 { 7 } else { 4 }));
         let steps = Step::of_proof(&case, &proof);
-        let mut pair = Pair::new();
+        let mut pair = Pair::unopened();
         for step in &steps[1..] {
             assert_eq!(pair.take(step), Err(OUT_OF_TURN));
         }
@@ -49,7 +49,7 @@ fn good_runs() {
 fn largest_run() {
     let mut random = Random::new(41);
     let sizes = [1024; 6];
-    let mut pair = Pair::new();
+    let mut pair = Pair::unopened();
     let length = lengths(sizes).map(|length| length as u32);
     let steps = [
         Step::Open(sizes, random.words(1024)),
@@ -71,7 +71,7 @@ fn damaged_at_every_word() {
     let mut refusals = [0; 12];
     for _ in 0..count(12) {
         let (case, proof) = proved(random.case(3));
-        let mut pair = Pair::new();
+        let mut pair = Pair::unopened();
         for step in Step::of_proof(&case, &proof) {
             for damaged in damages(&step) {
                 if let Err(refusal) = pair.clone().take(&damaged) {
@@ -115,7 +115,7 @@ fn random_orders() {
     for _ in 0..count(1_500) {
         let (case, proof) = proved(random.case(3));
         let steps = Step::of_proof(&case, &proof);
-        let mut pair = Pair::new();
+        let mut pair = Pair::unopened();
         for _ in 0..40 {
             let taken = pair.ours.words()[0] as usize;
             let place = if random.one_in(4) { random.place(7) } else { taken % 7 };

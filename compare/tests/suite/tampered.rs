@@ -29,7 +29,7 @@ fn tampered_proofs() {
             for word in 0..good[place].clone().words().len() {
                 let mut steps = good.clone();
                 *steps[place].words()[word] = random.word();
-                let mut pair = Pair::new();
+                let mut pair = Pair::unopened();
                 let [.., last] = steps.map(|step| pair.take(&step));
                 answers.add(&last);
             }
