@@ -1,10 +1,11 @@
 -- `verdict::denominator_value` meets its contract. Assumes nothing.
 use Rattle.field.proofs.Words.{of-result}
-use Rattle.field.specs.Element.{of, _⊕_, _⊗_, _⊖_}
+use Rattle.field.specs.Element.{Elem, of, _⊕_, _⊗_, _⊖_}
 use Rattle.protocol.specs.Checks.{denominatorValue}
 use Rattle.protocol.specs.Index.{mapIndex}
 use Rattle.protocol.specs.Meanings.{indexWords}
 use borrow.Author.Needs.{needs}
+use mathlib.Core.Path.{ap, ap₂, _∙_}
 use Rattle.verdict.proofs.denominator_value.Statement.{statement}
 use Rattle.verdict.proofs.denominator_value.Tie as tie
 
@@ -46,23 +47,16 @@ unfolding denominatorValue
 returns c q e =
     let a = c .before .before .before .before .before .before .before .before .args in
     let index = mapIndex (of {q = q}) (indexWords (a .t5)) in
-    let product = c .before .before .before .before .before .before .before .multiply in
-    let product-is = of-result (of {q = q} (a .alpha) ⊗ of (a .beta)) (product .ensures q e) in
-    let column = c .before .before .before .before .before .before .multiply2 in
-    let column-is = of-result (of {q = q} (a .alpha) ⊗ index .col) (column .ensures q e) in
-    let first = c .before .before .before .before .before .subtract in
-    let first-is = of-result (of (product .result) ⊖ of (column .result)) (first .ensures q e) in
-    let row = c .before .before .before .before .multiply3 in
-    let row-is = of-result (of {q = q} (a .beta) ⊗ index .row) (row .ensures q e) in
-    let second = c .before .before .before .subtract2 in
-    let second-is = of-result (of (first .result) ⊖ of (row .result)) (second .ensures q e) in
-    let third = c .before .before .add in
-    let third-is = of-result (of (second .result) ⊕ index .rowcol) (third .ensures q e) in
-    let scale = c .before .multiply4 in
-    let scale-is = of-result (of {q = q} (a .s .r) ⊗ of (a .s .c)) (scale .ensures q e) in
-    let value = c .multiply5 in
-    let value-is = value .ensures q e in
-    cc
+    let α : Elem q = of (a .alpha) in
+    let β : Elem q = of (a .beta) in
+    let product = of-result (α ⊗ β) (c .before .before .before .before .before .before .before .multiply .ensures q e) in
+    let column = of-result (α ⊗ index .col) (c .before .before .before .before .before .before .multiply2 .ensures q e) in
+    let first = of-result (of {q = q} _ ⊖ of _) (c .before .before .before .before .before .subtract .ensures q e) ∙ ap₂ _⊖_ product column in
+    let row = of-result (β ⊗ index .row) (c .before .before .before .before .multiply3 .ensures q e) in
+    let second = of-result (of {q = q} _ ⊖ of _) (c .before .before .before .subtract2 .ensures q e) ∙ ap₂ _⊖_ first row in
+    let third = of-result (of {q = q} _ ⊕ index .rowcol) (c .before .before .add .ensures q e) ∙ ap (λ v. v ⊕ index .rowcol) second in
+    let scale = of-result (of {q = q} (a .s .r) ⊗ of (a .s .c)) (c .before .multiply4 .ensures q e) in
+    c .multiply5 .ensures q e ∙ ap₂ (λ u v. (u ⊗ v) .word) scale third
 
 pub denominator-value-spec : {M : Type 1} → statement M
 denominator-value-spec =

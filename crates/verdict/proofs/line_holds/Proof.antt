@@ -1,10 +1,12 @@
 -- `verdict::line_holds` meets its contract. Assumes nothing.
 use Rattle.field.proofs.Words.{of-result}
-use Rattle.field.specs.Element.{of, _⊗_}
-use Rattle.protocol.specs.Checks.{mapTranscript, weighted, assignmentValue, lineLeft}
+use Rattle.field.specs.Element.{Elem, of, _⊕_, _⊗_}
+use Rattle.protocol.specs.Checks.{mapTranscript, weighted, assignmentValue, lineLeft, lineRight}
 use Rattle.protocol.specs.Meanings.{sizes, transcript}
 use borrow.Author.Needs.{needs}
-use mathlib.Core.List.{map}
+use lib.Dec.{eqb}
+use mathlib.Core.List.{List, map}
+use mathlib.Core.Path.{ap, ap₂, _∙_}
 use Rattle.verdict.proofs.line_holds.Statement.{statement}
 use Rattle.verdict.proofs.line_holds.Tie as tie
 
@@ -30,20 +32,18 @@ returns : tie.Need-returns
 unfolding lineLeft
 returns c q K Q index =
     let a = c .before .before .before .before .before .before .before .before .args in
+    let s = sizes (a .s) in
     let t = mapTranscript (of {q = q}) (transcript (a .t)) in
-    let values = c .before .before .before .before .before .weighted-sum in
-    let values-is = of-result (weighted (t .η) (t .values)) (values .ensures q (K .value)) in
-    let sum = c .before .before .before .before .weighted-sum2 in
-    let sum-is = of-result (weighted (t .η) (t .sums)) (sum .ensures q (K .value)) in
-    let z = c .before .before .before .assignment-value in
-    let z-is = of-result (assignmentValue (sizes (a .s)) (map of (a .x .now)) (t .β) (of (a .o .witness))) (z .ensures q K Q) in
-    let product = c .before .before .multiply in
-    let product-is = of-result (of {q = q} (values .result) ⊗ of (z .result)) (product .ensures q (K .value)) in
-    let left = c .before .add in
-    let left-is = left .ensures q (K .value) in
-    let right = c .line-right in
-    let right-is = right .ensures q (K .value) in
-    cc
+    let values = of-result (weighted (t .η) (t .values)) (c .before .before .before .before .before .weighted-sum .ensures q (K .value)) in
+    let sum = of-result (weighted (t .η) (t .sums)) (c .before .before .before .before .weighted-sum2 .ensures q (K .value)) in
+    let x : List (Elem q) = map of (a .x .now) in
+    let z = of-result (assignmentValue s x (t .β) (of (a .o .witness))) (c .before .before .before .assignment-value .ensures q K Q) in
+    let product = of-result (of {q = q} _ ⊗ of _) (c .before .before .multiply .ensures q (K .value)) ∙ ap₂ _⊗_ values z in
+    let left = c .before .add .ensures q (K .value) ∙ ap (λ v. (of (a .o .mask) ⊕ v) .word) product in
+    let g1 : Elem q = of (a .o .lineRemainder) in
+    let h1 : Elem q = of (a .o .lineQuotient) in
+    let right = c .line-right .ensures q (K .value) ∙ ap (λ v. (lineRight s (t .β) v g1 h1) .word) sum in
+    ap₂ eqb left right
 
 pub line-holds-spec : {M : Type 1} → statement M
 line-holds-spec =

@@ -1,10 +1,11 @@
 -- `verdict::line_right` meets its contract. Assumes nothing.
 use Rattle.domain.specs.Domain.{vanishing}
 use Rattle.field.proofs.Words.{of-result}
-use Rattle.field.specs.Element.{of, _⊕_, _⊗_}
+use Rattle.field.specs.Element.{Elem, of, _⊕_, _⊗_}
 use Rattle.field.specs.Power.{inverse}
 use Rattle.protocol.specs.Checks.{lineRight}
 use borrow.Author.Needs.{needs}
+use mathlib.Core.Path.{ap, ap₂, _∙_}
 use Rattle.verdict.proofs.line_right.Statement.{statement}
 use Rattle.verdict.proofs.line_right.Tie as tie
 
@@ -32,22 +33,18 @@ add-requires-2 c κs = search needs
 returns : tie.Need-returns
 unfolding lineRight
 returns c q e =
-    let a = c .before .before .before .before .before .before .before .args in
-    let vanish = c .before .before .before .before .before .before .vanishing-value in
-    let vanish-is = of-result (vanishing (a .s .c) (of {q = q} (a .beta))) (vanish .ensures q e) in
-    let multiple = c .before .before .before .before .before .multiply in
-    let multiple-is = of-result (of {q = q} (a .quotient) ⊗ of (vanish .result)) (multiple .ensures q e) in
-    let rest = c .before .before .before .before .multiply2 in
-    let rest-is = of-result (of {q = q} (a .beta) ⊗ of (a .remainder)) (rest .ensures q e) in
-    let inverted = c .before .before .before .invert in
-    let inverted-is = of-result (inverse (of {q = q} (a .s .c))) (inverted .ensures q e) in
-    let mean = c .before .before .multiply3 in
-    let mean-is = of-result (of {q = q} (a .sum) ⊗ of (inverted .result)) (mean .ensures q e) in
-    let two = c .before .add in
-    let two-is = of-result (of {q = q} (multiple .result) ⊕ of (rest .result)) (two .ensures q e) in
-    let three = c .add2 in
-    let three-is = three .ensures q e in
-    cc
+    let d = c .before .before .before .before .before in
+    let a = d .before .before .args in
+    let β : Elem q = of (a .beta) in
+    let h1 : Elem q = of (a .quotient) in
+    let vanish = of-result (vanishing (a .s .c) β) (d .before .vanishing-value .ensures q e) in
+    let multiple = of-result (h1 ⊗ of _) (d .multiply .ensures q e) ∙ ap (λ v. h1 ⊗ v) vanish in
+    let rest = of-result (β ⊗ of (a .remainder)) (c .before .before .before .before .multiply2 .ensures q e) in
+    let inverted = of-result (inverse (of {q = q} (a .s .c))) (c .before .before .before .invert .ensures q e) in
+    let σ : Elem q = of (a .sum) in
+    let mean = of-result (σ ⊗ of _) (c .before .before .multiply3 .ensures q e) ∙ ap (λ v. σ ⊗ v) inverted in
+    let two = of-result (of {q = q} _ ⊕ of _) (c .before .add .ensures q e) ∙ ap₂ _⊕_ multiple rest in
+    c .add2 .ensures q e ∙ ap₂ (λ u v. (u ⊕ v) .word) two mean
 
 pub line-right-spec : {M : Type 1} → statement M
 line-right-spec =

@@ -6,7 +6,8 @@ use Rattle.protocol.specs.Checks.{mapTranscript, mapOpenings, selector, matrixL
 use Rattle.protocol.specs.Meanings.{sizes, transcript, openings}
 use Rattle.protocol.specs.Three.{MatrixName, A, B, C, at}
 use borrow.Author.Needs.{needs}
-use mathlib.Core.Path.{refl}
+use lib.Dec.{eqb}
+use mathlib.Core.Path.{refl, ap, ap₂, _∙_}
 use Rattle.verdict.proofs.matrix_holds.Statement.{statement}
 use Rattle.verdict.proofs.matrix_holds.Tie as tie
 
@@ -46,29 +47,23 @@ multiply-requires c κs = search needs
 returns : tie.Need-returns
 unfolding joinedLeft joinedRight
 returns c q e x =
-    let a = c .before .before .before .before .before .before .before .before .before .before .before .before .before .before .before .args in
+    let d = c .before .before .before .before .before in
+    let a = d .before .before .before .before .before .before .before .before .before .before .args in
     let s = sizes (a .s) in
     let t = mapTranscript (of {q = q}) (transcript (a .t)) in
     let o = mapOpenings (of {q = q}) (openings (a .o) (a .t5)) in
     let term : MatrixName → Elem q = λ M.
     at (t .δ) M ⊗ selector s M (t .γ) ⊗ matrixLeft s t M (at (o .index) M) (at (o .matrixRemainders) M) in
-    let first = c .before .before .before .before .before .before .before .before .before .matrix-term in
-    let first-is = of-result (term A) (first .ensures q e A refl refl) in
-    let second = c .before .before .before .before .before .before .before .matrix-term2 in
-    let second-is = of-result (term B) (second .ensures q e B refl refl) in
-    let third = c .before .before .before .before .before .matrix-term3 in
-    let third-is = of-result (term C) (third .ensures q e C refl refl) in
-    let two = c .before .before .before .before .add in
-    let two-is = of-result (of (first .result) ⊕ of (second .result)) (two .ensures q e) in
-    let left = c .before .before .before .add2 in
-    let left-is = left .ensures q e in
+    let first = of-result (term A) (d .before .before .before .before .matrix-term .ensures q e A refl refl) in
+    let second = of-result (term B) (d .before .before .matrix-term2 .ensures q e B refl refl) in
+    let third = of-result (term C) (d .matrix-term3 .ensures q e C refl refl) in
+    let two = of-result (of {q = q} _ ⊕ of _) (c .before .before .before .before .add .ensures q e) ∙ ap₂ _⊕_ first second in
+    let left = c .before .before .before .add2 .ensures q e ∙ ap₂ (λ u v. (u ⊕ v) .word) two third in
     let n = c .before .before .largest in
-    let n-is = n .ensures in
-    let vanish = c .before .vanishing-value in
-    let vanish-is = of-result (vanishing (n .result) (t .γ)) (vanish .ensures q e) in
-    let right = c .multiply in
-    let right-is = right .ensures q e in
-    cc
+    let vanishing-is = of-result (vanishing (n .result) (t .γ)) (c .before .vanishing-value .ensures q e) in
+    let vanish = vanishing-is ∙ ap (λ k. vanishing k (t .γ)) (n .ensures) in
+    let right = c .multiply .ensures q e ∙ ap (λ v. (o .joinedQuotient ⊗ v) .word) vanish in
+    ap₂ eqb left right
 
 pub matrix-holds-spec : {M : Type 1} → statement M
 matrix-holds-spec =

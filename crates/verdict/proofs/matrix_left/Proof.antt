@@ -1,6 +1,6 @@
 -- `verdict::matrix_left` meets its contract. Assumes nothing.
 use Rattle.field.proofs.Words.{of-result}
-use Rattle.field.specs.Element.{of, _⊕_, _⊗_}
+use Rattle.field.specs.Element.{of, _⊕_, _⊗_, _⊖_}
 use Rattle.field.specs.Power.{inverse}
 use Rattle.protocol.proofs.ThreeLaws.{at-each}
 use Rattle.protocol.specs.Checks.{mapTranscript, numeratorValue, denominatorValue, matrixLeft}
@@ -8,6 +8,7 @@ use Rattle.protocol.specs.Index.{mapIndex}
 use Rattle.protocol.specs.Meanings.{three, sizes, transcript, indexWords}
 use Rattle.protocol.specs.Three.{at}
 use borrow.Author.Needs.{needs}
+use mathlib.Core.Path.{sym, ap, ap₂, _∙_}
 use Rattle.verdict.proofs.matrix_left.Statement.{statement}
 use Rattle.verdict.proofs.matrix_left.Tie as tie
 
@@ -38,28 +39,21 @@ subtract-requires c κs = search needs
 returns : tie.Need-returns
 unfolding matrixLeft
 returns c q e M k v =
-    let a = c .before .before .before .before .before .before .before .before .args in
+    let d = c .before .before .before .before .before .before in
+    let a = d .before .before .args in
     let s = sizes (a .s) in
     let t = mapTranscript (of {q = q}) (transcript (a .t)) in
     let index = mapIndex (of {q = q}) (indexWords (a .index)) in
-    let numerator = c .before .before .before .before .before .before .before .numerator-value in
-    let numerator-is = of-result (numeratorValue s (t .α) (t .β) index) (numerator .ensures q e) in
-    let denominator = c .before .before .before .before .before .before .denominator-value in
-    let denominator-is = of-result (denominatorValue s (t .α) (t .β) index) (denominator .ensures q e) in
-    let inverted = c .before .before .before .before .before .invert in
-    let inverted-is = of-result (inverse (of {q = q} (a .size))) (inverted .ensures q e) in
-    let mean = c .before .before .before .before .multiply in
-    let mean-is = of-result (of {q = q} (a .value) ⊗ of (inverted .result)) (mean .ensures q e) in
-    let value-is = at-each (λ N. of {q = q} (at (three (a .t .values)) N)) M in
-    let product = c .before .before .before .multiply2 in
-    let product-is = of-result (t .γ ⊗ of (a .remainder)) (product .ensures q e) in
-    let ratio = c .before .before .add in
-    let ratio-is = of-result (of (product .result) ⊕ of (mean .result)) (ratio .ensures q e) in
-    let other = c .before .multiply3 in
-    let other-is = of-result (of (denominator .result) ⊗ of (ratio .result)) (other .ensures q e) in
-    let left = c .subtract in
-    let left-is = left .ensures q e in
-    cc
+    let numerator = of-result (numeratorValue s (t .α) (t .β) index) (d .before .numerator-value .ensures q e) in
+    let denominator = of-result (denominatorValue s (t .α) (t .β) index) (d .denominator-value .ensures q e) in
+    let one-over = of-result (inverse (of {q = q} (a .size))) (c .before .before .before .before .before .invert .ensures q e) in
+    let inverted = one-over ∙ ap (λ n. inverse (of n)) (sym k) in
+    let value = ap (of {q = q}) (sym v) ∙ sym (at-each (λ N. of {q = q} (at (three (a .t .values)) N)) M) in
+    let mean = of-result (of {q = q} (a .value) ⊗ of _) (c .before .before .before .before .multiply .ensures q e) ∙ ap₂ _⊗_ value inverted in
+    let product = of-result (t .γ ⊗ of (a .remainder)) (c .before .before .before .multiply2 .ensures q e) in
+    let ratio = of-result (of {q = q} _ ⊕ of _) (c .before .before .add .ensures q e) ∙ ap₂ _⊕_ product mean in
+    let other = of-result (of {q = q} _ ⊗ of _) (c .before .multiply3 .ensures q e) ∙ ap₂ _⊗_ denominator ratio in
+    c .subtract .ensures q e ∙ ap₂ (λ u w. (u ⊖ w) .word) numerator other
 
 pub matrix-left-spec : {M : Type 1} → statement M
 matrix-left-spec =

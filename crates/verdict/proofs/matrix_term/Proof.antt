@@ -5,6 +5,7 @@ use Rattle.protocol.specs.Checks.{mapTranscript, selector, matrixLeft}
 use Rattle.protocol.specs.Index.{mapIndex}
 use Rattle.protocol.specs.Meanings.{sizes, transcript, indexWords}
 use borrow.Author.Needs.{needs}
+use mathlib.Core.Path.{ap, ap₂, _∙_}
 use Rattle.verdict.proofs.matrix_term.Statement.{statement}
 use Rattle.verdict.proofs.matrix_term.Tie as tie
 
@@ -26,15 +27,10 @@ returns c q e M k v =
     let s = sizes (a .s) in
     let t = mapTranscript (of {q = q}) (transcript (a .t)) in
     let index = mapIndex (of {q = q}) (indexWords (a .index)) in
-    let share = c .before .before .before .selector in
-    let share-is = of-result (selector s M (t .γ)) (share .ensures q e M k) in
-    let weight = c .before .before .multiply in
-    let weight-is = of-result (of {q = q} (a .delta) ⊗ of (share .result)) (weight .ensures q e) in
-    let left = c .before .matrix-left in
-    let left-is = of-result (matrixLeft s t M index (of (a .remainder))) (left .ensures q e M k v) in
-    let term = c .multiply2 in
-    let term-is = term .ensures q e in
-    cc
+    let share = of-result (selector s M (t .γ)) (c .before .before .before .selector .ensures q e M k) in
+    let weight = of-result (of {q = q} (a .delta) ⊗ of _) (c .before .before .multiply .ensures q e) ∙ ap (λ u. of (a .delta) ⊗ u) share in
+    let left = of-result (matrixLeft s t M index (of (a .remainder))) (c .before .matrix-left .ensures q e M k v) in
+    c .multiply2 .ensures q e ∙ ap₂ (λ u w. (u ⊗ w) .word) weight left
 
 pub matrix-term-spec : {M : Type 1} → statement M
 matrix-term-spec =

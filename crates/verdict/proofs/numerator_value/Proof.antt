@@ -3,7 +3,10 @@ use Rattle.domain.specs.Domain.{vanishing}
 use Rattle.field.proofs.Words.{of-result}
 use Rattle.field.specs.Element.{of, _⊗_}
 use Rattle.protocol.specs.Checks.{numeratorValue}
+use Rattle.protocol.specs.Index.{mapIndex}
+use Rattle.protocol.specs.Meanings.{indexWords}
 use borrow.Author.Needs.{needs}
+use mathlib.Core.Path.{ap, ap₂, _∙_}
 use Rattle.verdict.proofs.numerator_value.Statement.{statement}
 use Rattle.verdict.proofs.numerator_value.Tie as tie
 
@@ -26,15 +29,10 @@ returns : tie.Need-returns
 unfolding numeratorValue
 returns c q e =
     let a = c .before .before .before .before .args in
-    let rows = c .before .before .before .vanishing-value in
-    let rows-is = of-result (vanishing (a .s .r) (of {q = q} (a .alpha))) (rows .ensures q e) in
-    let columns = c .before .before .vanishing-value2 in
-    let columns-is = of-result (vanishing (a .s .c) (of {q = q} (a .beta))) (columns .ensures q e) in
-    let product = c .before .multiply in
-    let product-is = of-result (of (rows .result) ⊗ of (columns .result)) (product .ensures q e) in
-    let value = c .multiply2 in
-    let value-is = value .ensures q e in
-    cc
+    let rows = of-result (vanishing (a .s .r) (of {q = q} (a .alpha))) (c .before .before .before .vanishing-value .ensures q e) in
+    let columns = of-result (vanishing (a .s .c) (of {q = q} (a .beta))) (c .before .before .vanishing-value2 .ensures q e) in
+    let product = of-result (of {q = q} _ ⊗ of _) (c .before .multiply .ensures q e) ∙ ap₂ _⊗_ rows columns in
+    c .multiply2 .ensures q e ∙ ap (λ v. (v ⊗ mapIndex of (indexWords (a .t5)) .rowcolval) .word) product
 
 pub numerator-value-spec : {M : Type 1} → statement M
 numerator-value-spec =

@@ -1,9 +1,11 @@
 -- `verdict::row_holds` meets its contract. Assumes nothing.
 use Rattle.domain.specs.Domain.{vanishing}
 use Rattle.field.proofs.Words.{of-result}
-use Rattle.field.specs.Element.{of, _⊗_}
+use Rattle.field.specs.Element.{of, _⊗_, _⊖_}
 use Rattle.protocol.specs.Checks.{rowLeft, rowRight}
 use borrow.Author.Needs.{needs}
+use lib.Dec.{eqb}
+use mathlib.Core.Path.{ap, ap₂, _∙_}
 use Rattle.verdict.proofs.row_holds.Statement.{statement}
 use Rattle.verdict.proofs.row_holds.Tie as tie
 
@@ -23,15 +25,11 @@ returns : tie.Need-returns
 unfolding rowLeft rowRight
 returns c q e x index =
     let a = c .before .before .before .before .before .args in
-    let product = c .before .before .before .multiply in
-    let product-is = of-result (of {q = q} (a .t .sums .a) ⊗ of (a .t .sums .b)) (product .ensures q e) in
-    let left = c .before .before .subtract in
-    let left-is = left .ensures q e in
-    let vanish = c .before .vanishing-value in
-    let vanish-is = of-result (vanishing (a .s .r) (of {q = q} (a .t .alpha))) (vanish .ensures q e) in
-    let right = c .multiply2 in
-    let right-is = right .ensures q e in
-    cc
+    let product = of-result (of {q = q} (a .t .sums .a) ⊗ of (a .t .sums .b)) (c .before .before .before .multiply .ensures q e) in
+    let left = c .before .before .subtract .ensures q e ∙ ap (λ v. (v ⊖ of (a .t .sums .c)) .word) product in
+    let vanish = of-result (vanishing (a .s .r) (of {q = q} (a .t .alpha))) (c .before .vanishing-value .ensures q e) in
+    let right = c .multiply2 .ensures q e ∙ ap (λ v. (of (a .o .rowQuotient) ⊗ v) .word) vanish in
+    ap₂ eqb left right
 
 pub row-holds-spec : {M : Type 1} → statement M
 row-holds-spec =

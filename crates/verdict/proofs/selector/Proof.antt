@@ -1,10 +1,11 @@
 -- `verdict::selector` meets its contract. Assumes nothing.
 use Rattle.domain.specs.Domain.{vanishing}
 use Rattle.field.proofs.Words.{of-result}
-use Rattle.field.specs.Element.{of, _⊗_}
-use Rattle.field.specs.Power.{inverse}
+use Rattle.field.specs.Element.{Elem, of, _⊗_}
+use Rattle.field.specs.Power.{inverse, _⊘_}
 use Rattle.protocol.specs.Checks.{selector}
 use borrow.Author.Needs.{needs}
+use mathlib.Core.Path.{sym, ap, ap₂, _∙_}
 use Rattle.verdict.proofs.selector.Statement.{statement}
 use Rattle.verdict.proofs.selector.Tie as tie
 
@@ -31,23 +32,18 @@ multiply-requires-3 c κs = search needs
 
 returns : tie.Need-returns
 unfolding selector
-returns c q e M k =
+returns c q e M size =
     let a = c .before .before .before .before .before .before .before .args in
+    let γ : Elem q = of (a .gamma) in
     let n = c .before .before .before .before .before .before .largest in
-    let n-is = n .ensures in
-    let all = c .before .before .before .before .before .vanishing-value in
-    let all-is = of-result (vanishing (n .result) (of {q = q} (a .gamma))) (all .ensures q e) in
-    let dividend = c .before .before .before .before .multiply in
-    let dividend-is = of-result (of {q = q} (a .size) ⊗ of (all .result)) (dividend .ensures q e) in
-    let own = c .before .before .before .vanishing-value2 in
-    let own-is = of-result (vanishing (a .size) (of {q = q} (a .gamma))) (own .ensures q e) in
-    let divisor = c .before .before .multiply2 in
-    let divisor-is = of-result (of {q = q} (n .result) ⊗ of (own .result)) (divisor .ensures q e) in
-    let inverted = c .before .invert in
-    let inverted-is = of-result (inverse (of {q = q} (divisor .result))) (inverted .ensures q e) in
-    let quotient = c .multiply3 in
-    let quotient-is = quotient .ensures q e in
-    cc
+    let all = of-result (vanishing (n .result) γ) (c .before .before .before .before .before .vanishing-value .ensures q e) in
+    let k : Elem q = of (a .size) in
+    let dividend = of-result (k ⊗ of _) (c .before .before .before .before .multiply .ensures q e) ∙ ap (λ v. k ⊗ v) all in
+    let own = of-result (vanishing (a .size) γ) (c .before .before .before .vanishing-value2 .ensures q e) in
+    let divisor = of-result (of {q = q} (n .result) ⊗ of _) (c .before .before .multiply2 .ensures q e) ∙ ap (λ v. of (n .result) ⊗ v) own in
+    let inverted = of-result (inverse (of {q = q} _)) (c .before .invert .ensures q e) ∙ ap inverse divisor in
+    c .multiply3 .ensures q e ∙ ap₂ (λ u v. (u ⊗ v) .word) dividend inverted
+    ∙ ap₂ (λ l m. (of m ⊗ vanishing l γ ⊘ (of l ⊗ vanishing m γ)) .word) (n .ensures) (sym size)
 
 pub selector-spec : {M : Type 1} → statement M
 selector-spec =

@@ -3,6 +3,7 @@ use Rattle.field.proofs.Words.{of-result}
 use Rattle.field.specs.Element.{of, _⊕_, _⊗_}
 use Rattle.protocol.specs.Checks.{weighted}
 use borrow.Author.Needs.{needs}
+use mathlib.Core.Path.{ap₂, _∙_}
 use Rattle.verdict.proofs.weighted_sum.Statement.{statement}
 use Rattle.verdict.proofs.weighted_sum.Tie as tie
 
@@ -25,17 +26,11 @@ returns : tie.Need-returns
 unfolding weighted
 returns c q e =
     let a = c .before .before .before .before .before .args in
-    let first = c .before .before .before .before .multiply in
-    let first-is = of-result (of {q = q} (a .eta .a) ⊗ of (a .v .a)) (first .ensures q e) in
-    let second = c .before .before .before .multiply2 in
-    let second-is = of-result (of {q = q} (a .eta .b) ⊗ of (a .v .b)) (second .ensures q e) in
-    let third = c .before .before .multiply3 in
-    let third-is = of-result (of {q = q} (a .eta .c) ⊗ of (a .v .c)) (third .ensures q e) in
-    let two = c .before .add in
-    let two-is = of-result (of (first .result) ⊕ of (second .result)) (two .ensures q e) in
-    let three = c .add2 in
-    let three-is = three .ensures q e in
-    cc
+    let first = of-result (of {q = q} (a .eta .a) ⊗ of (a .v .a)) (c .before .before .before .before .multiply .ensures q e) in
+    let second = of-result (of {q = q} (a .eta .b) ⊗ of (a .v .b)) (c .before .before .before .multiply2 .ensures q e) in
+    let third = of-result (of {q = q} (a .eta .c) ⊗ of (a .v .c)) (c .before .before .multiply3 .ensures q e) in
+    let two = of-result (of {q = q} _ ⊕ of _) (c .before .add .ensures q e) ∙ ap₂ _⊕_ first second in
+    c .add2 .ensures q e ∙ ap₂ (λ u v. (u ⊕ v) .word) two third
 
 pub weighted-sum-spec : {M : Type 1} → statement M
 weighted-sum-spec =
