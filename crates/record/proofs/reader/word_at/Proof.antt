@@ -1,12 +1,19 @@
 -- `record::reader::word_at` meets its contract. Assumes nothing.
-use mathlib.Core.Path.{_≡_, ap}
-use Prim.Native.Nat.{_+_, _*_}
-use native.Mathlib.Omega.{arith}
+use mathlib.Core.Path.{_≡_, sym, ap, _∙_}
+use mathlib.Core.List.{List}
+use Prim.Native.Nat.{ℕ, _+_, _*_}
+use native.Mathlib.Nat.{add-zero}
 use lib.ListN.{getD}
 use borrow.Author.Needs.{needs}
 use Rattle.protocol.specs.Record.{wordAt}
 use Rattle.record.proofs.reader.word_at.Statement.{statement}
 use Rattle.record.proofs.reader.word_at.Tie as tie
+
+-- the word that four bytes are
+four-bytes : (bytes : List ℕ) (i : ℕ) {a b c d : ℕ} → a ≡ getD bytes (4 * i) 0 → b ≡ getD bytes (4 * i + 1) 0 → c ≡ getD bytes (4 * i + 2) 0
+    → d ≡ getD bytes (4 * i + 3) 0 → a + 256 * b + 65536 * c + 16777216 * d ≡ wordAt bytes i
+unfolding wordAt
+four-bytes bytes i e f g h = let first = e ∙ ap (λ n. getD bytes n 0) (sym (add-zero (4 * i))) in cc
 
 mul-at : tie.Need-mul-at
 mul-at c = search needs
@@ -63,14 +70,12 @@ add-result-3 : tie.Need-add-result-3
 add-result-3 c = search needs
 
 returns : tie.Need-returns
-unfolding wordAt
 returns c =
     let d = c .before .before in
     let b = d .before .before in
     let a = b .before .before in
     let s = a .before .before .before .args in
-    let first : getD (s .bytes .now) (4 * s .i + 0) 0 ≡ getD (s .bytes .now) (4 * s .i) 0 = ap (λ n. getD (s .bytes .now) n 0) (omega arith) in
-    cc (first, a .wide .ensures .0, b .wide2 .ensures .0, d .wide3 .ensures .0, c .wide4 .ensures .0)
+    four-bytes (s .bytes .now) (s .i) (a .wide .ensures .0) (b .wide2 .ensures .0) (d .wide3 .ensures .0) (c .wide4 .ensures .0)
 
 pub word-at-spec : {M : Type 1} → statement M
 word-at-spec =
