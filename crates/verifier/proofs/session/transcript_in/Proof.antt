@@ -1,8 +1,19 @@
 -- `verifier::session::transcript_in` meets its contract. Assumes nothing.
-use Rattle.verifier.specs.Session.{transcriptOf}
+use mathlib.Core.Path.{_≡_}
+use mathlib.Core.List.{List}
+use Prim.Native.Nat.{ℕ}
+use lib.ListN.{getD}
+use Rattle.protocol.specs.Three.{Three}
+use Rattle.verifier.specs.Session.{threeAt, transcriptOf}
 use borrow.Author.Needs.{needs}
 use Rattle.verifier.proofs.session.transcript_in.Statement.{statement}
 use Rattle.verifier.proofs.session.transcript_in.Tie as tie
+
+-- the transcript, from its triples
+transcript-of : (l : List ℕ) {σ η ω δ : Three ℕ} → σ ≡ threeAt l 1032 → η ≡ threeAt l 1035 → ω ≡ threeAt l 1039 → δ ≡ threeAt l 1042
+    → record { α = getD l 1031 0; sums = σ; η = η; β = getD l 1038 0; values = ω; δ = δ; γ = getD l 1045 0 } ≡ transcriptOf l
+unfolding transcriptOf
+transcript-of l sums etas values deltas = cc
 
 element-copy-out-t4 : tie.Need-element-copy-out-t4
 element-copy-out-t4 c = search needs
@@ -50,11 +61,11 @@ element-copy-out-t22 : tie.Need-element-copy-out-t22
 element-copy-out-t22 c = search needs
 
 returns : tie.Need-returns
-unfolding transcriptOf
 returns c =
     let at-γ = c .before in
     let at-β = at-γ .before .before .before in
-    cc (at-γ .triple-at4 .ensures, at-γ .before .triple-at3 .ensures, at-β .triple-at2 .ensures, at-β .before .triple-at .ensures)
+    transcript-of (at-β .before .before .before .args .words .now) (at-β .before .triple-at .ensures) (at-β .triple-at2 .ensures)
+    (at-γ .before .triple-at3 .ensures) (at-γ .triple-at4 .ensures)
 
 pub transcript-in-spec : {M : Type 1} → statement M
 transcript-in-spec =
