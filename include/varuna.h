@@ -86,8 +86,8 @@ extern "C" {
 /* The version of what this file declares. The first number rises when a program that used the calls as described here has to change, the
  * second when calls or constants are added, the third when only text, speed or stack change. The archive belongs to the file it came with
  * and holds no version of its own. */
-#define VARUNA_VERSION "1.0.0"
-#define VARUNA_VERSION_MAJOR 1
+#define VARUNA_VERSION "2.0.0"
+#define VARUNA_VERSION_MAJOR 2
 #define VARUNA_VERSION_MINOR 0
 #define VARUNA_VERSION_PATCH 0
 
@@ -148,6 +148,7 @@ extern "C" {
 #define VARUNA_REFUSED_ASSIGNMENT 9 /* z fails a row: the lowest such row */
 #define VARUNA_REFUSED_CHALLENGE 10 /* a challenge in its forbidden domain: 0 for alpha, 1 for beta, 2 for gamma */
 #define VARUNA_REFUSED_DECLARED 11  /* a declared length above the table of messages: which one of its step */
+#define VARUNA_REFUSED_INVERSE 12   /* the inverse of 0; position 0 */
 
 /* Verdicts, and what stands where there is none: a variable that holds 0 is no Accept. A proof that fails several checks fails the first of
  * row, line, matrix. */
@@ -167,7 +168,7 @@ uint32_t varuna_multiply(uint32_t a, uint32_t b, uint32_t *result, size_t *posit
 /* *result = a to the power n, for every n; n is no field word. Refusal 6. */
 uint32_t varuna_power(uint32_t a, uint32_t n, uint32_t *result, size_t *position);
 
-/* *result = 1/a, and 0 for 0. Refusal 6. */
+/* *result = 1/a, for any a but 0. Refusals 6, 12. */
 uint32_t varuna_inverse(uint32_t a, uint32_t *result, size_t *position);
 
 /* Domains and polynomials. */

@@ -43,9 +43,9 @@ impl Element {
         result
     }
 
-    /// By Fermat's little theorem; the inverse of 0 is 0.
-    pub fn inverse(self) -> Element {
-        self.power(MODULUS - 2)
+    /// By Fermat's little theorem; 0 has none.
+    pub fn inverse(self) -> Option<Element> {
+        (self != Element::ZERO).then(|| self.power(MODULUS - 2))
     }
 
     fn reduced(number: u64) -> Element {
@@ -78,7 +78,7 @@ impl Div for Element {
     type Output = Element;
     #[allow(clippy::suspicious_arithmetic_impl)] // division is the product with the inverse
     fn div(self, other: Element) -> Element {
-        self * other.inverse()
+        self * other.inverse().expect("no divisor is 0")
     }
 }
 
@@ -127,5 +127,5 @@ pub fn power(a: u32, exponent: u32) -> Result<u32, Refusal> {
 
 pub fn inverse(a: u32) -> Result<u32, Refusal> {
     refusal::words([a])?;
-    Ok(Element::new(a).inverse().word())
+    refusal::inverse(Element::new(a).inverse()).map(Element::word)
 }

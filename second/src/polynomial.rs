@@ -80,7 +80,7 @@ pub(crate) fn divided_by_vanishing(polynomial: &[Element], domain: &Domain) -> (
 /// and each other one as a times the one above.
 pub(crate) fn interpolation(domain: &Domain, values: &[Element]) -> Polynomial {
     let mut result = vec![Element::ZERO; domain.size()];
-    let scale = domain.count().inverse();
+    let scale = Element::ONE / domain.count();
     for (&element, &value) in domain.elements().iter().zip(values) {
         let mut term = value * element * scale;
         for place in result.iter_mut().rev() {

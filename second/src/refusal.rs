@@ -75,6 +75,11 @@ pub(crate) fn words(words: impl IntoIterator<Item = u32>) -> Result<(), Refusal>
     refuse_at(6, words.into_iter().position(|word| word >= MODULUS))
 }
 
+/// 12, after the words: an inverse asked of 0.
+pub(crate) fn inverse(found: Option<Element>) -> Result<Element, Refusal> {
+    found.ok_or(Refusal { number: 12, position: 0 })
+}
+
 /// 7: an entry with a row or column past its domain, with value 0, or not above the entry before it in its matrix.
 pub(crate) fn entries(sizes: [u32; 3], lists: [&[u32]; 3]) -> Result<(), Refusal> {
     let mut faults = Vec::new();

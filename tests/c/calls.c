@@ -51,14 +51,14 @@ static void test_constants(void)
     static const uint32_t refusals[] = {
         VARUNA_DONE,           VARUNA_REFUSED_TURN, VARUNA_REFUSED_END,   VARUNA_REFUSED_TRAILER, VARUNA_REFUSED_SIZE,
         VARUNA_REFUSED_LENGTH, VARUNA_REFUSED_WORD, VARUNA_REFUSED_ENTRY, VARUNA_REFUSED_MASK,    VARUNA_REFUSED_ASSIGNMENT,
-        VARUNA_REFUSED_CHALLENGE, VARUNA_REFUSED_DECLARED,
+        VARUNA_REFUSED_CHALLENGE, VARUNA_REFUSED_DECLARED, VARUNA_REFUSED_INVERSE,
     };
     static const uint32_t sections[VARUNA_SECTIONS] = {
         VARUNA_SECTION_W, VARUNA_SECTION_M,  VARUNA_SECTION_H0, VARUNA_SECTION_S,  VARUNA_SECTION_G1, VARUNA_SECTION_H1,
         VARUNA_SECTION_O, VARUNA_SECTION_GA, VARUNA_SECTION_GB, VARUNA_SECTION_GC, VARUNA_SECTION_H2,
     };
     char version[20];
-    int in_order = COUNT(refusals) == 12;
+    int in_order = COUNT(refusals) == 13;
     for (uint32_t i = 0; i < COUNT(refusals); i++)
         in_order = in_order && refusals[i] == i;
     test("the numbers of refusals", in_order);
@@ -84,12 +84,17 @@ static int gives_word(operation f, uint32_t a, uint32_t b, uint32_t expected)
     return is_done(number, position) && result == expected;
 }
 
-static int refuses_word(operation f, uint32_t a, uint32_t b, size_t expected)
+static int refuses_as(operation f, uint32_t a, uint32_t b, uint32_t expected_number, size_t expected_position)
 {
     uint32_t result = 77;
     size_t position = NOWHERE;
     uint32_t number = f(a, b, &result, &position);
-    return is_refused(number, position, VARUNA_REFUSED_WORD, expected) && result == 77;
+    return is_refused(number, position, expected_number, expected_position) && result == 77;
+}
+
+static int refuses_word(operation f, uint32_t a, uint32_t b, size_t expected)
+{
+    return refuses_as(f, a, b, VARUNA_REFUSED_WORD, expected);
 }
 
 static uint32_t inverse_of(uint32_t a, uint32_t unused, uint32_t *result, size_t *position)
@@ -108,8 +113,9 @@ static void test_words(void)
     test("multiply refuses word p", refuses_word(varuna_multiply, P, 1, 0));
     test("power", gives_word(varuna_power, 3, 4, 81) && gives_word(varuna_power, 2, UINT32_MAX, 1252951665));
     test("power refuses word p", refuses_word(varuna_power, P, 1, 0));
-    test("inverse", gives_word(inverse_of, 2, 0, 1006632961) && gives_word(inverse_of, 0, 0, 0));
+    test("inverse", gives_word(inverse_of, 2, 0, 1006632961) && gives_word(inverse_of, 1, 0, 1) && gives_word(inverse_of, P - 1, 0, P - 1));
     test("inverse refuses word p", refuses_word(inverse_of, P, 0, 0));
+    test("inverse refuses 0", refuses_as(inverse_of, 0, 0, VARUNA_REFUSED_INVERSE, 0));
 }
 
 /* Domains and polynomials. */

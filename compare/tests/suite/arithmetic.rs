@@ -34,6 +34,34 @@ fn words() {
 }
 
 #[test]
+fn inverses() {
+    let refused = |number| Err(Refusal { number, position: 0 });
+    let edges = [
+        (0, refused(12)),
+        (1, Ok(1)),
+        (2, Ok(1_006_632_961)),
+        (MODULUS - 1, Ok(MODULUS - 1)),
+        (MODULUS, refused(6)),
+        (MODULUS + 1, refused(6)),
+        (2 * MODULUS, refused(6)),
+        (u32::MAX, refused(6)),
+    ];
+    for (a, expected) in edges {
+        assert_eq!(library::inverse(a), expected, "inverse {a}");
+        assert_eq!(second::inverse(a), expected, "inverse {a}, second implementation");
+    }
+    let mut random = Random::new(5);
+    let mut compared = Compared::default();
+    for _ in 0..count(5_000) {
+        let a = 1 + random.place(MODULUS as usize - 1) as u32;
+        let inverse = library::inverse(a);
+        assert_eq!(inverse, second::inverse(a), "inverse {a}");
+        assert_eq!(library::multiply(a, inverse.unwrap()), Ok(1), "{a} times its inverse");
+        compared.one();
+    }
+}
+
+#[test]
 fn powers() {
     let exponents =
         [0, 1, 2, 3, MODULUS - 3, MODULUS - 2, MODULUS - 1, MODULUS, 1 << 27, 1 << 31, u32::MAX - 1, u32::MAX];

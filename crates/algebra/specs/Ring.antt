@@ -22,8 +22,9 @@ pub record CommRing (A : Type 0) : Type 0 where
   pub mul-add : (a b c : A) → a ⊗ (b ⊕ c) ≡ a ⊗ b ⊕ a ⊗ c
 
 pub record IsField {A : Type 0} (R : CommRing A) : Type 0 where
-  pub inverse : A → A
-  pub mul-inverse : (a : A) → a ≢ R .𝟘 → R ._⊗_ a (inverse a) ≡ R .𝟙
+  -- 1/a, said of every a but 0
+  pub reciprocal : A → A
+  pub mul-reciprocal : (a : A) → a ≢ R .𝟘 → R ._⊗_ a (reciprocal a) ≡ R .𝟙
   pub one-not-zero : R .𝟙 ≢ R .𝟘
 
 module _ {A : Type 0} (R : CommRing A) where

@@ -44,6 +44,6 @@ module _ {q : Prime} (Q : Qualifies q) (n : ℕ) (s : isSize n ≡ true) where
       let word : r ≡ x .word = made ∙ ap₂ (λ (a b : Elem q). (a ⊕ b) .word) (element-at m 0) (element-at m n) in
       same-test _ _
       (λ h.
-      let zero : x ≡ 𝟘 = no-zero-divisors q (of n) x (sym sum ∙ equal-true _ 𝟘 h) (size-not-zero Q n s) in
+      let zero : x ≡ 𝟘 = no-zero-divisors q (of n) x (sym sum ∙ equal-true _ 𝟘 h) (size-not-zero n s) in
       eq-eqb r 0 (word ∙ ap (λ (a : Elem q). a .word) zero ∙ zero-word q))
       (λ h. true-equal _ 𝟘 (sum ∙ ap (λ y. of n ⊗ y) (word-zero x (sym word ∙ eqb-true r 0 h)) ∙ mul-zero (primeRing q) (of n)))

@@ -14,7 +14,7 @@ use Rattle.algebra.proofs.Counting.{append-all}
 use Rattle.field.specs.Prime.{Prime}
 use Rattle.field.specs.Element.{of}
 use Rattle.domain.specs.Size.{maxSize, isSize, sizeFor}
-use Rattle.domain.proofs.SizeLaws.{sizeFor-is-size, max-is-size}
+use Rattle.domain.proofs.SizeLaws.{sizeFor-is-size, largest-is-size}
 use Rattle.protocol.specs.Circuit.{Entry, Circuit, sizesOf, largest}
 use Rattle.protocol.specs.Refusals.{Refusal, first, refuse, sizeTests, fits, rises, entryTestsAfter, entryTests}
 use Rattle.protocol.specs.Refusals.{sizeRefusal, listRefusal, wordRefusal, entryRefusal, maskRefusal, assignmentRefusal, challengeRefusal}
@@ -135,7 +135,7 @@ prover-words p start z mask m challenges =
 -- K is a size
 pub larger-is-size : (l m n : ℕ) → isSize (max (sizeFor l) (max (sizeFor m) (sizeFor n))) ≡ true
 larger-is-size l m n =
-    max-is-size (sizeFor l) (max (sizeFor m) (sizeFor n)) (sizeFor-is-size l) (max-is-size (sizeFor m) (sizeFor n) (sizeFor-is-size m) (sizeFor-is-size n))
+    largest-is-size (sizeFor l) (sizeFor m) (sizeFor n) (sizeFor-is-size l) (sizeFor-is-size m) (sizeFor-is-size n)
 
 -- entries that pass 7 are within their matrix
 module _ (k : Circuit) where

@@ -14,9 +14,9 @@ use Rattle.algebra.proofs.RingLaws.{mul-zero, zero-add}
 use Rattle.algebra.proofs.Solver.{_:*_, :-_, :1, _:=_, _⊙_, _from_, ring-by}
 use Rattle.field.specs.Prime.{Prime}
 use Rattle.field.specs.Element.{Elem, of, 𝟘, _⊕_, _⊗_}
-use Rattle.field.specs.Power.{inverse, _⊘_}
+use Rattle.field.specs.Power.{reciprocal, _⊘_}
 use Rattle.field.proofs.ElementLaws.{add-zero, primeRing}
-use Rattle.field.proofs.Field.{mul-inverse}
+use Rattle.field.proofs.Field.{mul-reciprocal}
 use Rattle.domain.specs.Size.{isSize}
 use Rattle.domain.specs.Domain.{element, Outside, vanishing, sumOver}
 use Rattle.domain.specs.Polynomial.{Poly, eval, quotient, remainder}
@@ -62,6 +62,6 @@ module _ {q : Prime} (Q : Qualifies q) (n : ℕ) (s : isSize n ≡ true) where
   -- so the constant is the sum divided by n
   pub constant-of-sum : (f : Poly q) → length f ≡ n → f ≡ sumOver n (eval f) ⊘ of n ∷ tail f
   constant-of-sum [] e = absurd (omega (arith, size-positive n s))
-  constant-of-sum (x ∷ g) e = ap (λ v. v ∷ g) (ring-by (primeRing q) (x ∷ of n ∷ inverse (of n) ∷ sumOver n (eval (x ∷ g)) ∷ [])
+  constant-of-sum (x ∷ g) e = ap (λ v. v ∷ g) (ring-by (primeRing q) (x ∷ of n ∷ reciprocal (of n) ∷ sumOver n (eval (x ∷ g)) ∷ [])
       (λ x n i t. x := t :* i from ((:- i) ⊙ (t := n :* x)) ∷ ((:- x) ⊙ (n :* i := :1)) ∷ [])
-      (sum-of-short x g e, (mul-inverse (of n) (size-not-zero Q n s), tt)) tt)
+      (sum-of-short x g e, (mul-reciprocal (of n) (size-not-zero n s), tt)) tt)

@@ -19,9 +19,9 @@ use Rattle.algebra.proofs.Counting.{all-tabulate}
 use Rattle.algebra.proofs.Unity.{powers-list-distinct, interpolation}
 use Rattle.field.specs.Prime.{Prime}
 use Rattle.field.specs.Element.{Elem, of, 𝟘, _⊕_, _⊗_}
-use Rattle.field.specs.Power.{inverse, _⊘_}
+use Rattle.field.specs.Power.{reciprocal, _⊘_}
 use Rattle.field.proofs.ElementLaws.{primeRing}
-use Rattle.field.proofs.Field.{no-zero-divisors, mul-inverse, cast-is-of}
+use Rattle.field.proofs.Field.{no-zero-divisors, mul-reciprocal, cast-is-of}
 use Rattle.domain.specs.Size.{isSize}
 use Rattle.domain.specs.Domain.{root, element, domain}
 use Rattle.domain.specs.Polynomial.{Poly, eval, _⊞_, _·_, valuesOn, interpolate, agreeing}
@@ -92,13 +92,13 @@ module _ {q : Prime} (Q : Qualifies q) (n : ℕ) (s : isSize n ≡ true) where
   unfolding interpolate element
   eval-interpolate vs k k<n =
       eval-tabulate R n (λ i. coefficient i ⊘ of n) x
-      ∙ sum-ext R n _ _ (λ i l. ring R (coefficient i ∷ inverse (of n) ∷ pow R x i ∷ []) (λ c v p. c :* v :* p := v :* (c :* p)) tt)
-      ∙ sum-scale R n (inverse (of n)) (λ i. coefficient i ⊗ pow R x i)
-      ∙ ap (λ v. inverse (of n) ⊗ v)
+      ∙ sum-ext R n _ _ (λ i l. ring R (coefficient i ∷ reciprocal (of n) ∷ pow R x i ∷ []) (λ c v p. c :* v :* p := v :* (c :* p)) tt)
+      ∙ sum-scale R n (reciprocal (of n)) (λ i. coefficient i ⊗ pow R x i)
+      ∙ ap (λ v. reciprocal (of n) ⊗ v)
       (interpolation R (no-zero-divisors q) n (root n) (domain-order Q n s) (λ j. getD vs j 𝟘) k k<n)
-      ∙ ring-by R (cast R n ∷ of n ∷ inverse (of n) ∷ getD vs k 𝟘 ∷ [])
+      ∙ ring-by R (cast R n ∷ of n ∷ reciprocal (of n) ∷ getD vs k 𝟘 ∷ [])
       (λ c m i v. i :* (c :* v) := v from ((i :* v) ⊙ (c := m)) ∷ (v ⊙ (m :* i := :1)) ∷ [])
-      (cast-is-of n, (mul-inverse (of n) (size-not-zero Q n s), tt)) tt
+      (cast-is-of n, (mul-reciprocal (of n) (size-not-zero n s), tt)) tt
     where
       R : CommRing (Elem q)
       R = primeRing q

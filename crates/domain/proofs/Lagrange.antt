@@ -13,22 +13,22 @@ use Rattle.algebra.specs.Ring.{pow}
 use Rattle.algebra.specs.Sum.{sum}
 use Rattle.algebra.proofs.Choice.{pick-true, pick-false}
 use Rattle.algebra.proofs.RingLaws.{mul-zero, zero-mul, one-pow, mul-pow, pow-add, sub-zero→eq, eq→sub-zero}
-use Rattle.algebra.proofs.FieldLaws.{mul-not-zero}
 use Rattle.algebra.proofs.Solver.{_:-_, _:*_, :-_, :1, _:=_, _⊙_, _from_, ring-by}
 use Rattle.algebra.proofs.SumLaws.{sum-ext, sum-scale, sum-const, geometric}
 use Rattle.algebra.proofs.PolynomialLaws.{eval-tabulate, length-tabulate}
 use Rattle.field.specs.Prime.{Prime}
 use Rattle.field.specs.Element.{Elem, of, 𝟘, 𝟙, _⊗_, _⊖_, equal}
-use Rattle.field.specs.Power.{inverse, _⊘_}
+use Rattle.field.specs.Power.{reciprocal, _⊘_}
 use Rattle.field.proofs.ElementLaws.{primeRing, mul-comm, mul-one}
-use Rattle.field.proofs.Field.{primeField, no-zero-divisors, mul-inverse, cast-is-of, equal-true, equal-false, true-equal, false-equal}
+use Rattle.field.proofs.Field.{no-zero-divisors, mul-reciprocal, cast-is-of, equal-true, equal-false, true-equal, false-equal}
 use Rattle.domain.specs.Size.{isSize}
 use Rattle.domain.specs.Domain.{root, element, inside, Outside, vanishing, lagrange}
 use Rattle.domain.specs.Polynomial.{Poly, eval}
 use Rattle.domain.specs.Qualifies.{Qualifies}
 use Rattle.domain.proofs.SizeLaws.{size-not-zero}
 use Rattle.domain.proofs.DomainLaws.{domain-order, element-injective, element-power, inside-element}
-use Rattle.domain.proofs.DomainLaws.{inside-or-outside, vanishing-inside, inside-vanishing, outside-not-element}
+use Rattle.domain.proofs.DomainLaws.{inside-or-outside, vanishing-inside, inside-vanishing}
+use Rattle.domain.proofs.Divisors.{lagrange-divisor}
 use Rattle.domain.proofs.Interpolation.{IsPolynomial}
 
 pub lagrange-off : {q : Prime} (n : ℕ) (a y : Elem q) → Outside n y → lagrange n a y ≡ a ⊗ vanishing n y ⊘ (of n ⊗ (y ⊖ a))
@@ -57,7 +57,7 @@ module _ {q : Prime} (Q : Qualifies q) (n : ℕ) (s : isSize n ≡ true) where
   lagrange-other a y v d = lagrange-inside n a y (inside-vanishing Q n s y v)
       ∙ pick-false 𝟙 𝟘 (false-equal y a (λ e. d (eq→sub-zero (primeRing q) y a e)))
 
-  -- for a = element i, with inverse b
+  -- for a = element i, with reciprocal b
   module _ (i : ℕ) (i<n : i < n) where
     abbrev a : Elem q
     a = element n i
@@ -97,33 +97,32 @@ module _ {q : Prime} (Q : Qualifies q) (n : ℕ) (s : isSize n ≡ true) where
     eval-coefficients : (y : Elem q) → eval coefficients y ≡ powers y ⊘ of n
     unfolding coefficients powers
     eval-coefficients y = eval-tabulate (primeRing q) n (λ k. pow (primeRing q) b k ⊘ of n) y
-        ∙ sum-ext (primeRing q) n _ _ step ∙ sum-scale (primeRing q) n (inverse (of n)) (pow (primeRing q) (b ⊗ y)) ∙ mul-comm _ _
+        ∙ sum-ext (primeRing q) n _ _ step ∙ sum-scale (primeRing q) n (reciprocal (of n)) (pow (primeRing q) (b ⊗ y)) ∙ mul-comm _ _
       where
-        step : (k : ℕ) → k < n → pow (primeRing q) b k ⊘ of n ⊗ pow (primeRing q) y k ≡ inverse (of n) ⊗ pow (primeRing q) (b ⊗ y) k
+        step : (k : ℕ) → k < n → pow (primeRing q) b k ⊘ of n ⊗ pow (primeRing q) y k ≡ reciprocal (of n) ⊗ pow (primeRing q) (b ⊗ y) k
         step k l = ring-by (primeRing q)
-            (pow (primeRing q) b k ∷ pow (primeRing q) y k ∷ pow (primeRing q) (b ⊗ y) k ∷ inverse (of n) ∷ [])
+            (pow (primeRing q) b k ∷ pow (primeRing q) y k ∷ pow (primeRing q) (b ⊗ y) k ∷ reciprocal (of n) ∷ [])
             (λ u v w m. u :* m :* v := m :* w from ((:- m) ⊙ (w := u :* v)) ∷ []) (mul-pow (primeRing q) b y k, tt) tt
 
     value-outside : (y : Elem q) → Outside n y → powers y ⊘ of n ≡ a ⊗ vanishing n y ⊘ (of n ⊗ (y ⊖ a))
     value-outside y o =
         ring-by (primeRing q)
-        (y ∷ a ∷ powers y ∷ vanishing n y ∷ of n ∷ inverse (of n) ∷ inverse (of n ⊗ (y ⊖ a)) ∷ [])
+        (y ∷ a ∷ powers y ∷ vanishing n y ∷ of n ∷ reciprocal (of n) ∷ reciprocal (of n ⊗ (y ⊖ a)) ∷ [])
         (λ y a s v m i d. s :* i := a :* v :* d from
-        (d ⊙ ((y :- a) :* s := a :* v)) ∷ ((s :* (y :- a) :* d) ⊙ (m :* i := :1)) ∷ ((:- (s :* i)) ⊙ (m :* (y :- a) :* d := :1)) ∷ [])
-        (powers-vanishing y, (mul-inverse (of n) m≢0, (mul-inverse (of n ⊗ (y ⊖ a)) d≢0, tt))) tt
-      where
-        m≢0 : of {q = q} n ≢ 𝟘
-        m≢0 = size-not-zero Q n s
-
-        d≢0 : of n ⊗ (y ⊖ a) ≢ 𝟘
-        d≢0 = mul-not-zero (primeRing q) (primeField q) (of n) (y ⊖ a) m≢0 (outside-not-element Q n s y o i i<n)
+        (d ⊙ ((y :- a) :* s := a :* v)) ∷ ((s :* (y :- a) :* d) ⊙ (m :* i := :1)) ∷ ((:- (s :* i)) ⊙ (m :* (y :- a) :* d := :1)) ∷ []) (
+          powers-vanishing y,
+          (
+            mul-reciprocal (of n) (size-not-zero n s),
+            (mul-reciprocal (of n ⊗ (y ⊖ a)) (lagrange-divisor Q n s a y (inside-element Q n s i i<n) o), tt),
+          ),
+        ) tt
 
     value-inside : (y : Elem q) → inside n y ≡ true → powers y ⊘ of n ≡ pick (equal y a) 𝟙 𝟘
     value-inside y h = go (equal y a) refl
       where
         go : (c : Bool) → equal y a ≡ c → powers y ⊘ of n ≡ pick c 𝟙 𝟘
         go true e = unfold pick in
-            ap (λ v. v ⊘ of n) (ap powers (equal-true y a e) ∙ powers-at) ∙ mul-inverse (of n) (size-not-zero Q n s)
+            ap (λ v. v ⊘ of n) (ap powers (equal-true y a e) ∙ powers-at) ∙ mul-reciprocal (of n) (size-not-zero n s)
         go false e = unfold pick in
             ap (λ v. v ⊘ of n)
             (no-zero-divisors q (y ⊖ a) (powers y) (powers-vanishing y ∙ ap (λ v. a ⊗ v) (vanishing-inside Q n s y h) ∙ mul-zero (primeRing q) a)

@@ -6,6 +6,7 @@ pub mod SizeLaws
 pub mod SizeDigits
 pub mod DomainLaws
 pub mod Membership
+pub mod Divisors
 pub mod Interpolation
 pub mod Lagrange
 pub mod Division

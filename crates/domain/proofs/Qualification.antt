@@ -1,7 +1,7 @@
 -- The module's prime qualifies: its generators have their orders. A prime that qualifies leaves every check more allowed points
 -- than its degree. Assumes nothing.
-use mathlib.Core.Path.{_≡_, refl, ap}
-use Prim.Native.Nat.{_*_, _%_, _<_}
+use mathlib.Core.Path.{_≡_, refl, ap, subst⁻¹}
+use Prim.Native.Nat.{ℕ, _*_, _%_, _<_}
 use lib.Dec.{lit<}
 use native.Mathlib.Omega.{arith}
 use native.Mathlib.Decide.{decLt, ℕ-discrete}
@@ -11,6 +11,7 @@ use Rattle.field.specs.Element.{of, 𝟙}
 use Rattle.domain.specs.Size.{maxSize}
 use Rattle.domain.specs.Qualifies.{Qualifies}
 use Rattle.domain.specs.BabyBear.{babyBear}
+use Rattle.domain.specs.Known.{Known, KnownPrime, Modulus}
 use Rattle.domain.proofs.GeneratorLaws.{root-order}
 
 pub one-word : (q : Prime) → 𝟙 {q = q} .word ≡ 1
@@ -19,6 +20,15 @@ one-word q = mod-eq-of-lt (omega (arith, q .above-two))
 
 pub babyBear-qualifies : Qualifies babyBear
 babyBear-qualifies = record { small = lit< tt; divided = refl; orders = root-order }
+
+abbrev pub babyBear-known : KnownPrime (babyBear .p)
+babyBear-known = record { prime = babyBear; known = record { is-module = refl; value = refl } }
+
+pub babyBear-modulus : Modulus (babyBear .p)
+babyBear-modulus = (lit< tt, babyBear-known)
+
+pub known-qualifies : {q : Prime} {p : ℕ} → Known q p → Qualifies q
+known-qualifies K = subst⁻¹ Qualifies (K .is-module) babyBear-qualifies
 
 -- p - 1 is a multiple of 1,024, and neither 1,025 = 5 · 205 nor 2,049 = 3 · 683 is prime
 pub large-enough : (q : Prime) → Qualifies q → 3 * maxSize < q .p

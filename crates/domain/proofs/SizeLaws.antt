@@ -12,12 +12,13 @@ use native.Mathlib.Decide.{decLe, decLt}
 use native.Mathlib.Nat.{not-suc-le-zero, one-le-pow, pow-suc, pow-le-pow-right, mul-zero, mul-assoc}
 use native.Mathlib.Nat.{div-eq-of-eq-mul-right, max-eq-left, max-eq-right}
 use Rattle.algebra.proofs.Counting.{all-tabulate}
+use Rattle.algebra.proofs.FieldLaws.{mul-not-zero}
 use Rattle.field.specs.Prime.{Prime}
 use Rattle.field.specs.Element.{of, 𝟘}
-use Rattle.field.proofs.ElementLaws.{of-not-zero}
+use Rattle.field.proofs.ElementLaws.{of-mul, of-not-zero, one-not-zero, primeRing}
+use Rattle.field.proofs.Field.{primeField}
 use Rattle.domain.specs.Size.{maxSize, sizes, isSize, sizeFor}
 use Rattle.domain.specs.Qualifies.{Qualifies}
-use Rattle.domain.proofs.Qualification.{large-enough}
 use Rattle.domain.proofs.ListLaws.{any-tabulate, tabulate-any, firstOr-all, firstOr-passes, firstOr-tabulate, firstOr-none}
 
 pub size-is-power : (n : ℕ) → isSize n ≡ true → (k : ℕ) × (k < 11) × (n ≡ 2 ^ k)
@@ -34,8 +35,11 @@ size-positive n s = let (k, l, e) = size-is-power n s in rw e (one-le-pow k 2 (o
 pub size-bound : (n : ℕ) → isSize n ≡ true → n ≤ maxSize
 size-bound n s = let (k, l, e) = size-is-power n s in rw e (pow-le-pow-right {n = 2} (omega arith) {i = k} {j = 10} (omega arith))
 
-pub max-is-size : (m n : ℕ) → isSize m ≡ true → isSize n ≡ true → isSize (max m n) ≡ true
+max-is-size : (m n : ℕ) → isSize m ≡ true → isSize n ≡ true → isSize (max m n) ≡ true
 max-is-size m n s t = elim (decLe m n) [ yes le ↦ ap isSize (max-eq-right le) ∙ t | no gt ↦ ap isSize (max-eq-left (omega arith)) ∙ s ]
+
+pub largest-is-size : (l m n : ℕ) → isSize l ≡ true → isSize m ≡ true → isSize n ≡ true → isSize (max l (max m n)) ≡ true
+largest-is-size l m n s t u = max-is-size l (max m n) s (max-is-size m n t u)
 
 -- a number that is some multiple of m is the multiple by its quotient
 multiple : (m n c : ℕ) → 0 < m → n ≡ m * c → n ≡ m * (n / m)
@@ -117,8 +121,16 @@ unfolding sizeFor sizes
 sizeFor-past count h = firstOr-none maxSize (leb count) 11 (λ k. 2 ^ k)
     (λ j m. lt-leb count (2 ^ j) (omega (arith, size-bound (2 ^ j) (power-is-size j m))))
 
-pub size-not-zero : {q : Prime} → Qualifies q → (n : ℕ) → isSize n ≡ true → of {q = q} n ≢ 𝟘
-size-not-zero {q} Q n s = of-not-zero n (size-positive n s) (omega (arith, size-bound n s, large-enough q Q))
+-- no power of 2 is 0 in the field, since 2 is below p
+power-not-zero : {q : Prime} (k : ℕ) → of {q = q} (2 ^ k) ≢ 𝟘
+power-not-zero zero z = one-not-zero z
+power-not-zero {q} (suc k) z =
+    mul-not-zero (primeRing q) (primeField q) (of (2 ^ k)) (of 2) (power-not-zero k)
+    (of-not-zero 2 (omega arith) (q .above-two))
+    (sym (of-mul (2 ^ k) 2) ∙ ap of (sym (pow-suc 2 k)) ∙ z)
+
+pub size-not-zero : {q : Prime} (n : ℕ) → isSize n ≡ true → of {q = q} n ≢ 𝟘
+size-not-zero n s z = let (k, _, e) = size-is-power n s in power-not-zero k (ap of (sym e) ∙ z)
 
 -- the size for m
 module _ {n : ℕ} (m : ℕ) (e : n ≡ sizeFor m) where

@@ -12,7 +12,7 @@ ghost use Rattle.field.proofs.ElementLaws.{primeRing};
 ghost use Rattle.domain.specs.Size.{isSize, sizeFor};
 ghost use Rattle.domain.specs.Domain.{root, inside, vanishing, lagrange};
 ghost use Rattle.domain.specs.Qualifies.{Qualifies};
-ghost use Rattle.domain.specs.Known.{Known};
+ghost use Rattle.domain.specs.Known.{Known, InDomain};
 
 pub const MAX_SIZE: u32 = 1024;
 
@@ -94,10 +94,11 @@ pub fn is_inside(p: u32, n: u32, y: u32) -> bool
     field::raise(p, y, n) == 1
 }
 
-// L_a(y) of the domain of size n.
+// L_a(y) of the domain of size n, for an element a of it.
 pub fn lagrange_value(p: u32, n: u32, a: u32, y: u32) -> u32
     requires { ⌜ 1 < p ⌝ }
     requires { ⌜ isSize n ≡ true ⌝ }
+    requires { ⌜ InDomain p n a ⌝ }
     ensures { λ r. ⌜ ((q : Prime) → Qualifies q → q .p ≡ p → r ≡ (lagrange n (of {q = q} a) (of y)) .word) ⌝ }
 {
     let v = vanishing_value(p, n, y);
@@ -112,5 +113,5 @@ pub fn lagrange_value(p: u32, n: u32, a: u32, y: u32) -> u32
     // Off it: a·v / (n·(y - a)).
     let divisor = field::multiply(p, n, difference);
     let dividend = field::multiply(p, a, v);
-    field::multiply(p, dividend, field::invert(p, divisor))
+    field::divide(p, dividend, divisor)
 }

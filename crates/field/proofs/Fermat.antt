@@ -54,7 +54,7 @@ module _ {q : Prime} where
 
   field-by-descent : IsField (primeRing q)
   field-by-descent =
-      record { inverse = λ a. inverse-by-descent a .0; mul-inverse = λ a. inverse-by-descent a .1; one-not-zero = one-not-zero }
+      record { reciprocal = λ a. inverse-by-descent a .0; mul-reciprocal = λ a. inverse-by-descent a .1; one-not-zero = one-not-zero }
 
 -- the binomial coefficients, by Pascal's rule
 choose : ℕ → ℕ → ℕ

@@ -1,8 +1,9 @@
--- The field of a prime: power by squaring is the power, the inverse is one, and numbers stand for sums of ones.
+-- The field of a prime: power by squaring is the power, the inverse is one and all but 0 have one, and numbers stand for sums of ones.
 -- Assumes nothing.
 use mathlib.Core.Path.{_≡_, refl, sym, ap, _∙_}
 use mathlib.Core.Logic.{_≢_}
 use mathlib.Core.Bool.{Bool, true, false}
+use mathlib.Core.Option.{none, some, Option·some-ne-none, Option·some-injective}
 use Prim.Native.Nat.{ℕ, zero, suc, _-_, _*_, _/_, _%_, _≤_}
 use lib.Dec.{eqb}
 use borrow.Author.Tests.{eqb-true, eqb-false, eq-eqb, ne-eqb}
@@ -12,12 +13,13 @@ use native.Mathlib.Nat.{le-refl}
 use native.Mathlib.Numerals.{one-add}
 use Rattle.algebra.specs.Lists.{pick}
 use Rattle.algebra.specs.Ring.{IsField, cast, pow}
-use Rattle.algebra.proofs.RingLaws.{zero-mul, pow-mul}
+use Rattle.algebra.proofs.Choice.{pick-true, pick-false}
+use Rattle.algebra.proofs.RingLaws.{pow-mul}
 use Rattle.algebra.proofs.FieldLaws
 use Rattle.field.specs.Prime.{Prime}
 use Rattle.field.specs.Element.{Elem, of, 𝟘, 𝟙, _⊕_, _⊗_, equal}
-use Rattle.field.specs.Power.{powerIn, power, inverse}
-use Rattle.field.proofs.ElementLaws.{same-word, of-add, mul-one, one-not-zero, primeRing}
+use Rattle.field.specs.Power.{powerIn, power, reciprocal, inverse}
+use Rattle.field.proofs.ElementLaws.{same-word, of-add, mul-one, one-not-zero, decide, primeRing}
 use Rattle.field.proofs.Fermat.{fermat}
 
 module _ {q : Prime} where
@@ -48,16 +50,9 @@ module _ {q : Prime} where
   unfolding power
   power-is-pow a n = sym (power-turns n a n (le-refl n))
 
-  -- the inverse
-  pub inverse-zero : inverse 𝟘 ≡ 𝟘 {q = q}
-  unfolding inverse
-  inverse-zero =
-      let e : q .p - 2 ≡ suc (q .p - 3) = omega (arith, q .above-two) in
-      power-is-pow 𝟘 (q .p - 2) ∙ ap (pow (primeRing q) 𝟘) e ∙ zero-mul (primeRing q) _
-
-  pub mul-inverse : (a : Elem q) → a ≢ 𝟘 → a ⊗ inverse a ≡ 𝟙
-  unfolding inverse
-  mul-inverse a ne =
+  pub mul-reciprocal : (a : Elem q) → a ≢ 𝟘 → a ⊗ reciprocal a ≡ 𝟙
+  unfolding reciprocal
+  mul-reciprocal a ne =
       let e : suc (q .p - 2) ≡ q .p - 1 = omega (arith, q .above-two) in
       ap (λ y. a ⊗ y) (power-is-pow a (q .p - 2)) ∙ ap (pow (primeRing q) a) e ∙ fermat a ne
 
@@ -80,11 +75,32 @@ module _ {q : Prime} where
   false-equal a b ne = ne-eqb (a .word) (b .word) (λ e. ne (same-word e))
 
 pub primeField : (q : Prime) → IsField (primeRing q)
-primeField q = record { inverse = inverse; mul-inverse = mul-inverse; one-not-zero = one-not-zero }
+primeField q = record { reciprocal = reciprocal; mul-reciprocal = mul-reciprocal; one-not-zero = one-not-zero }
 
 pub no-zero-divisors : (q : Prime) (a b : Elem q) → a ⊗ b ≡ 𝟘 → a ≢ 𝟘 → b ≡ 𝟘
 no-zero-divisors q = FieldLaws.no-zero-divisors (primeRing q) (primeField q)
 
-pub inverse-product : {q : Prime} (a b : Elem q) → a ≢ 𝟘 → b ≢ 𝟘 → inverse (a ⊗ b) ≡ inverse a ⊗ inverse b
+pub reciprocal-product : {q : Prime} (a b : Elem q) → a ≢ 𝟘 → b ≢ 𝟘 → reciprocal (a ⊗ b) ≡ reciprocal a ⊗ reciprocal b
 unfolding primeField
-inverse-product {q} = FieldLaws.inverse-product (primeRing q) (primeField q)
+reciprocal-product {q} = FieldLaws.reciprocal-product (primeRing q) (primeField q)
+
+module _ {q : Prime} where
+  -- 0 has no inverse
+  pub inverse-zero : (a : Elem q) → a ≡ 𝟘 → inverse a ≡ none
+  unfolding inverse
+  inverse-zero a e = pick-true _ _ (true-equal a 𝟘 e)
+
+  -- every other element has one
+  pub inverse-other : (a : Elem q) → a ≢ 𝟘 → inverse a ≡ some (reciprocal a)
+  unfolding inverse
+  inverse-other a ne = pick-false _ _ (false-equal a 𝟘 ne)
+
+  -- so where there is none, the element is 0, and where there is one, it is the inverse
+  pub none-is-zero : (a : Elem q) → inverse a ≡ none → a ≡ 𝟘
+  none-is-zero a e = elim (decide a 𝟘) [ yes z ↦ z | no ne ↦ absurd (Option·some-ne-none _ (sym (inverse-other a ne) ∙ e)) ]
+
+  pub some-is-inverse : (a i : Elem q) → inverse a ≡ some i → a ⊗ i ≡ 𝟙
+  some-is-inverse a i e = elim (decide a 𝟘) [
+    | yes z ↦ absurd (Option·some-ne-none _ (sym e ∙ inverse-zero a z))
+    | no ne ↦ ap (λ y. a ⊗ y) (Option·some-injective _ _ (sym e ∙ inverse-other a ne)) ∙ mul-reciprocal a ne
+  ]

@@ -1,14 +1,15 @@
 -- The words of sums, products and differences of the elements that two numbers stand for, and a number that is an element's
 -- word, or a list of them. Assumes nothing.
 use mathlib.Core.Path.{_≡_, refl, sym, ap, ap₂, _∙_, subst, subst⁻¹}
+use mathlib.Core.Logic.{_≢_}
 use mathlib.Core.List.{List, [], _∷_, map}
 use Prim.Native.Nat.{ℕ, _+_, _-_, _*_, _%_, _^_, _<_}
 use native.Mathlib.Nat.{mod-eq-of-lt, le-of-lt, lt-of-le-of-lt, mul-le-mul-left, mul-lt-mul-of-pos-right}
 use lib.Pow.{pow-pos, pow-add}
 use Rattle.algebra.specs.Counting.{All}
 use Rattle.field.specs.Prime.{Prime}
-use Rattle.field.specs.Element.{Elem, of, words, _⊕_, _⊗_, _⊖_, neg}
-use Rattle.field.proofs.ElementLaws.{of-word, of-add, of-mul, word-below}
+use Rattle.field.specs.Element.{Elem, of, words, 𝟘, _⊕_, _⊗_, _⊖_, neg}
+use Rattle.field.proofs.ElementLaws.{same-word, of-word, of-add, of-mul, word-below}
 
 module _ (q : Prime) where
   -- a number below p is the word of its element
@@ -48,6 +49,12 @@ module _ {q : Prime} where
 
   pub result-below : {r : ℕ} (x : Elem q) → r ≡ x .word → r < q .p
   result-below x e = subst (λ (n : ℕ). n < q .p) (sym e) (word-below x)
+
+-- whether a number stands for 0 depends on the prime's value alone
+pub nonzero-by-value : {q r : Prime} → q .p ≡ r .p → (n : ℕ) → of {q = r} n ≢ 𝟘 → of {q = q} n ≢ 𝟘
+unfolding of
+nonzero-by-value {q} {r} e n ne z =
+    ne (same-word (ap (λ (k : ℕ). n % k) (sym e) ∙ ap (λ (x : Elem q). x .word) z ∙ ap (λ (k : ℕ). 0 % k) e))
 
 -- the product of two numbers of k bits has at most k + k
 pub product-below : (k : ℕ) {a b : ℕ} → a < 2 ^ k → b < 2 ^ k → a * b < 2 ^ (k + k)

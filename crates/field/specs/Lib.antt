@@ -1,3 +1,4 @@
 pub mod Prime
 pub mod Element
 pub mod Power
+pub mod Meanings

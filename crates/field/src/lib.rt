@@ -1,10 +1,13 @@
 // The prime field on words. The modulus p is a parameter of every function; a contract holds for each prime of that value.
 // Any words are taken: a word of p or more stands for its remainder.
 ghost use mathlib.Core.Path.{_≡_};
+ghost use mathlib.Core.Logic.{_≢_};
+ghost use mathlib.Core.Option.{Option·map};
 ghost use Prim.Native.Nat.{_%_, _<_};
 ghost use Rattle.field.specs.Prime.{Prime};
-ghost use Rattle.field.specs.Element.{of, _⊕_, _⊗_, _⊖_};
-ghost use Rattle.field.specs.Power.{power, inverse};
+ghost use Rattle.field.specs.Element.{of, 𝟘, _⊕_, _⊗_, _⊖_, wordOf};
+ghost use Rattle.field.specs.Power.{power, inverse, _⊘_};
+ghost use Rattle.field.specs.Meanings.{inverseMeaning};
 
 // The module's prime: the remainder by a constant needs no division.
 pub const MODULE_PRIME: u32 = 2013265921;
@@ -67,10 +70,28 @@ pub fn raise(p: u32, a: u32, n: u32) -> u32
     result
 }
 
-// 1/a, and 0 for 0.
-pub fn invert(p: u32, a: u32) -> u32
+// a/b, for a divisor that is not 0.
+pub fn divide(p: u32, a: u32, b: u32) -> u32
     requires { ⌜ 1 < p ⌝ }
-    ensures { λ r. ⌜ ((q : Prime) → q .p ≡ p → r ≡ (inverse (of {q = q} a)) .word) ⌝ }
+    requires { ⌜ ((q : Prime) → q .p ≡ p → of {q = q} b ≢ 𝟘) ⌝ }
+    ensures { λ r. ⌜ ((q : Prime) → q .p ≡ p → r ≡ (of {q = q} a ⊘ of b) .word) ⌝ }
 {
-    raise(p, a, p - 2)
+    multiply(p, a, raise(p, b, p - 2))
+}
+
+// The inverse of an element, or that there is none.
+pub enum Inverse {
+    None,
+    Value(u32),
+}
+
+// 1/a; none for 0.
+pub fn invert(p: u32, a: u32) -> Inverse
+    requires { ⌜ 1 < p ⌝ }
+    ensures { λ r. ⌜ ((q : Prime) → q .p ≡ p → inverseMeaning r ≡ Option·map wordOf (inverse (of {q = q} a))) ⌝ }
+{
+    if reduce(p, wide(a)) == 0 {
+        return Inverse::None;
+    }
+    Inverse::Value(raise(p, a, p - 2))
 }

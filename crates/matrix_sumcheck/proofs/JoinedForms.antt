@@ -1,7 +1,8 @@
 -- h2 in the order in which the code adds it up: from |K| - 1 zeros, one matrix's multiple after the other. Assumes nothing.
 use mathlib.Core.Path.{_≡_, sym, ap, ap₂, _∙_}
+use mathlib.Core.Bool.{true}
 use mathlib.Core.List.{List}
-use Prim.Native.Nat.{ℕ, _+_, _≤_, _<_, max}
+use Prim.Native.Nat.{ℕ, _+_, _≤_, max}
 use native.Mathlib.Omega.{arith}
 use lib.ListN.{length, getD, replicate, length-replicate}
 use Rattle.algebra.specs.Ring.{CommRing}
@@ -11,9 +12,9 @@ use Rattle.field.specs.Prime.{Prime}
 use Rattle.field.specs.Element.{Elem, of, 𝟘, _⊕_, _⊗_}
 use Rattle.field.specs.Power.{_⊘_}
 use Rattle.field.proofs.ElementLaws.{primeRing}
-use Rattle.domain.specs.Size.{maxSize, sizeFor}
+use Rattle.domain.specs.Size.{isSize, sizeFor}
 use Rattle.domain.specs.Polynomial.{Poly, _⊞_, _·_}
-use Rattle.domain.proofs.SizeLaws.{size-bound, sizeFor-is-size}
+use Rattle.domain.proofs.SizeLaws.{largest-is-size, sizeFor-is-size}
 use Rattle.domain.proofs.ListLaws.{equal-entries}
 use Rattle.protocol.specs.Three.{MatrixName, A, B, C, Three, at, mapThree}
 use Rattle.protocol.specs.Circuit.{Circuit, sizesOf, largest}
@@ -60,17 +61,22 @@ sizeOf l = sizeFor (length (entriesOf l))
 abbrev pub largestOf : List ℕ → List ℕ → List ℕ → ℕ
 largestOf ea eb ec = largest (mapThree sizeOf (lists ea eb ec))
 
-small : (l : List ℕ) → sizeOf l ≤ maxSize
-small l = size-bound (sizeOf l) (sizeFor-is-size (length (entriesOf l)))
+is-size : (l : List ℕ) → isSize (sizeOf l) ≡ true
+is-size l = sizeFor-is-size (length (entriesOf l))
 
 -- δ_M (|K_M|/|K|) h_M, where |K| is z + 1
 abbrev pub joinedTerm : {q : Prime} → Three (List ℕ) → Circuit → Elem q → Elem q → Three (Elem q) → ℕ → MatrixName → Poly q
 joinedTerm ls k α β δ z M = at δ M ⊗ (of (sizeOf (at ls M)) ⊘ of (z + 1)) · matrixQuotient k α β M
 
 module _ (ea eb ec : List ℕ) (n : ℕ) (e : n + 1 ≡ largestOf ea eb ec) where
-  pub joined-fits : (sizeOf ea ≤ n + 1) × (sizeOf eb ≤ n + 1) × (sizeOf ec ≤ n + 1) × (n < maxSize)
+  pub joined-fits : (sizeOf ea ≤ n + 1) × (sizeOf eb ≤ n + 1) × (sizeOf ec ≤ n + 1) × (isSize (n + 1) ≡ true)
   unfolding largest
-  joined-fits = (omega arith, omega arith, omega arith, omega (arith, small ea, small eb, small ec))
+  joined-fits = (
+    omega arith,
+    omega arith,
+    omega arith,
+    ap isSize e ∙ largest-is-size (sizeOf ea) (sizeOf eb) (sizeOf ec) (is-size ea) (is-size eb) (is-size ec),
+  )
 
   module _ {q : Prime} {p r c : ℕ} {k : Circuit} (G : (M : MatrixName) → Given q p r c (at (lists ea eb ec) M) k M) where
     -- |K|

@@ -2,12 +2,13 @@
 ghost use mathlib.Core.Path.{_≡_};
 ghost use mathlib.Core.Bool.{true};
 ghost use mathlib.Core.List.{map};
-ghost use Prim.Native.Nat.{_+_, _<_, _≤_};
+ghost use Prim.Native.Nat.{_+_, _≤_};
 ghost use lib.ListN.{length};
 ghost use Rattle.field.specs.Prime.{Prime};
 ghost use Rattle.field.specs.Element.{of, words, _⊗_};
 ghost use Rattle.field.specs.Power.{_⊘_};
-ghost use Rattle.domain.specs.Size.{isSize, sizeFor, maxSize};
+ghost use Rattle.domain.specs.Size.{isSize, sizeFor};
+ghost use Rattle.domain.specs.Known.{Modulus};
 ghost use Rattle.domain.specs.Polynomial.{_⊞_, _·_};
 ghost use Rattle.protocol.specs.Three.{MatrixName, mapThree, at};
 ghost use Rattle.protocol.specs.Circuit.{Circuit, largest};
@@ -29,10 +30,10 @@ fn add_matrix(
     delta: u32,
     out: &mut [u32],
 )
-    requires { ⌜ 1 < p ⌝ }
+    requires { ⌜ Modulus p ⌝ }
     requires { ⌜ (isSize r ≡ true) × (isSize c ≡ true) ⌝ }
     requires { ⌜ EntryWords (now entries) ⌝ }
-    requires { ⌜ (sizeFor (length (entriesOf (now entries))) ≤ length (now out) + 1) × (length (now out) < maxSize) ⌝ }
+    requires { ⌜ (sizeFor (length (entriesOf (now entries))) ≤ length (now out) + 1) × (isSize (length (now out) + 1) ≡ true) ⌝ }
     ensures { λ _. ⌜ ((q : Prime) (k : Circuit) (M : MatrixName) → Given q p r c (now (entries .entry)) k M → Challenged q p k alpha beta
         → now (out .exit)
         ≡ words (map of (now (out .entry))
@@ -40,7 +41,7 @@ fn add_matrix(
         · matrixQuotient k (of alpha) (of beta) M)) ⌝ }
 {
     let size = circuit::matrices::size_of(entries);
-    let share = field::multiply(p, size, field::invert(p, (out.len() + 1) as u32));
+    let share = field::divide(p, size, (out.len() + 1) as u32);
     let n = (size - 1) as usize;
     let mut quotient = [0u32; 1024];
     crate::matrix::matrix_quotient_into(p, r, c, entries, alpha, beta, &mut quotient[..n]);
@@ -60,7 +61,7 @@ pub fn joined_quotient_into(
     delta: Triple,
     out: &mut [u32],
 )
-    requires { ⌜ 1 < p ⌝ }
+    requires { ⌜ Modulus p ⌝ }
     requires { ⌜ CircuitShaped r c (now ea) (now eb) (now ec) ⌝ }
     requires { ⌜ length (now out) + 1 ≡ largest (mapThree (λ l. sizeFor (length (entriesOf l))) (lists (now ea) (now eb) (now ec))) ⌝ }
     ensures { λ _. ⌜ ((q : Prime) (k : Circuit)

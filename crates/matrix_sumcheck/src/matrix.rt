@@ -11,7 +11,7 @@ ghost use Rattle.domain.specs.Size.{isSize, sizeFor};
 ghost use Rattle.domain.specs.Domain.{element};
 ghost use Rattle.domain.specs.Polynomial.{_·_, _⊟_, _⊠_};
 ghost use Rattle.domain.specs.Qualifies.{Qualifies};
-ghost use Rattle.domain.specs.Known.{Known};
+ghost use Rattle.domain.specs.Known.{Known, Modulus};
 ghost use Rattle.protocol.specs.Three.{MatrixName};
 ghost use Rattle.protocol.specs.Circuit.{Circuit, extension};
 ghost use Rattle.protocol.specs.Index.{index};
@@ -31,7 +31,7 @@ fn element_of(p: u32, n: u32, i: u32) -> u32
 
 // value × L_row(α) × L_col(β), of one entry.
 fn term_of(p: u32, r: u32, c: u32, row: u32, column: u32, value: u32, alpha: u32, beta: u32) -> u32
-    requires { ⌜ 1 < p ⌝ }
+    requires { ⌜ Modulus p ⌝ }
     requires { ⌜ (isSize r ≡ true) × (isSize c ≡ true) ⌝ }
     ensures { λ t. ⌜ ((q : Prime) → Known q p → Qualifies q
         → t ≡ (termOf {q = q} r c (of alpha) (of beta) (record { row = row; column = column; value = value })) .word) ⌝ }
@@ -43,7 +43,7 @@ fn term_of(p: u32, r: u32, c: u32, row: u32, column: u32, value: u32, alpha: u32
 
 // The term of entry i, 0 past the last.
 fn term_at(p: u32, r: u32, c: u32, entries: &[u32], i: usize, alpha: u32, beta: u32) -> u32
-    requires { ⌜ 1 < p ⌝ }
+    requires { ⌜ Modulus p ⌝ }
     requires { ⌜ (isSize r ≡ true) × (isSize c ≡ true) ⌝ }
     ensures { λ t. ⌜ ((q : Prime) → Known q p → Qualifies q
         → t ≡ (getD (terms r c (of alpha) (of beta) (now (entries .entry))) i (𝟘 {q = q})) .word) ⌝ }
@@ -66,7 +66,7 @@ fn term_at(p: u32, r: u32, c: u32, entries: &[u32], i: usize, alpha: u32, beta: 
 
 // The terms of the entries in order, then zeros.
 fn terms_into(p: u32, r: u32, c: u32, entries: &[u32], alpha: u32, beta: u32, out: &mut [u32])
-    requires { ⌜ 1 < p ⌝ }
+    requires { ⌜ Modulus p ⌝ }
     requires { ⌜ (isSize r ≡ true) × (isSize c ≡ true) ⌝ }
     requires { ⌜ length (entriesOf (now entries)) ≤ length (now out) ⌝ }
     ensures { λ _. ⌜ ((q : Prime) → Known q p → Qualifies q
@@ -81,7 +81,7 @@ fn terms_into(p: u32, r: u32, c: u32, entries: &[u32], alpha: u32, beta: u32, ou
 
 // ω_M = M̂(α,β), the sum of the terms.
 pub fn matrix_value(p: u32, r: u32, c: u32, entries: &[u32], alpha: u32, beta: u32) -> u32
-    requires { ⌜ 1 < p ⌝ }
+    requires { ⌜ Modulus p ⌝ }
     requires { ⌜ (isSize r ≡ true) × (isSize c ≡ true) ⌝ }
     ensures { λ v. ⌜ ((q : Prime) (k : Circuit) (M : MatrixName) → Given q p r c (now (entries .entry)) k M
         → v ≡ (extension {q = q} k M (of alpha) (of beta)) .word) ⌝ }
@@ -97,7 +97,7 @@ pub fn matrix_value(p: u32, r: u32, c: u32, entries: &[u32], alpha: u32, beta: u
 
 // a_M/b_M on K_M, as a polynomial: the terms interpolated.
 fn ratio_into(p: u32, r: u32, c: u32, entries: &[u32], alpha: u32, beta: u32, out: &mut [u32])
-    requires { ⌜ 1 < p ⌝ }
+    requires { ⌜ Modulus p ⌝ }
     requires { ⌜ (isSize r ≡ true) × (isSize c ≡ true) ⌝ }
     requires { ⌜ EntryWords (now entries) ⌝ }
     requires { ⌜ length (now out) ≡ sizeFor (length (entriesOf (now entries))) ⌝ }
@@ -121,7 +121,7 @@ pub fn matrix_remainder_into(
     beta: u32,
     out: &mut [u32],
 )
-    requires { ⌜ 1 < p ⌝ }
+    requires { ⌜ Modulus p ⌝ }
     requires { ⌜ (isSize r ≡ true) × (isSize c ≡ true) ⌝ }
     requires { ⌜ EntryWords (now entries) ⌝ }
     requires { ⌜ length (now out) + 1 ≡ sizeFor (length (entriesOf (now entries))) ⌝ }
@@ -272,7 +272,7 @@ pub fn matrix_quotient_into(
     beta: u32,
     out: &mut [u32],
 )
-    requires { ⌜ 1 < p ⌝ }
+    requires { ⌜ Modulus p ⌝ }
     requires { ⌜ (isSize r ≡ true) × (isSize c ≡ true) ⌝ }
     requires { ⌜ EntryWords (now entries) ⌝ }
     requires { ⌜ length (now out) + 1 ≡ sizeFor (length (entriesOf (now entries))) ⌝ }

@@ -10,7 +10,7 @@ ghost use Rattle.field.specs.Element.{of, words};
 ghost use Rattle.domain.specs.Size.{isSize};
 ghost use Rattle.domain.specs.Polynomial.{eval};
 ghost use Rattle.domain.specs.Qualifies.{Qualifies};
-ghost use Rattle.domain.specs.Known.{Known};
+ghost use Rattle.domain.specs.Known.{Known, Modulus};
 ghost use Rattle.protocol.specs.Three.{MatrixName, at, mapThree};
 ghost use Rattle.protocol.specs.Circuit.{Circuit};
 ghost use Rattle.protocol.specs.Index.{index as indexOf, indexAt, listIndex};
@@ -75,7 +75,7 @@ fn line_at(
     eta: Triple,
     beta: u32,
 ) -> LineOpened
-    requires { ⌜ 1 < p ⌝ }
+    requires { ⌜ Modulus p ⌝ }
     requires { ⌜ Fits p r c x (now ea) (now eb) (now ec) (now z) (now m) ⌝ }
     ensures { λ v. ⌜ ((q : Prime) → Known q p → Qualifies q
         → (v .remainder
@@ -146,7 +146,7 @@ fn row_quotient_at(
 
 // g_M(γ)
 fn remainder_at(p: u32, r: u32, c: u32, entries: &[u32], alpha: u32, beta: u32, gamma: u32) -> u32
-    requires { ⌜ 1 < p ⌝ }
+    requires { ⌜ Modulus p ⌝ }
     requires { ⌜ (isSize r ≡ true) × (isSize c ≡ true) ⌝ }
     requires { ⌜ EntryWords (now entries) ⌝ }
     ensures { λ v. ⌜ ((q : Prime) (k : Circuit) (M : MatrixName) → Given q p r c (now (entries .entry)) k M → Challenged q p k alpha beta
@@ -171,7 +171,7 @@ fn joined_at(
     delta: Triple,
     gamma: u32,
 ) -> u32
-    requires { ⌜ 1 < p ⌝ }
+    requires { ⌜ Modulus p ⌝ }
     requires { ⌜ CircuitShaped r c (now ea) (now eb) (now ec) ⌝ }
     ensures { λ v. ⌜ ((q : Prime) (k : Circuit)
         → ((M : MatrixName) → Given q p r c (at (lists (now (ea .entry)) (now (eb .entry)) (now (ec .entry))) M) k M)
@@ -234,7 +234,7 @@ pub fn messages_opened(
     delta: Triple,
     gamma: u32,
 ) -> Opened
-    requires { ⌜ 1 < p ⌝ }
+    requires { ⌜ Modulus p ⌝ }
     requires { ⌜ Fits p r c x (now ea) (now eb) (now ec) (now z) (now m) ⌝ }
     ensures { λ v. ⌜ ((q : Prime) → Known q p → Qualifies q
         → Challenged q p (circuitOf (given r c x (now (ea .entry)) (now (eb .entry)) (now (ec .entry)))) alpha beta

@@ -129,13 +129,13 @@ pub fn interpolate_into(p: u32, g: u32, values: &[u32], out: &mut [u32])
 {
     let n = values.len();
     // Coefficient i is 1/n times the value at g^(n-i) of the polynomial whose coefficients are the given values.
-    let inverse = field::invert(p, n as u32);
+    let share = field::divide(p, 1, n as u32);
     let mut power: u32 = 1;
     let mut i = n;
     while 0 < i {
         i -= 1;
         power = field::multiply(p, power, g);
-        out[i] = field::multiply(p, evaluate(p, values, power), inverse);
+        out[i] = field::multiply(p, evaluate(p, values, power), share);
     }
 }
 

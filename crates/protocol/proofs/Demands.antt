@@ -1,12 +1,14 @@
--- Demands 2 and 3, and what is known where a verdict is answered, proved: for every prime that qualifies, and so for the module's
--- prime. Assumes nothing.
+-- Demands 2 and 3, what is known where a verdict is answered, and that no divisor is 0, proved: for every prime that qualifies, and so
+-- for the module's prime. Assumes nothing.
 use Rattle.field.specs.Prime.{Prime}
 use Rattle.domain.specs.BabyBear.{babyBear}
 use Rattle.domain.proofs.Qualification.{babyBear-qualifies}
 use Rattle.protocol.specs.Demand2.{Demand2, Demand2Holds}
 use Rattle.protocol.specs.Demand3.{Setting, Demand3, Demand3Holds}
 use Rattle.protocol.specs.Verdicts.{Verdicts}
+use Rattle.protocol.specs.Divisors.{Divisors}
 use Rattle.protocol.proofs.CallsProve.{calls-give-proof, calls-accepted}
+use Rattle.protocol.proofs.Divisors.{divisors}
 use Rattle.protocol.proofs.Honest.{rules-kept, honest-accepted}
 use Rattle.protocol.proofs.IndexDecoding.{index-gives-back}
 use Rattle.protocol.proofs.JoinedCheck.{values-caught}
@@ -54,3 +56,6 @@ module-demand3 = demand3 babyBear babyBear-qualifies
 
 pub module-verdicts : Verdicts babyBear
 module-verdicts = verdicts babyBear
+
+pub module-divisors : Divisors babyBear
+module-divisors = divisors babyBear babyBear-qualifies

@@ -11,9 +11,9 @@ use Rattle.algebra.proofs.PolynomialLaws.{eval-add, length-add}
 use Rattle.algebra.proofs.Solver.{_:*_, :-_, :1, _:=_, _⊙_, _from_, ring-by}
 use Rattle.field.specs.Prime.{Prime}
 use Rattle.field.specs.Element.{Elem, of, 𝟘, 𝟙, _⊕_, _⊗_}
-use Rattle.field.specs.Power.{inverse, _⊘_}
+use Rattle.field.specs.Power.{reciprocal, _⊘_}
 use Rattle.field.proofs.ElementLaws.{of-mul, primeRing}
-use Rattle.field.proofs.Field.{mul-inverse, inverse-product}
+use Rattle.field.proofs.Field.{mul-reciprocal, reciprocal-product}
 use Rattle.domain.specs.Domain.{element, Outside, vanishing}
 use Rattle.domain.specs.Polynomial.{Poly, eval, _⊞_}
 use Rattle.domain.specs.Qualifies.{Qualifies}
@@ -70,10 +70,10 @@ module _ {q : Prime} (Q : Qualifies q) (c : Circuit) (M : MatrixName) where
   pub selector-is : (γ : Elem q) → Outside K γ → selector (sizesOf c) M γ ≡ share c M ⊗ eval (cofactor c M) γ
   unfolding selector
   selector-is γ outside =
-      ap (λ x. of k ⊗ vanishing K γ ⊗ x) (inverse-product (of K) (vanishing k γ) (size-not-zero Q K (largest-size c)) nonzero)
-      ∙ ring-by R (of k ∷ inverse (of K) ∷ vanishing K γ ∷ vanishing k γ ∷ inverse (vanishing k γ) ∷ eval (cofactor c M) γ ∷ [])
+      ap (λ x. of k ⊗ vanishing K γ ⊗ x) (reciprocal-product (of K) (vanishing k γ) (size-not-zero K (largest-size c)) nonzero)
+      ∙ ring-by R (of k ∷ reciprocal (of K) ∷ vanishing K γ ∷ vanishing k γ ∷ reciprocal (vanishing k γ) ∷ eval (cofactor c M) γ ∷ [])
       (λ k i w v j r. k :* w :* (i :* j) := k :* i :* r from ((:- (k :* i :* j)) ⊙ (r :* v := w)) ∷ (k :* i :* r ⊙ (v :* j := :1)) ∷ [])
-      (eval-cofactor γ, (mul-inverse (vanishing k γ) nonzero, tt)) tt
+      (eval-cofactor γ, (mul-reciprocal (vanishing k γ) nonzero, tt)) tt
     where
       nonzero : vanishing k γ ≢ 𝟘
       nonzero = vanishing-outside Q k (K-size c M) γ (outside-subgroup Q k K (K-size c M) (largest-size c) (within-largest c M) γ outside)
@@ -84,8 +84,8 @@ module _ {q : Prime} (Q : Qualifies q) (c : Circuit) (M : MatrixName) where
       let r : Elem q = of (K / k) in
       let inside-K = inside-element Q k (K-size c M) i below in
       ap (λ x. share c M ⊗ x) (vanishingRatio-inside Q k K (K-size c M) (largest-size c) (within-largest c M) (element k i) inside-K)
-      ∙ ring-by R (of k ∷ of K ∷ inverse (of K) ∷ r ∷ [])
+      ∙ ring-by R (of k ∷ of K ∷ reciprocal (of K) ∷ r ∷ [])
       (λ k w i r. k :* i :* r := :1 from ((:- i) ⊙ (w := k :* r)) ∷ (:1 ⊙ (w :* i := :1)) ∷ []) (
         ap of (size-divides k K (K-size c M) (largest-size c) (within-largest c M)) ∙ of-mul k (K / k),
-        (mul-inverse (of K) (size-not-zero Q K (largest-size c)), tt),
+        (mul-reciprocal (of K) (size-not-zero K (largest-size c)), tt),
       ) tt

@@ -1,4 +1,5 @@
 pub mod RefusalLaws
+pub mod AllowedSizes
 pub mod Rows
 pub mod EarlyReturns
 pub mod VerdictLaws
@@ -26,5 +27,6 @@ pub mod JoinedRule
 pub mod JoinedCheck
 pub mod Honest
 pub mod CallsProve
+pub mod Divisors
 pub mod Demands
 pub mod ProverForms

@@ -13,9 +13,9 @@ use Rattle.algebra.proofs.Division.{length-quotient, length-remainder}
 use Rattle.algebra.proofs.Solver.{_:+_, _:*_, :-_, :1, _:=_, _⊙_, _from_, ring, ring-by}
 use Rattle.field.specs.Prime.{Prime}
 use Rattle.field.specs.Element.{Elem, of, 𝟘, _⊕_, _⊗_}
-use Rattle.field.specs.Power.{inverse, _⊘_}
+use Rattle.field.specs.Power.{reciprocal, _⊘_}
 use Rattle.field.proofs.ElementLaws.{primeRing}
-use Rattle.field.proofs.Field.{mul-inverse}
+use Rattle.field.proofs.Field.{mul-reciprocal}
 use Rattle.domain.specs.Domain.{Outside, vanishing, sumOver}
 use Rattle.domain.specs.Polynomial.{Poly, eval, quotient, remainder}
 use Rattle.domain.specs.Qualifies.{Qualifies}
@@ -43,12 +43,12 @@ length-tail (x ∷ l) = omega arith
 -- quotients by an element that is not 0
 module _ {q : Prime} (n : Elem q) (nonzero : n ≢ 𝟘) where
   times-quotient : (a : Elem q) → n ⊗ (a ⊘ n) ≡ a
-  times-quotient a = ring-by (primeRing q) (n ∷ inverse n ∷ a ∷ []) (λ n i a. n :* (a :* i) := a from (a ⊙ (n :* i := :1)) ∷ []) (mul-inverse n nonzero, tt) tt
+  times-quotient a = ring-by (primeRing q) (n ∷ reciprocal n ∷ a ∷ []) (λ n i a. n :* (a :* i) := a from (a ⊙ (n :* i := :1)) ∷ []) (mul-reciprocal n nonzero, tt) tt
 
   quotient-times : (a b : Elem q) → n ⊗ b ≡ a → b ≡ a ⊘ n
   quotient-times a b e =
-      ring-by (primeRing q) (n ∷ inverse n ∷ a ∷ b ∷ []) (λ n i a b. b := a :* i from ((:- b) ⊙ (n :* i := :1)) ∷ (i ⊙ (n :* b := a)) ∷ [])
-      (mul-inverse n nonzero, (e, tt)) tt
+      ring-by (primeRing q) (n ∷ reciprocal n ∷ a ∷ b ∷ []) (λ n i a b. b := a :* i from ((:- b) ⊙ (n :* i := :1)) ∷ (i ⊙ (n :* b := a)) ∷ [])
+      (mul-reciprocal n nonzero, (e, tt)) tt
 
 module _ {q : Prime} (Q : Qualifies q) (c : Circuit) (W : WellFormed (q .p) c) (m ẑ : Poly q) (m-length : length m ≡ lengths (sizesOf c) .mask) (ẑ-length : length ẑ ≡ suc (c .|C|)) (α : Elem q) (η : Three (Elem q)) where
   abbrev R : CommRing (Elem q)
@@ -64,7 +64,7 @@ module _ {q : Prime} (Q : Qualifies q) (c : Circuit) (W : WellFormed (q .p) c) (
   C-positive = size-positive (c .|C|) (W .C-size)
 
   n-not-zero : n ≢ 𝟘
-  n-not-zero = size-not-zero Q (c .|C|) (W .C-size)
+  n-not-zero = size-not-zero (c .|C|) (W .C-size)
 
   f-length : length f ≡ 2 * c .|C|
   f-length = length-line Q c W m ẑ α η m-length ẑ-length

@@ -12,9 +12,9 @@ use Rattle.algebra.proofs.Counting.{at-most-injective, numbers-below}
 use Rattle.algebra.proofs.Solver.{_:+_, _:*_, :-_, :0, :1, _:=_, _⊙_, _from_, ring, ring-by}
 use Rattle.field.specs.Prime.{Prime}
 use Rattle.field.specs.Element.{Elem, 𝟘, _⊕_, _⊗_, neg}
-use Rattle.field.specs.Power.{inverse, _⊘_}
+use Rattle.field.specs.Power.{reciprocal, _⊘_}
 use Rattle.field.proofs.ElementLaws.{same-word, word-below, primeRing}
-use Rattle.field.proofs.Field.{mul-inverse}
+use Rattle.field.proofs.Field.{mul-reciprocal}
 use Rattle.protocol.specs.Three.{MatrixName, A, B, C, Three, at, sumMatrices}
 
 module _ {T : Type 0} where
@@ -90,13 +90,13 @@ module _ {q : Prime} (s : Elem q) (e : Three (Elem q)) where
   module _ (M : MatrixName) (nonzero : at e M ≢ 𝟘) where
     pub solution-solves : (u v : Elem q) → linear (triple M (solution M u v) u v) ≡ 𝟘
     solution-solves u v = linear-parts M (solution M u v) u v
-        ∙ ring-by R (at e M ∷ inverse (at e M) ∷ rest M u v ∷ [])
-        (λ a i r. a :* ((:- r) :* i) :+ r := :0 from ((:- r) ⊙ (a :* i := :1)) ∷ []) (mul-inverse (at e M) nonzero, tt) tt
+        ∙ ring-by R (at e M ∷ reciprocal (at e M) ∷ rest M u v ∷ [])
+        (λ a i r. a :* ((:- r) :* i) :+ r := :0 from ((:- r) ⊙ (a :* i := :1)) ∷ []) (mul-reciprocal (at e M) nonzero, tt) tt
 
     pub solves-is-solution : (t : Three (Elem q)) → linear t ≡ 𝟘 → at t M ≡ solution M (former M t) (latter M t)
-    solves-is-solution t h = ring-by R (at e M ∷ inverse (at e M) ∷ at t M ∷ rest M (former M t) (latter M t) ∷ [])
+    solves-is-solution t h = ring-by R (at e M ∷ reciprocal (at e M) ∷ at t M ∷ rest M (former M t) (latter M t) ∷ [])
         (λ a i x r. x := (:- r) :* i from (i ⊙ (a :* x :+ r := :0)) ∷ ((:- x) ⊙ (a :* i := :1)) ∷ [])
-        (sym (linear-parts M (at t M) (former M t) (latter M t)) ∙ ap linear (triple-parts M t) ∙ h, (mul-inverse (at e M) nonzero, tt)) tt
+        (sym (linear-parts M (at t M) (former M t) (latter M t)) ∙ ap linear (triple-parts M t) ∙ h, (mul-reciprocal (at e M) nonzero, tt)) tt
 
     -- a solution is known by the other two
     solutions-equal : (t u : Three (Elem q)) → linear t ≡ 𝟘 → linear u ≡ 𝟘 → former M t ≡ former M u → latter M t ≡ latter M u → t ≡ u

@@ -14,9 +14,9 @@ use Rattle.algebra.proofs.RingLaws.{mul-zero}
 use Rattle.algebra.proofs.Solver.{_:-_, _:*_, :-_, :0, :1, _:=_, _⊙_, _from_, ring-by}
 use Rattle.field.specs.Prime.{Prime}
 use Rattle.field.specs.Element.{Elem, of, 𝟘, _⊗_, _⊖_}
-use Rattle.field.specs.Power.{inverse, _⊘_}
+use Rattle.field.specs.Power.{reciprocal, _⊘_}
 use Rattle.field.proofs.ElementLaws.{primeRing}
-use Rattle.field.proofs.Field.{mul-inverse}
+use Rattle.field.proofs.Field.{mul-reciprocal}
 use Rattle.domain.specs.Domain.{element, Outside, vanishing}
 use Rattle.domain.specs.Polynomial.{Poly, eval, _⊟_, _⊠_, quotient}
 use Rattle.domain.specs.Qualifies.{Qualifies}
@@ -89,9 +89,9 @@ module _ {q : Prime} (Q : Qualifies q) (c : Circuit) (W : WellFormed (q .p) c) (
     pub vanishing-parts : length g ≡ k - 1 → ((i : ℕ) → i < k → eval (matrixPoly c α β M ω g) (κ i) ≡ 𝟘)
         → (ω ≡ value) × (g ≡ matrixRemainder c α β M)
     vanishing-parts e h = (
-      ring-by R (ω ∷ value ∷ of k ∷ inverse (of k) ∷ [])
+      ring-by R (ω ∷ value ∷ of k ∷ reciprocal (of k) ∷ [])
           (λ w v n i. w := v from (n ⊙ (w :* i := v :* i)) ∷ ((v :- w) ⊙ (n :* i := :1)) ∷ [])
-          (ap (λ f. getD f 0 𝟘) same, (mul-inverse (of k) (size-not-zero Q k (K-size c M)), tt)) tt,
+          (ap (λ f. getD f 0 𝟘) same, (mul-reciprocal (of k) (size-not-zero k (K-size c M)), tt)) tt,
       ap tail same,
     )
       where
@@ -100,9 +100,9 @@ module _ {q : Prime} (Q : Qualifies q) (c : Circuit) (W : WellFormed (q .p) c) (
 
         at-place : (i : ℕ) → i < k → eval G (κ i) ≡ eval (ratio c α β M) (κ i)
         at-place i below =
-            ring-by R (eval a (κ i) ∷ eval b (κ i) ∷ inverse (eval b (κ i)) ∷ eval G (κ i) ∷ [])
+            ring-by R (eval a (κ i) ∷ eval b (κ i) ∷ reciprocal (eval b (κ i)) ∷ eval G (κ i) ∷ [])
             (λ a b i g. g := a :* i from ((:- i) ⊙ (a :- b :* g := :0)) ∷ ((:- g) ⊙ (b :* i := :1)) ∷ [])
-            (sym (left-at i) ∙ h i below, (mul-inverse (eval b (κ i)) (denominator-not-zero Q c W α β α-outside β-outside M i below), tt)) tt
+            (sym (left-at i) ∙ h i below, (mul-reciprocal (eval b (κ i)) (denominator-not-zero Q c W α β α-outside β-outside M i below), tt)) tt
             ∙ sym (ratio-at i below)
 
         same : G ≡ value ⊘ of k ∷ matrixRemainder c α β M
@@ -112,10 +112,10 @@ module _ {q : Prime} (Q : Qualifies q) (c : Circuit) (W : WellFormed (q .p) c) (
   rule-vanishes : (i : ℕ) → i < k → eval (matrixPoly c α β M value (matrixRemainder c α β M)) (κ i) ≡ 𝟘
   rule-vanishes i below =
       left-at value (matrixRemainder c α β M) i
-      ∙ ring-by R (eval a (κ i) ∷ eval b (κ i) ∷ inverse (eval b (κ i)) ∷ eval (value ⊘ of k ∷ matrixRemainder c α β M) (κ i) ∷ [])
+      ∙ ring-by R (eval a (κ i) ∷ eval b (κ i) ∷ reciprocal (eval b (κ i)) ∷ eval (value ⊘ of k ∷ matrixRemainder c α β M) (κ i) ∷ [])
       (λ a b i g. a :- b :* g := :0 from ((:- b) ⊙ (g := a :* i)) ∷ ((:- a) ⊙ (b :* i := :1)) ∷ []) (
         ap (λ f. eval f (κ i)) (sym ratio-parts) ∙ ratio-at i below,
-        (mul-inverse (eval b (κ i)) (denominator-not-zero Q c W α β α-outside β-outside M i below), tt),
+        (mul-reciprocal (eval b (κ i)) (denominator-not-zero Q c W α β α-outside β-outside M i below), tt),
       ) tt
 
   pub length-matrixRemainder : length (matrixRemainder c α β M) ≡ at (lengths (sizesOf c) .matrixRemainders) M

@@ -15,13 +15,14 @@ use Rattle.field.specs.Power.{_⊘_}
 use Rattle.field.proofs.ElementLaws.{add-comm, primeRing}
 use Rattle.domain.specs.Size.{isSize}
 use Rattle.domain.specs.Polynomial.{Poly, eval, _⊞_, _⊟_, _·_, _⊠_}
-use Rattle.domain.proofs.SizeLaws.{size-positive, max-is-size}
+use Rattle.domain.proofs.SizeLaws.{size-positive, largest-is-size}
 use Rattle.domain.proofs.Interpolation.{length-interpolate}
 use Rattle.protocol.specs.Three.{MatrixName, A, B, C, at}
 use Rattle.protocol.specs.Circuit.{Entry, Circuit, sizesOf, largest}
 use Rattle.protocol.specs.Index.{Index, indexAt, rowElement, columnElement, placed, index}
 use Rattle.protocol.specs.Checks.{numeratorValue, denominatorValue}
 use Rattle.protocol.specs.Messages.{numerator, denominator}
+use Rattle.protocol.proofs.AllowedSizes.{size-within}
 use Rattle.protocol.proofs.IndexPolynomials.{K-size}
 use Rattle.protocol.proofs.MessagePolynomials.{eval-minus}
 
@@ -38,13 +39,10 @@ sizeK-positive c M = size-positive (sizeK c M) (K-size c M)
 -- |K| is one of the sizes, and the largest
 pub largest-size : (c : Circuit) → isSize (largest (sizesOf c .|K|)) ≡ true
 unfolding largest
-largest-size c = max-is-size (sizeK c A) (max (sizeK c B) (sizeK c C)) (K-size c A) (max-is-size (sizeK c B) (sizeK c C) (K-size c B) (K-size c C))
+largest-size c = largest-is-size (sizeK c A) (sizeK c B) (sizeK c C) (K-size c A) (K-size c B) (K-size c C)
 
 pub within-largest : (c : Circuit) (M : MatrixName) → sizeK c M ≤ largest (sizesOf c .|K|)
-unfolding largest
-within-largest c A = omega arith
-within-largest c B = omega arith
-within-largest c C = omega arith
+within-largest c M = size-within (sizesOf c) M
 
 length-placed : {q : Prime} (c : Circuit) (M : MatrixName) (filling : Elem q) (f : Entry → Elem q) → length (placed c M filling f) ≡ sizeK c M
 unfolding placed

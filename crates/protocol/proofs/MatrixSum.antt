@@ -14,14 +14,15 @@ use Rattle.algebra.proofs.Solver.{_:+_, _:-_, _:*_, :-_, _:=_, _⊙_, _from_, r
 use Rattle.algebra.proofs.SumLaws.{sum-of-list}
 use Rattle.field.specs.Prime.{Prime}
 use Rattle.field.specs.Element.{Elem, of, 𝟘, 𝟙, _⊗_, _⊖_}
-use Rattle.field.specs.Power.{inverse, _⊘_}
+use Rattle.field.specs.Power.{reciprocal, _⊘_}
 use Rattle.field.proofs.ElementLaws.{mul-one, primeRing}
-use Rattle.field.proofs.Field.{primeField, inverse-product}
+use Rattle.field.proofs.Field.{primeField, reciprocal-product}
 use Rattle.domain.specs.Domain.{element, Outside, vanishing, lagrange, sumOver}
 use Rattle.domain.specs.Polynomial.{eval}
 use Rattle.domain.specs.Qualifies.{Qualifies}
-use Rattle.domain.proofs.SizeLaws.{size-positive, size-not-zero}
-use Rattle.domain.proofs.DomainLaws.{outside-not-element}
+use Rattle.domain.proofs.SizeLaws.{size-positive}
+use Rattle.domain.proofs.DomainLaws.{inside-element}
+use Rattle.domain.proofs.Divisors.{lagrange-divisor}
 use Rattle.domain.proofs.Lagrange.{lagrange-off}
 use Rattle.protocol.specs.Three.{MatrixName, at}
 use Rattle.protocol.specs.Circuit.{Entry, Circuit, sizesOf, extension}
@@ -45,12 +46,12 @@ module _ {q : Prime} (Q : Qualifies q) (c : Circuit) (W : WellFormed (q .p) c) (
   columnFactor col = of (c .|C|) ⊗ (β ⊖ col)
 
   row-not-zero : (i : ℕ) → i < c .|R| → rowFactor (element (c .|R|) i) ≢ 𝟘
-  row-not-zero i below = mul-not-zero (primeRing q) (primeField q) (of (c .|R|)) (α ⊖ element (c .|R|) i)
-      (size-not-zero Q (c .|R|) (W .R-size)) (outside-not-element Q (c .|R|) (W .R-size) α α-outside i below)
+  row-not-zero i below =
+      lagrange-divisor Q (c .|R|) (W .R-size) (element (c .|R|) i) α (inside-element Q (c .|R|) (W .R-size) i below) α-outside
 
   column-not-zero : (i : ℕ) → i < c .|C| → columnFactor (element (c .|C|) i) ≢ 𝟘
-  column-not-zero i below = mul-not-zero (primeRing q) (primeField q) (of (c .|C|)) (β ⊖ element (c .|C|) i)
-      (size-not-zero Q (c .|C|) (W .C-size)) (outside-not-element Q (c .|C|) (W .C-size) β β-outside i below)
+  column-not-zero i below =
+      lagrange-divisor Q (c .|C|) (W .C-size) (element (c .|C|) i) β (inside-element Q (c .|C|) (W .C-size) i below) β-outside
 
   -- b_M at a point where the index has the values v: |R||C|(α - row)(β - col)
   denominator-factors : (y : Elem q) (v : Index (Elem q)) → indexAt (index c M) y ≡ v → v .rowcol ≡ v .row ⊗ v .col
@@ -89,11 +90,11 @@ module _ {q : Prime} (Q : Qualifies q) (c : Circuit) (W : WellFormed (q .p) c) (
           let col : Elem q = element (c .|C|) (e .column) in
           ap₂ _⊗_
           (eval-numerator c α β M κ ∙ ap (numeratorValue (sizesOf c) α β) (index-at-entry Q c W M i below _))
-          (ap inverse entry-denominator
-          ∙ inverse-product (rowFactor row) (columnFactor col)
+          (ap reciprocal entry-denominator
+          ∙ reciprocal-product (rowFactor row) (columnFactor col)
           (row-not-zero (e .row) (fits .row-below)) (column-not-zero (e .column) (fits .column-below)))
           ∙ ring (primeRing q)
-          (vanishing (c .|R|) α ∷ vanishing (c .|C|) β ∷ row ∷ col ∷ of (e .value) ∷ inverse (rowFactor row) ∷ inverse (columnFactor col) ∷ [])
+          (vanishing (c .|R|) α ∷ vanishing (c .|C|) β ∷ row ∷ col ∷ of (e .value) ∷ reciprocal (rowFactor row) ∷ reciprocal (columnFactor col) ∷ [])
           (λ u v r c e i j. u :* v :* (r :* c :* e) :* (i :* j) := e :* (r :* u :* i) :* (c :* v :* j)) tt
           ∙ sym (ap₂ (λ x y. of (e .value) ⊗ x ⊗ y) (lagrange-off (c .|R|) row α α-outside) (lagrange-off (c .|C|) col β β-outside))
 

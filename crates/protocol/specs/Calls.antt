@@ -3,12 +3,12 @@
 -- the result, and where it is refused it stays as it was. (The session's calls are in Session.) Assumes nothing.
 use mathlib.Core.Bool.{Bool, _&&_}
 use mathlib.Core.List.{List, [], _∷_, _++_, map, foldr}
-use mathlib.Core.Option.{Option}
+use mathlib.Core.Option.{Option, Option·map}
 use Prim.Native.Nat.{ℕ, _+_, _*_, _%_}
 use lib.Dec.{eqb, leb, ltb}
 use lib.ListN.{length, getD}
 use Rattle.field.specs.Prime.{Prime}
-use Rattle.field.specs.Element.{Elem, of, words, _⊕_, _⊗_, _⊖_}
+use Rattle.field.specs.Element.{Elem, of, wordOf, words, _⊕_, _⊗_, _⊖_}
 use Rattle.field.specs.Power.{power, inverse}
 use Rattle.domain.specs.Size.{maxSize, isSize}
 use Rattle.domain.specs.Domain.{domain}
@@ -18,7 +18,7 @@ use Rattle.protocol.specs.Circuit.{Entry, Circuit, Sizes, sizesOf, publi
 use Rattle.protocol.specs.Index.{Index, mapIndex, index}
 use Rattle.protocol.specs.Checks.{listOpenings}
 use Rattle.protocol.specs.Messages.{Messages, lengths, witness, assignment, rowQuotient, sums, values, line, lineRemainder, lineQuotient, matrixRemainder, joinedQuotient, messages, openings}
-use Rattle.protocol.specs.Refusals.{Refusal, Outcome, Done, Refused, judged, first, refuse, pairs, trailerBytes, sixSizeTests, sizeRefusal, listRefusal, wordRefusal}
+use Rattle.protocol.specs.Refusals.{Refusal, Outcome, Done, Refused, judged, after, first, refuse, pairs, trailerBytes, sixSizeTests, sizeRefusal, listRefusal, wordRefusal, inverseOutcome}
 use Rattle.protocol.specs.Record.{sectionLengths, startsFrom, sectionBytes, writeRecord, sizesRead, endRow, trailerRow, wordRow, readRecord}
 use Rattle.protocol.specs.Admission.{circuitRefusals, assignmentTests, proverRefusal}
 
@@ -71,8 +71,9 @@ module _ (q : Prime) where
   unfoldable pub powerCall : ℕ → ℕ → Outcome ℕ
   powerCall a n = judged (wordRefusal q (a ∷ [])) (power (of {q = q} a) n .word)
 
+  -- 1/a
   unfoldable pub inverseCall : ℕ → Outcome ℕ
-  inverseCall a = judged (wordRefusal q (a ∷ [])) (inverse (of {q = q} a) .word)
+  inverseCall a = after (wordRefusal q (a ∷ [])) (inverseOutcome (Option·map wordOf (inverse (of {q = q} a))))
 
   -- the n elements of a domain into a lent slice
   unfoldable pub domainCall : ℕ → ℕ → Outcome (List ℕ)

@@ -1,6 +1,6 @@
 -- The proved cases P1 to P12, one table and one fact (document 01, "The square case"). Assumes nothing.
 use mathlib.Core.Path.{_≡_, refl}
-use mathlib.Core.List.{List, [], _∷_, map}
+use mathlib.Core.List.{List, [], _∷_, map, Option·toList}
 use mathlib.Core.Option.{Option, some}
 use Prim.Native.Nat.{ℕ, _-_}
 use Rattle.field.specs.Element.{Elem, of, words, _⊗_}
@@ -110,7 +110,7 @@ answersOn a l = changed (a .word) l
 abbrev pub table : List Case
 table =
     (list (words (of {q = babyBear} minusOne ⊗ of minusOne ∷ [])) is list (1 ∷ []))
-    ∷ (list (words (inverse {q = babyBear} (of 2) ∷ [])) is list (1006632961 ∷ []))
+    ∷ (list (words (Option·toList (inverse {q = babyBear} (of 2)))) is list (1006632961 ∷ []))
     ∷ (list (words (domain {q = babyBear} 2)) is list (1 ∷ minusOne ∷ []))
     ∷ (list (words (honest .witness)) is list (4 ∷ 1 ∷ []))
     ∷ (list (words (listed (honest .sums))) is list (3 ∷ 3 ∷ 9 ∷ []))
@@ -125,5 +125,5 @@ table =
 
 -- every computed value is the stated one: the two lists are the same by computation
 pub proved-cases : map (λ (c : Case). c .computed) table ≡ map (λ (c : Case). c .stated) table
-unfolding protocol-computes
+unfolding protocol-computes Option·toList
 proved-cases = refl

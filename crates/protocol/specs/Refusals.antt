@@ -1,5 +1,5 @@
 -- The table of refusals, a definition for each row, and the first refusal of several (document 01, "Refusals by place of
--- check"). Assumes nothing.
+-- check"; document 02 adds rows). Assumes nothing.
 use mathlib.Core.Bool.{Bool, true, false, not, _&&_, _||_}
 use mathlib.Core.List.{List, [], _∷_, _++_, map}
 use mathlib.Core.Option.{Option, none, some}
@@ -27,6 +27,11 @@ pub data Outcome (T : Type 0) : Type 0 where
 abbrev pub judged : {T : Type 0} → Option Refusal → T → Outcome T
 judged none result = Done result
 judged (some r) result = Refused r
+
+-- the answer after a row that may refuse
+abbrev pub after : {T : Type 0} → Option Refusal → Outcome T → Outcome T
+after none outcome = outcome
+after (some r) outcome = Refused r
 
 -- "Checks run down the table": the first refusal of several
 abbrev pub first : List (Option Refusal) → Option Refusal
@@ -83,6 +88,11 @@ listRefusal tests = refuse 5 0 tests
 -- 6, words: "a field word of p or more"
 unfoldable pub wordRefusal : Prime → List ℕ → Option Refusal
 wordRefusal q ws = refuse 6 0 (map (λ w. ltb w (q .p)) ws)
+
+-- 12, inverse: "an inverse asked of 0 by an outside caller", "after the word check" (document 02, request 1); its position is 0
+abbrev pub inverseOutcome : Option ℕ → Outcome ℕ
+inverseOutcome none = Refused (record { number = 12; position = 0 })
+inverseOutcome (some i) = Done i
 
 -- "rising strictly by row and then column"
 unfoldable pub rises : Entry → Entry → Bool

@@ -13,7 +13,7 @@ ghost use Rattle.domain.specs.Size.{isSize};
 ghost use Rattle.domain.specs.Domain.{element, lagrange};
 ghost use Rattle.domain.specs.Polynomial.{interpolate as interpolation};
 ghost use Rattle.domain.specs.Qualifies.{Qualifies};
-ghost use Rattle.domain.specs.Known.{Known};
+ghost use Rattle.domain.specs.Known.{Known, Modulus};
 ghost use Rattle.protocol.specs.Three.{each, mapThree};
 ghost use Rattle.protocol.specs.Circuit.{Circuit};
 ghost use Rattle.protocol.specs.Checks.{weighted};
@@ -30,7 +30,7 @@ use protocol::Triple;
 
 // L of each element of the domain of size n at alpha, in order.
 fn lagrange_values_into(p: u32, n: u32, alpha: u32, out: &mut [u32])
-    requires { ⌜ 1 < p ⌝ }
+    requires { ⌜ Modulus p ⌝ }
     requires { ⌜ isSize n ≡ true ⌝ }
     requires { ⌜ length (now out) ≡ n ⌝ }
     ensures { λ _. ⌜ ((q : Prime) → Known q p → Qualifies q
@@ -102,7 +102,7 @@ fn weights_into(
     eta: Triple,
     out: &mut [u32],
 )
-    requires { ⌜ 1 < p ⌝ }
+    requires { ⌜ Modulus p ⌝ }
     requires { ⌜ (isSize r ≡ true) × (isSize c ≡ true) ⌝ }
     requires { ⌜ length (now out) ≡ c ⌝ }
     requires { ⌜ EachWithin r c (now ea) (now eb) (now ec) ⌝ }
@@ -134,7 +134,7 @@ fn line_into(
     eta: Triple,
     out: &mut [u32],
 )
-    requires { ⌜ 1 < p ⌝ }
+    requires { ⌜ Modulus p ⌝ }
     requires { ⌜ (isSize r ≡ true) × (isSize c ≡ true) ⌝ }
     requires { ⌜ (length (now assignment) ≡ c + 1) × (length (now m) ≡ 2 * c) × (length (now out) ≡ 2 * c) ⌝ }
     requires { ⌜ EachWithin r c (now ea) (now eb) (now ec) ⌝ }
@@ -166,7 +166,7 @@ pub fn line_of(
     eta: Triple,
     out: &mut [u32],
 )
-    requires { ⌜ 1 < p ⌝ }
+    requires { ⌜ Modulus p ⌝ }
     requires { ⌜ Fits p r c x (now ea) (now eb) (now ec) (now z) (now m) ⌝ }
     requires { ⌜ length (now out) ≡ 2 * c ⌝ }
     ensures { λ _. ⌜ ((q : Prime) → Known q p → Qualifies q

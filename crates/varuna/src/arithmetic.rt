@@ -1,12 +1,14 @@
-// Public calls on field words. Refusal 6 for a word of p or more.
+// Public calls on field words. Refusal 6 for a word of p or more, then 12 for the inverse of 0.
 ghost use mathlib.Core.Path.{_≡_};
 ghost use mathlib.Core.List.{[], _∷_};
+ghost use Rattle.field.specs.Meanings.{inverseMeaning};
 ghost use Rattle.domain.specs.BabyBear.{babyBear};
-ghost use Rattle.protocol.specs.Refusals.{wordRefusal};
+ghost use Rattle.protocol.specs.Refusals.{wordRefusal, inverseOutcome};
 ghost use Rattle.protocol.specs.Calls.{addCall, subtractCall, multiplyCall, powerCall, inverseCall};
 ghost use Rattle.protocol.specs.Meanings.{faultRefusal};
 ghost use Rattle.varuna.specs.Answers.{wordMeaning};
 use crate::answers::Word;
+use field::Inverse;
 use field::MODULE_PRIME;
 use protocol::Fault;
 
@@ -77,13 +79,23 @@ pub fn power(a: u32, n: u32) -> Word
     }
 }
 
-// 1/a, and 0 for 0
+// The inverse, or 12 where there is none.
+fn give_inverse(inverse: Inverse) -> Word
+    ensures { λ r. ⌜ wordMeaning r ≡ inverseOutcome (inverseMeaning inverse) ⌝ }
+{
+    match inverse {
+        Inverse::Value(i) => Word::Value(i),
+        Inverse::None => Word::Refused(12, 0),
+    }
+}
+
+// 1/a, for any a but 0
 pub fn inverse(a: u32) -> Word
     ensures { λ r. ⌜ wordMeaning r ≡ inverseCall babyBear a ⌝ }
 {
     let fault = check_word(a);
     match fault {
-        Fault::Fine => Word::Value(field::invert(MODULE_PRIME, a)),
+        Fault::Fine => give_inverse(field::invert(MODULE_PRIME, a)),
         Fault::Refused(number, position) => Word::Refused(number, position),
     }
 }

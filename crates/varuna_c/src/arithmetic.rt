@@ -41,7 +41,7 @@ pub extern "C" fn varuna_power(a: u32, n: u32, result: &mut u32, position: &mut 
     give_word(varuna::arithmetic::power(a, n), result, position)
 }
 
-// 1/a, and 0 for 0. Refusal 6.
+// 1/a, for any a but 0. Refusals 6, 12.
 #[no_mangle]
 pub extern "C" fn varuna_inverse(a: u32, result: &mut u32, position: &mut usize) -> u32
     ensures { λ number. ⌜ told number (now (position .exit)) (now (result .exit))

@@ -1,2 +1,1 @@
-pub mod AllowedSizes
 pub mod PublicValue

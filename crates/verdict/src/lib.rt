@@ -10,8 +10,9 @@ ghost use Rattle.field.specs.Element.{Elem, of, _⊗_};
 ghost use Rattle.domain.specs.Size.{isSize};
 ghost use Rattle.domain.specs.Polynomial.{eval, interpolate};
 ghost use Rattle.domain.specs.Qualifies.{Qualifies};
-ghost use Rattle.domain.specs.Known.{Known};
+ghost use Rattle.domain.specs.Known.{Known, Modulus, OutsideDomain};
 ghost use Rattle.protocol.specs.Three.{MatrixName, at, mapThree};
+ghost use Rattle.protocol.specs.Circuit.{largest as largestSize};
 ghost use Rattle.protocol.specs.Index.{mapIndex};
 ghost use Rattle.protocol.specs.Checks.{mapTranscript, mapOpenings, weighted, assignmentValue, lineRight};
 ghost use Rattle.protocol.specs.Checks.{numeratorValue, denominatorValue, matrixLeft, Row, Line, Matrix, passes};
@@ -19,6 +20,7 @@ ghost use Rattle.protocol.specs.Checks as checks;
 ghost use Rattle.protocol.specs.Refusals.{sixSizeTests};
 ghost use Rattle.protocol.specs.Session.{all};
 ghost use Rattle.protocol.specs.Meanings.{three, sizes, transcript, indexWords, openings, verdictMeaning};
+ghost use Rattle.verdict.specs.Among.{SizeAmong};
 use protocol::Check;
 use protocol::Opened;
 use protocol::Sizes;
@@ -52,7 +54,7 @@ fn weighted_sum(p: u32, eta: Triple, v: Triple) -> u32
 
 // x̂(y), the sum of x_i L_i(y) over X; `element` is g_X^i.
 fn public_value(p: u32, n: u32, x: &[u32], y: u32) -> u32
-    requires { ⌜ 1 < p ⌝ }
+    requires { ⌜ Modulus p ⌝ }
     requires { ⌜ isSize n ≡ true ⌝ }
     requires { ⌜ length (now x) ≡ n ⌝ }
     ensures { λ r. ⌜ ((q : Prime) → Known q p → Qualifies q → r ≡ (eval (interpolate n (map (of {q = q}) (now (x .entry)))) (of y)) .word) ⌝ }
@@ -72,7 +74,7 @@ fn public_value(p: u32, n: u32, x: &[u32], y: u32) -> u32
 
 // ẑ(β) = ŵ(β) v_X(β) + x̂(β).
 fn assignment_value(p: u32, s: Sizes, x: &[u32], beta: u32, witness: u32) -> u32
-    requires { ⌜ 1 < p ⌝ }
+    requires { ⌜ Modulus p ⌝ }
     requires { ⌜ isSize (s .x) ≡ true ⌝ }
     requires { ⌜ length (now x) ≡ s .x ⌝ }
     ensures { λ r. ⌜ ((q : Prime) → Known q p → Qualifies q
@@ -86,19 +88,21 @@ fn assignment_value(p: u32, s: Sizes, x: &[u32], beta: u32, witness: u32) -> u32
 // h1(β) v_C(β) + β g1(β) + σ/|C|.
 fn line_right(p: u32, s: Sizes, beta: u32, sum: u32, remainder: u32, quotient: u32) -> u32
     requires { ⌜ 1 < p ⌝ }
+    requires { ⌜ isSize (s .c) ≡ true ⌝ }
     ensures { λ r. ⌜ ((q : Prime) → q .p ≡ p → r ≡ (lineRight (sizes s) (of {q = q} beta) (of sum) (of remainder) (of quotient)) .word) ⌝ }
 {
     let multiple = field::multiply(p, quotient, domain::vanishing_value(p, s.c, beta));
     let rest = field::multiply(p, beta, remainder);
-    let mean = field::multiply(p, sum, field::invert(p, s.c));
+    let mean = field::divide(p, sum, s.c);
     field::add(p, field::add(p, multiple, rest), mean)
 }
 
 // Line: m(β) + (Σ η_M ω_M) ẑ(β) = h1(β) v_C(β) + β g1(β) + σ/|C|.
 fn line_holds(p: u32, s: Sizes, x: &[u32], t: Transcript, o: Opened) -> bool
-    requires { ⌜ 1 < p ⌝ }
+    requires { ⌜ Modulus p ⌝ }
     requires { ⌜ isSize (s .x) ≡ true ⌝ }
     requires { ⌜ length (now x) ≡ s .x ⌝ }
+    requires { ⌜ isSize (s .c) ≡ true ⌝ }
     ensures { λ r. ⌜ ((q : Prime) → Known q p → Qualifies q → (index : List (List ℕ))
         → r ≡ passes (sizes s) (map (of {q = q}) (now (x .entry))) (mapTranscript of (transcript t)) (mapOpenings of (openings o index)) Line) ⌝ }
 {
@@ -146,12 +150,13 @@ fn matrix_left(
     remainder: u32,
 ) -> u32
     requires { ⌜ 1 < p ⌝ }
+    requires { ⌜ isSize size ≡ true ⌝ }
     ensures { λ r. ⌜ ((q : Prime) → q .p ≡ p → (M : MatrixName) → at (sizes s .|K|) M ≡ size → at (three (t .values)) M ≡ value
         → r ≡ (matrixLeft (sizes s) (mapTranscript (of {q = q}) (transcript t)) M (mapIndex of (indexWords index)) (of remainder)) .word) ⌝ }
 {
     let numerator = numerator_value(p, s, t.alpha, t.beta, index);
     let denominator = denominator_value(p, s, t.alpha, t.beta, index);
-    let mean = field::multiply(p, value, field::invert(p, size));
+    let mean = field::divide(p, value, size);
     let ratio = field::add(p, field::multiply(p, t.gamma, remainder), mean);
     field::subtract(p, numerator, field::multiply(p, denominator, ratio))
 }
@@ -159,13 +164,15 @@ fn matrix_left(
 // s_M = |K_M| v_K(γ) / (|K| v_{K_M}(γ)), with |K_M| = size.
 fn selector(p: u32, s: Sizes, size: u32, gamma: u32) -> u32
     requires { ⌜ 1 < p ⌝ }
+    requires { ⌜ SizeAmong (three (s .k)) size ⌝ }
+    requires { ⌜ OutsideDomain p (largestSize (three (s .k))) gamma ⌝ }
     ensures { λ r. ⌜ ((q : Prime) → q .p ≡ p → (M : MatrixName) → at (sizes s .|K|) M ≡ size
         → r ≡ (checks.selector (sizes s) M (of {q = q} gamma)) .word) ⌝ }
 {
     let n = largest(s.k);
     let dividend = field::multiply(p, size, domain::vanishing_value(p, n, gamma));
     let divisor = field::multiply(p, n, domain::vanishing_value(p, size, gamma));
-    field::multiply(p, dividend, field::invert(p, divisor))
+    field::divide(p, dividend, divisor)
 }
 
 // δ_M s_M (a_M - b_M (γ g_M + ω_M/|K_M|)), with |K_M| = size, δ_M = delta and ω_M = value.
@@ -180,6 +187,8 @@ fn matrix_term(
     remainder: u32,
 ) -> u32
     requires { ⌜ 1 < p ⌝ }
+    requires { ⌜ SizeAmong (three (s .k)) size ⌝ }
+    requires { ⌜ OutsideDomain p (largestSize (three (s .k))) (t .gamma) ⌝ }
     ensures { λ r. ⌜ ((q : Prime) → q .p ≡ p → (M : MatrixName) → at (sizes s .|K|) M ≡ size → at (three (t .values)) M ≡ value
         → r ≡ (of {q = q} delta ⊗ checks.selector (sizes s) M (of (t .gamma))
         ⊗ matrixLeft (sizes s) (mapTranscript of (transcript t)) M (mapIndex of (indexWords index)) (of remainder)) .word) ⌝ }
@@ -195,6 +204,8 @@ fn matrix_term(
 // Matrix: Σ δ_M s_M (a_M - b_M (γ g_M + ω_M/|K_M|)) = h2(γ) v_K(γ).
 fn matrix_holds(p: u32, s: Sizes, t: Transcript, o: Opened, index: [[u32; 4]; 3]) -> bool
     requires { ⌜ 1 < p ⌝ }
+    requires { ⌜ all (sixSizeTests (sizes s)) ≡ true ⌝ }
+    requires { ⌜ OutsideDomain p (largestSize (three (s .k))) (t .gamma) ⌝ }
     ensures { λ r. ⌜ ((q : Prime) → q .p ≡ p → (x : List (Elem q))
         → r ≡ passes (sizes s) x (mapTranscript of (transcript t)) (mapOpenings of (openings o index)) Matrix) ⌝ }
 {
@@ -214,7 +225,7 @@ fn matrix_holds(p: u32, s: Sizes, t: Transcript, o: Opened, index: [[u32; 4]; 3]
     left == right
 }
 
-// Accept, or Fails with the check that failed first.
+// Accept, or Fails with the check that failed first, for γ outside K.
 pub fn verdict(
     p: u32,
     s: Sizes,
@@ -226,6 +237,7 @@ pub fn verdict(
     requires { ⌜ 1 < p ⌝ }
     requires { ⌜ all (sixSizeTests (sizes s)) ≡ true ⌝ }
     requires { ⌜ length (now x) ≡ s .x ⌝ }
+    requires { ⌜ OutsideDomain p (largestSize (three (s .k))) (t .gamma) ⌝ }
     ensures { λ r. ⌜ ((q : Prime) → Known q p → Qualifies q
         → verdictMeaning r ≡ checks.verdict (sizes s) (map (of {q = q}) (now (x .entry))) (mapTranscript of (transcript t)) (mapOpenings of (openings o index))) ⌝ }
 {

@@ -23,8 +23,8 @@ use Rattle.protocol.specs.Messages.{lengths}
 use Rattle.protocol.specs.Refusals.{Refusal, first, sixSizeTests, turnRefusal, sizeRefusal, listRefusal, wordRefusal, challengeRefusal, lengthRefusal}
 use Rattle.protocol.specs.Session.{Session, inTurn, leftBySteps, openRefusal, alphaRefusal, etaRefusal, betaRefusal, deltaRefusal, gammaRefusal, openingsRefusal}
 use Rattle.protocol.proofs.RefusalLaws.{first-none, refuse-none, and-true, all-true}
-use Rattle.protocol.proofs.Sessions.{InTurn, in-turn, turn-passes}
-use Rattle.verdict.proofs.AllowedSizes.{allowed, Allowed, in-turn-allowed}
+use Rattle.protocol.proofs.Sessions.{InTurn, in-turn, turn-passes, LeftBySteps, left-by-steps}
+use Rattle.protocol.proofs.AllowedSizes.{allowed, Allowed, in-turn-allowed}
 
 -- by the code's answer on the turn
 turn-true : (b : Bool) → turnRefusal b ≡ none → b ≡ true
@@ -74,13 +74,14 @@ module _ (q : Prime) (stage : ℕ) (s : Sizes) where
       ∷ lengthRefusal (quotient ∷ []) (lengths s .joinedQuotient ∷ [])
       ∷ [])
 
--- the last step, whose turn has one test more
-pub openings-turn : (q : Prime) (s : Session) (o : Openings ℕ) → openingsRefusal q s o ≡ none → InTurn 6 (s .stage) (s .sizes)
+-- the last step, whose turn has one test more: what the session holds is what steps could have left
+pub openings-turn : (q : Prime) (s : Session) (o : Openings ℕ) → openingsRefusal q s o ≡ none → InTurn 6 (s .stage) (s .sizes) × LeftBySteps q s
 unfolding openingsRefusal turnRefusal
 openings-turn q s o e =
     let test : Bool = inTurn 6 (s .stage) (s .sizes) && leftBySteps q s in
     let passed : test ≡ true = refuse-none 1 0 (test ∷ []) (first-none (turnRefusal test ∷ wordRefusal q (listOpenings o) ∷ []) e .0) .0 in
-    in-turn 6 (s .stage) (s .sizes) (and-true (inTurn 6 (s .stage) (s .sizes)) (leftBySteps q s) passed .0)
+    let (turn, left) = and-true (inTurn 6 (s .stage) (s .sizes)) (leftBySteps q s) passed in
+    (in-turn 6 (s .stage) (s .sizes) turn, left-by-steps q s left)
 
 pub words-fit : (q : Prime) (s : Sizes) (x : List ℕ) → openRefusal q s x ≡ none → length x ≤ maxSize
 unfolding openRefusal sizeRefusal listRefusal

@@ -16,7 +16,8 @@ fn field_words() {
     assert_eq!(second::power(0, u32::MAX), Ok(0));
     assert_eq!(second::power(LAST, u32::MAX), Ok(LAST));
     assert_eq!(second::power(31, LAST), Ok(1));
-    assert_eq!(second::inverse(0), Ok(0));
+    assert_eq!(refusal(second::inverse(0)), Some((12, 0)));
+    assert_eq!(second::inverse(1), Ok(1));
     assert_eq!(second::inverse(LAST), Ok(LAST));
     for word in [LAST + 1, u32::MAX] {
         for call in [second::add, second::subtract, second::multiply] {
@@ -39,8 +40,10 @@ fn random_field_words() {
         assert_eq!(second::subtract(a, b).map(u64::from), Ok(arithmetic::minus(wide_a, wide_b)));
         assert_eq!(second::multiply(a, b).map(u64::from), Ok(arithmetic::times(wide_a, wide_b)));
         assert_eq!(second::power(a, b).map(u64::from), Ok(arithmetic::power(wide_a, wide_b)));
-        let inverse = second::inverse(a).unwrap();
-        assert_eq!(arithmetic::times(wide_a, u64::from(inverse)), u64::from(a != 0));
+        match second::inverse(a) {
+            Ok(inverse) => assert_eq!(arithmetic::times(wide_a, u64::from(inverse)), 1),
+            Err(refused) => assert_eq!((a, refused.number, refused.position), (0, 12, 0)),
+        }
         checked.one();
     }
 }

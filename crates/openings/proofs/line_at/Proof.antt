@@ -87,7 +87,7 @@ slice-aggregate-line-remainder-into-2 c =
 line-remainder-into-requires : tie.Need-line-remainder-into-requires
 line-remainder-into-requires c κs =
     let s = start (c .before .before .before .before .before) in
-    (omega (arith, s .pre .0), (C-fits (s .pre .1), sym (lent-length 1024 (remainder-fits s))))
+    (omega (arith, s .pre .0 .0), (C-fits (s .pre .1), sym (lent-length 1024 (remainder-fits s))))
 
 array-share-prefix-made-2 : tie.Need-array-share-prefix-made-2
 array-share-prefix-made-2 c = made-holds (line-made (at-line (c .before)))
@@ -106,7 +106,7 @@ line-quotient-into-requires : tie.Need-line-quotient-into-requires
 line-quotient-into-requires c κs =
     let l = at-line (c .before .before .before) in
     let s = start (l .before .before) in
-    (omega (arith, s .pre .0), (C-fits (s .pre .1), (sym (made-length (line-made l)), sym (lent-length 1024 (quotient-fits s)))))
+    (omega (arith, s .pre .0 .0), (C-fits (s .pre .1), (sym (made-length (line-made l)), sym (lent-length 1024 (quotient-fits s)))))
 
 array-share-prefix-remainder : tie.Need-array-share-prefix-remainder
 array-share-prefix-remainder c = made-holds (remainder-made (at-remainder (c .before)))

@@ -23,7 +23,7 @@ line-at-requires c κs = search needs
 witness-at-requires : tie.Need-witness-at-requires
 witness-at-requires c κs =
     let h = start c .pre in
-    (h .0, ((C-fits (h .1), X-fits (h .1), X-below (h .1)), h .1 .z-length))
+    (h .0 .0, ((C-fits (h .1), X-fits (h .1), X-below (h .1)), h .1 .z-length))
 
 evaluate-requires : tie.Need-evaluate-requires
 evaluate-requires c κs = search needs

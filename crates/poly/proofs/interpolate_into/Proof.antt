@@ -6,14 +6,15 @@ use mathlib.Core.List.{List, map}
 use Prim.Native.Nat.{ℕ, suc, _-_, _≤_}
 use native.Mathlib.Omega.{arith}
 use lib.ListN.{length, length-set, length-map}
+use Rattle.algebra.proofs.RingLaws.{one-mul}
 use Rattle.field.specs.Prime.{Prime}
 use Rattle.field.specs.Element.{Elem, of, 𝟙, _⊗_, words}
-use Rattle.field.specs.Power.{inverse}
+use Rattle.field.specs.Power.{reciprocal}
 use Rattle.field.proofs.Words.{of-result}
-use Rattle.field.proofs.ElementLaws.{mul-comm}
+use Rattle.field.proofs.ElementLaws.{mul-comm, primeRing}
 use Rattle.domain.specs.Domain.{root, element}
 use Rattle.domain.specs.Polynomial.{Poly, eval, interpolate}
-use Rattle.domain.proofs.SizeLaws.{size-bound}
+use Rattle.domain.proofs.SizeLaws.{size-bound, size-not-zero}
 use Rattle.domain.proofs.Interpolation.{length-interpolate}
 use Rattle.domain.proofs.Fill.{length-words}
 use Rattle.poly.proofs.WordLists.{interpolate-at, made-at}
@@ -34,19 +35,21 @@ module _ {q : Prime} (n : ℕ) where
   element-suc i = mul-comm (element n i) (root n)
 
 abbrev Inv-loop : tie.InvT-loop
-Inv-loop p g values out₀ n inverse₀ power₀ i₀ out power i =
+Inv-loop p g values out₀ n share₀ power₀ i₀ out power i =
     (i ≤ n) × (length out ≡ n) ×
     ((q : Prime) → q .p ≡ p → g ≡ (root {q = q} n) .word
     → (of power ≡ element {q = q} n (n - i)) × (out ≡ joined out₀ (words (interpolate n (map (of {q = q}) values))) i))
 
 abbrev μ-loop : tie.MeasureT-loop
-μ-loop p g values out₀ n inverse₀ power₀ i₀ out power i = i
+μ-loop p g values out₀ n share₀ power₀ i₀ out power i = i
 
-cast-invert : tie.Need-cast-invert Inv-loop μ-loop
-cast-invert c = omega (arith, size-bound (length (c .before .before .args .values .now)) (c .before .before .pre .1 .1))
+cast-divide : tie.Need-cast-divide Inv-loop μ-loop
+cast-divide c = omega (arith, size-bound (length (c .before .before .args .values .now)) (c .before .before .pre .1 .1))
 
-invert-requires : tie.Need-invert-requires Inv-loop μ-loop
-invert-requires c κs = search needs
+divide-requires : tie.Need-divide-requires Inv-loop μ-loop
+divide-requires c κs =
+    let start = c .before .before in
+    (omega arith, λ q e. size-not-zero (length (start .args .values .now)) (start .pre .1 .1))
 
 loop-holds : tie.Need-loop-holds Inv-loop μ-loop
 loop-holds c =
@@ -100,13 +103,13 @@ loop-again c =
           ∙ ap₂ _⊗_ (l .inv .2 q e root-word .0) (of-result (root n) root-word) ∙ element-suc n (n - i) ∙ ap (element n) next in
           let value : of {q = q} (c .before .evaluate .result) ≡ eval vs (element n (n - (i - 1))) =
           of-result _ (c .before .evaluate .ensures q e) ∙ ap (eval vs) power in
-          let inverted : of {q = q} (c .before .before .before .before .before .invert .result) ≡ inverse (of n) =
-          of-result _ (c .before .before .before .before .before .invert .ensures q e) in (
+          let share : of {q = q} (c .before .before .before .before .before .divide .result) ≡ reciprocal (of n) =
+          of-result _ (c .before .before .before .before .before .divide .ensures q e) ∙ one-mul (primeRing q) (reciprocal (of n)) in (
             power,
             store-down (words (interpolate n vs)) (a .out .now) (l .out) i (c .multiply2 .result) 0
                 (length-target q n (a .values .now) ∙ sym lengths) (omega arith) (omega arith) (l .inv .2 q e root-word .1)
                 (made-at (interpolate n vs) (i - 1)
-                (c .multiply2 .ensures q e ∙ ap₂ (λ (x y : Elem q). (x ⊗ y) .word) value inverted)
+                (c .multiply2 .ensures q e ∙ ap₂ (λ (x y : Elem q). (x ⊗ y) .word) value share)
                 (interpolate-at n vs (i - 1) (length-map (a .values .now) of) (omega arith))),
           ),
     )
@@ -129,8 +132,8 @@ interpolate-into-spec =
     (tie.spec
     Inv-loop
     μ-loop
-    cast-invert
-    invert-requires
+    cast-divide
+    divide-requires
     loop-holds
     sub-i
     multiply-requires

@@ -1,8 +1,9 @@
 -- `verdict::line_right` meets its contract. Assumes nothing.
 use Rattle.domain.specs.Domain.{vanishing}
+use Rattle.domain.proofs.SizeLaws.{size-not-zero}
 use Rattle.field.proofs.Words.{of-result}
 use Rattle.field.specs.Element.{Elem, of, _⊕_, _⊗_}
-use Rattle.field.specs.Power.{inverse}
+use Rattle.field.specs.Power.{_⊘_}
 use Rattle.protocol.specs.Checks.{lineRight}
 use borrow.Author.Needs.{needs}
 use mathlib.Core.Path.{ap, ap₂, _∙_}
@@ -18,11 +19,8 @@ multiply-requires c κs = search needs
 multiply-requires-2 : tie.Need-multiply-requires-2
 multiply-requires-2 c κs = search needs
 
-invert-requires : tie.Need-invert-requires
-invert-requires c κs = search needs
-
-multiply-requires-3 : tie.Need-multiply-requires-3
-multiply-requires-3 c κs = search needs
+divide-requires : tie.Need-divide-requires
+divide-requires c κs = let start = c .before .before .before in (search needs, λ q e. size-not-zero (start .args .s .c) (start .pre .1))
 
 add-requires : tie.Need-add-requires
 add-requires c κs = search needs
@@ -33,16 +31,14 @@ add-requires-2 c κs = search needs
 returns : tie.Need-returns
 unfolding lineRight
 returns c q e =
-    let d = c .before .before .before .before .before in
+    let d = c .before .before .before .before in
     let a = d .before .before .args in
     let β : Elem q = of (a .beta) in
     let h1 : Elem q = of (a .quotient) in
     let vanish = of-result (vanishing (a .s .c) β) (d .before .vanishing-value .ensures q e) in
     let multiple = of-result (h1 ⊗ of _) (d .multiply .ensures q e) ∙ ap (λ v. h1 ⊗ v) vanish in
-    let rest = of-result (β ⊗ of (a .remainder)) (c .before .before .before .before .multiply2 .ensures q e) in
-    let inverted = of-result (inverse (of {q = q} (a .s .c))) (c .before .before .before .invert .ensures q e) in
-    let σ : Elem q = of (a .sum) in
-    let mean = of-result (σ ⊗ of _) (c .before .before .multiply3 .ensures q e) ∙ ap (λ v. σ ⊗ v) inverted in
+    let rest = of-result (β ⊗ of (a .remainder)) (c .before .before .before .multiply2 .ensures q e) in
+    let mean = of-result (of {q = q} (a .sum) ⊘ of (a .s .c)) (c .before .before .divide .ensures q e) in
     let two = of-result (of {q = q} _ ⊕ of _) (c .before .add .ensures q e) ∙ ap₂ _⊕_ multiple rest in
     c .add2 .ensures q e ∙ ap₂ (λ u v. (u ⊕ v) .word) two mean
 
@@ -53,8 +49,7 @@ line-right-spec =
     vanishing-value-requires
     multiply-requires
     multiply-requires-2
-    invert-requires
-    multiply-requires-3
+    divide-requires
     add-requires
     add-requires-2
     returns)

@@ -1,33 +1,46 @@
 -- `verdict::matrix_holds` meets its contract. Assumes nothing.
+use Prim.Native.Nat.{_<_}
 use Rattle.domain.specs.Domain.{vanishing}
+use Rattle.domain.specs.Known.{OutsideDomain}
 use Rattle.field.proofs.Words.{of-result}
 use Rattle.field.specs.Element.{Elem, of, _⊕_, _⊗_}
 use Rattle.protocol.specs.Checks.{mapTranscript, mapOpenings, selector, matrixLeft, joinedLeft, joinedRight}
-use Rattle.protocol.specs.Meanings.{sizes, transcript, openings}
+use Rattle.protocol.specs.Circuit.{largest}
+use Rattle.protocol.specs.Meanings.{three, sizes, transcript, openings}
 use Rattle.protocol.specs.Three.{MatrixName, A, B, C, at}
+use Rattle.protocol.proofs.AllowedSizes.{allowed, largest-size, size-within}
+use Rattle.verdict.specs.Among.{SizeAmong}
 use borrow.Author.Needs.{needs}
 use lib.Dec.{eqb}
 use mathlib.Core.Path.{refl, ap, ap₂, _∙_}
 use Rattle.verdict.proofs.matrix_holds.Statement.{statement}
 use Rattle.verdict.proofs.matrix_holds.Tie as tie
 
+-- what one matrix's term takes
+takes : (start : tie.Start) (M : MatrixName) → let a = start .args in
+    (1 < a .p) × (SizeAmong (three (a .s .k)) (at (three (a .s .k)) M) × OutsideDomain (a .p) (largest (three (a .s .k))) (a .t .gamma))
+takes start M =
+    let s = sizes (start .args .s) in
+    let W = allowed s (start .pre .1 .0) in
+    (start .pre .0, (record { is-size = W .K-size M; largest-is-size = largest-size s W; within = size-within s M }, start .pre .1 .1))
+
 array-copy-out-matrix-term : tie.Need-array-copy-out-matrix-term
 array-copy-out-matrix-term c = search needs
 
 matrix-term-requires : tie.Need-matrix-term-requires
-matrix-term-requires c κs = search needs
+matrix-term-requires c κs = takes (c .before .before .before .before .before) A
 
 array-copy-out-matrix-term-2 : tie.Need-array-copy-out-matrix-term-2
 array-copy-out-matrix-term-2 c = search needs
 
 matrix-term-requires-2 : tie.Need-matrix-term-requires-2
-matrix-term-requires-2 c κs = search needs
+matrix-term-requires-2 c κs = takes (c .before .before .before .before .before .before .before) B
 
 array-copy-out-matrix-term-3 : tie.Need-array-copy-out-matrix-term-3
 array-copy-out-matrix-term-3 c = search needs
 
 matrix-term-requires-3 : tie.Need-matrix-term-requires-3
-matrix-term-requires-3 c κs = search needs
+matrix-term-requires-3 c κs = takes (c .before .before .before .before .before .before .before .before .before) C
 
 add-requires : tie.Need-add-requires
 add-requires c κs = search needs

@@ -5,6 +5,8 @@ use Rattle.algebra.specs.Sum as sums
 use Rattle.domain.specs.Domain.{element}
 use Rattle.domain.specs.Domain as domain
 use Rattle.domain.specs.Known.{Known}
+use Rattle.domain.proofs.Qualification.{known-qualifies}
+use Rattle.domain.proofs.Membership.{in-domain}
 use Rattle.domain.specs.Qualifies.{Qualifies}
 use Rattle.field.proofs.ElementLaws.{primeRing}
 use Rattle.field.proofs.Words.{word-of}
@@ -34,7 +36,11 @@ loop-holds : tie.Need-loop-holds Inv-loop μ-loop
 loop-holds c = (search needs, λ q K Q. (unfold element in refl, sym (word-of q 0 (omega (arith, q .above-two)))))
 
 lagrange-value-requires : tie.Need-lagrange-value-requires Inv-loop μ-loop
-lagrange-value-requires c κs = search needs
+lagrange-value-requires c κs =
+    let start = c .before .before .before .before in
+    let k = start .pre .0 .1 in
+    let place = c .before .loop .inv .1 (k .prime) (k .known) (known-qualifies (k .known)) .0 in
+    (search needs, (start .pre .1 .0, in-domain k (start .args .n) (start .pre .1 .0) (c .before .loop .i) _ place))
 
 mul-multiply : tie.Need-mul-multiply Inv-loop μ-loop
 mul-multiply c = search needs

@@ -3,7 +3,7 @@
 use Rattle.algebra.proofs.Choice.{pick-true, pick-false}
 use Rattle.protocol.specs.Checks.{verdict}
 use Rattle.protocol.specs.Meanings.{sizes}
-use Rattle.verdict.proofs.AllowedSizes.{allowed}
+use Rattle.protocol.proofs.AllowedSizes.{allowed}
 use borrow.Author.Needs.{needs}
 use borrow.Author.Tests.{not-true, not-false}
 use mathlib.Core.Bool.{Bool, true, false, not}
@@ -27,7 +27,10 @@ unfolding verdict
 returns c q K Q = sym (pick-false _ _ (fails (c .before .row-holds .ensures q (K .value) [] []) (c .if1 .taken)))
 
 line-holds-requires : tie.Need-line-holds-requires
-line-holds-requires c κs = let start = c .before .before .before in (search needs, (allowed (sizes (start .args .s)) (start .pre .1 .0) .X-size, search needs))
+line-holds-requires c κs =
+    let start = c .before .before .before in
+    let W = allowed (sizes (start .args .s)) (start .pre .1 .0) in
+    ((start .pre .0, start .pre .1 .1 .1 .over), (W .X-size, (start .pre .1 .1 .0, W .C-size)))
 
 returns-2 : tie.Need-returns-2
 unfolding verdict

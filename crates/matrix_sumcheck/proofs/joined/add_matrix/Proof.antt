@@ -12,7 +12,7 @@ use Rattle.domain.specs.Size.{sizeFor}
 use Rattle.domain.specs.Polynomial.{Poly, _⊞_, _·_}
 use Rattle.protocol.specs.Messages.{matrixQuotient}
 use Rattle.protocol.specs.Calls.{entriesOf}
-use Rattle.domain.proofs.SizeLaws.{sized-positive, sized-fits, sized-next}
+use Rattle.domain.proofs.SizeLaws.{size-bound, size-not-zero, sized-positive, sized-fits, sized-next}
 use Rattle.poly.proofs.LentParts.{lent-length, back-holds, back-length, back-list}
 use Rattle.matrix_sumcheck.proofs.joined.add_matrix.Statement.{statement}
 use Rattle.matrix_sumcheck.proofs.joined.add_matrix.Tie as tie
@@ -23,34 +23,33 @@ shorter m long e le = omega arith
 size-of-requires : tie.Need-size-of-requires
 size-of-requires c κs = search needs
 
-add-invert : tie.Need-add-invert
-add-invert c = search needs
+add-divide : tie.Need-add-divide
+add-divide c = search needs
 
-cast-invert : tie.Need-cast-invert
-cast-invert c = omega (arith, c .before .before .before .pre .1 .1 .1 .1)
+cast-divide : tie.Need-cast-divide
+cast-divide c = let start = c .before .before .before in omega (arith, size-bound (length (start .args .out .now) + 1) (start .pre .1 .1 .1 .1))
 
-invert-requires : tie.Need-invert-requires
-invert-requires c κs = search needs
-
-multiply-requires : tie.Need-multiply-requires
-multiply-requires c κs = search needs
+divide-requires : tie.Need-divide-requires
+divide-requires c κs =
+    let start = c .before .before .before in
+    (omega arith, λ q e. size-not-zero (length (start .args .out .now) + 1) (start .pre .1 .1 .1 .1))
 
 sub-n : tie.Need-sub-n
-sub-n c = sized-positive _ (c .before .before .size-of .ensures)
+sub-n c = sized-positive _ (c .before .size-of .ensures)
 
 cast-n : tie.Need-cast-n
 cast-n c = search needs
 
 array-borrow-prefix-quotient : tie.Need-array-borrow-prefix-quotient
-array-borrow-prefix-quotient c = sized-fits _ (c .before .before .size-of .ensures)
+array-borrow-prefix-quotient c = sized-fits _ (c .before .size-of .ensures)
 
 slice-aggregate-matrix-quotient-into : tie.Need-slice-aggregate-matrix-quotient-into
 slice-aggregate-matrix-quotient-into c =
-    lent-length 1024 (sized-fits _ (c .before .before .before .size-of .ensures))
+    lent-length 1024 (sized-fits _ (c .before .before .size-of .ensures))
 
 matrix-quotient-into-requires : tie.Need-matrix-quotient-into-requires
 matrix-quotient-into-requires c κs =
-    let at-size-of = c .before .before .before in
+    let at-size-of = c .before .before in
     let start = at-size-of .before .before .before in
     let size-call = at-size-of .size-of in
     let pre = start .pre in (
@@ -64,13 +63,13 @@ matrix-quotient-into-requires c κs =
       ),
     )
 
-multiply-requires-2 : tie.Need-multiply-requires-2
-multiply-requires-2 c κs = search needs
+multiply-requires : tie.Need-multiply-requires
+multiply-requires c κs = search needs
 
 array-share-prefix-quotient : tie.Need-array-share-prefix-quotient
 array-share-prefix-quotient c =
     let at-matrix-quotient-into = c .before .before .before in
-    let at-size-of = at-matrix-quotient-into .before .before .before .before in
+    let at-size-of = at-matrix-quotient-into .before .before .before in
     let quotient-call = at-matrix-quotient-into .matrix-quotient-into in
     back-holds 1024 (sized-fits _ (at-size-of .size-of .ensures)) (quotient-call .last .1 .1 .1 .1 .1 .1 .0)
     (quotient-call .kept .1 .1 .1 .1 .1 .1 .0)
@@ -78,7 +77,7 @@ array-share-prefix-quotient c =
 slice-aggregate-add-scaled : tie.Need-slice-aggregate-add-scaled
 slice-aggregate-add-scaled c =
     let at-matrix-quotient-into = c .before .before .before .before in
-    let at-size-of = at-matrix-quotient-into .before .before .before .before in
+    let at-size-of = at-matrix-quotient-into .before .before .before in
     let quotient-call = at-matrix-quotient-into .matrix-quotient-into in
     back-length 1024 (sized-fits _ (at-size-of .size-of .ensures)) (quotient-call .last .1 .1 .1 .1 .1 .1 .0)
     (quotient-call .kept .1 .1 .1 .1 .1 .1 .0)
@@ -86,7 +85,7 @@ slice-aggregate-add-scaled c =
 add-scaled-requires : tie.Need-add-scaled-requires
 add-scaled-requires c κs =
     let at-matrix-quotient-into = c .before .before .before .before in
-    let at-size-of = at-matrix-quotient-into .before .before .before .before in
+    let at-size-of = at-matrix-quotient-into .before .before .before in
     let start = at-size-of .before .before .before in
     let quotient-call = at-matrix-quotient-into .matrix-quotient-into in
     let size-call = at-size-of .size-of in
@@ -101,11 +100,10 @@ same-length c = search needs
 returns : tie.Need-returns
 returns c q k M G H =
     let at-add-scaled = c .before .before in
-    let at-multiply2 = at-add-scaled .before .before in
-    let at-matrix-quotient-into = at-multiply2 .before .before .before in
-    let at-multiply = at-matrix-quotient-into .before .before in
-    let at-invert = at-multiply .before in
-    let at-size-of = at-invert .before in
+    let at-multiply = at-add-scaled .before .before in
+    let at-matrix-quotient-into = at-multiply .before .before .before in
+    let at-divide = at-matrix-quotient-into .before .before in
+    let at-size-of = at-divide .before in
     let start = at-size-of .before .before .before in
     let quotient-call = at-matrix-quotient-into .matrix-quotient-into in
     let size-call = at-size-of .size-of in
@@ -118,13 +116,12 @@ returns c q k M G H =
     back-list 1024 (sized-fits _ (size-call .ensures)) (quotient-call .last .1 .1 .1 .1 .1 .1 .0)
     (quotient-call .kept .1 .1 .1 .1 .1 .1 .0) h
     (quotient-call .ensures q k M G H) in
-    let share : of (at-multiply .multiply .result) ≡ of (sizeFor (length (entriesOf (a .entries .now)))) ⊘ of {q = q}
+    let share : of (at-divide .divide .result) ≡ of (sizeFor (length (entriesOf (a .entries .now)))) ⊘ of {q = q}
     (length (a .out .now) + 1) =
-    of-result _ (at-multiply .multiply .ensures q e) ∙ ap₂ _⊗_ (ap of (size-call .ensures))
-    (of-result _ (at-invert .invert .ensures q e)) in
-    let factor : of (at-multiply2 .multiply2 .result) ≡ of {q = q} (a .delta) ⊗
+    of-result _ (at-divide .divide .ensures q e) ∙ ap (λ (n : ℕ). of n ⊘ of (length (a .out .now) + 1)) (size-call .ensures) in
+    let factor : of (at-multiply .multiply .result) ≡ of {q = q} (a .delta) ⊗
     (of (sizeFor (length (entriesOf (a .entries .now)))) ⊘ of (length (a .out .now) + 1)) =
-    of-result _ (at-multiply2 .multiply2 .ensures q e) ∙ ap (λ x. of (a .delta) ⊗ x) share in
+    of-result _ (at-multiply .multiply .ensures q e) ∙ ap (λ x. of (a .delta) ⊗ x) share in
     at-add-scaled .add-scaled .ensures q e ∙ ap words (ap (_⊞_ (map of (a .out .now))) (ap₂ _·_ factor quotient))
 
 pub add-matrix-spec : {M : Type 1} → statement M
@@ -132,16 +129,15 @@ add-matrix-spec =
     tie.close
     (tie.spec
     size-of-requires
-    add-invert
-    cast-invert
-    invert-requires
-    multiply-requires
+    add-divide
+    cast-divide
+    divide-requires
     sub-n
     cast-n
     array-borrow-prefix-quotient
     slice-aggregate-matrix-quotient-into
     matrix-quotient-into-requires
-    multiply-requires-2
+    multiply-requires
     array-share-prefix-quotient
     slice-aggregate-add-scaled
     add-scaled-requires

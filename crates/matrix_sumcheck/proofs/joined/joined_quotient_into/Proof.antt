@@ -1,12 +1,14 @@
 -- `matrix_sumcheck::joined::joined_quotient_into` meets its contract: zeros, and one matrix after the other. Assumes nothing.
 use borrow.Author.Needs.{needs}
 use mathlib.Core.Path.{_≡_, ap, ap₂, _∙_}
+use mathlib.Core.Bool.{true}
 use mathlib.Core.List.{map}
-use Prim.Native.Nat.{ℕ, _+_, _≤_, _<_}
+use Prim.Native.Nat.{ℕ, _+_, _≤_}
 use native.Mathlib.Omega.{arith}
 use lib.ListN.{length, replicate}
 use Rattle.field.specs.Element.{Elem, of, 𝟘, words}
 use Rattle.field.proofs.Words.{of-results}
+use Rattle.domain.specs.Size.{isSize}
 use Rattle.domain.specs.Polynomial.{Poly, _⊞_}
 use Rattle.protocol.specs.Three.{MatrixName, A, B, C, Three, mapThree}
 use Rattle.protocol.specs.Meanings.{three}
@@ -19,8 +21,8 @@ use Rattle.matrix_sumcheck.proofs.joined.joined_quotient_into.Tie as ti
 room : {l n s : ℕ} → l ≡ n → s ≤ n + 1 → s ≤ l + 1
 room kept le = omega arith
 
-below : {l n s : ℕ} → l ≡ n → n < s → l < s
-below kept lt = omega arith
+sized : {l n : ℕ} → l ≡ n → isSize (n + 1) ≡ true → isSize (l + 1) ≡ true
+sized kept size = ap (λ (m : ℕ). isSize (m + 1)) kept ∙ size
 
 clear-requires : tie.Need-clear-requires
 clear-requires c κs = search needs
@@ -34,7 +36,7 @@ add-matrix-requires c κs =
     let fit = joined-fits (a .ea .now) (a .eb .now) (a .ec .now) (length (a .out .now)) (pre .1 .1) in
     let shape = pre .1 .0 in
     let kept = at-clear .clear .kept .0 in
-    (pre .0, ((shape .R-size, shape .C-size), (shape .lists .list-a, (room kept (fit .0), below kept (fit .3)))))
+    (pre .0, ((shape .R-size, shape .C-size), (shape .lists .list-a, (room kept (fit .0), sized kept (fit .3)))))
 
 add-matrix-requires-2 : tie.Need-add-matrix-requires-2
 add-matrix-requires-2 c κs =
@@ -46,7 +48,7 @@ add-matrix-requires-2 c κs =
     let fit = joined-fits (a .ea .now) (a .eb .now) (a .ec .now) (length (a .out .now)) (pre .1 .1) in
     let shape = pre .1 .0 in
     let kept = at-add-matrix .add-matrix .kept .1 .1 .1 .1 .1 .1 .1 .0 ∙ at-clear .clear .kept .0 in
-    (pre .0, ((shape .R-size, shape .C-size), (shape .lists .list-b, (room kept (fit .1), below kept (fit .3)))))
+    (pre .0, ((shape .R-size, shape .C-size), (shape .lists .list-b, (room kept (fit .1), sized kept (fit .3)))))
 
 add-matrix-requires-3 : tie.Need-add-matrix-requires-3
 add-matrix-requires-3 c κs =
@@ -60,7 +62,7 @@ add-matrix-requires-3 c κs =
     let shape = pre .1 .0 in
     let kept = at-add-matrix2 .add-matrix2 .kept .1 .1 .1 .1 .1 .1 .1 .0 ∙ at-add-matrix .add-matrix .kept .1 .1 .1 .1 .1 .1 .1 .0
     ∙ at-clear .clear .kept .0 in
-    (pre .0, ((shape .R-size, shape .C-size), (shape .lists .list-c, (room kept (fit .2), below kept (fit .3)))))
+    (pre .0, ((shape .R-size, shape .C-size), (shape .lists .list-c, (room kept (fit .2), sized kept (fit .3)))))
 
 same-length : tie.Need-same-length
 same-length c = search needs

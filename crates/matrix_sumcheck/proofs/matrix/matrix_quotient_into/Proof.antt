@@ -57,7 +57,7 @@ fraction-into-requires c κs =
     let pre = c .before .before .before .before .pre in
     let size = pre .1 .1 .1 in
     let long = sym (lent-length 1024 (size-fits _ size)) ∙ size in
-    (pre .0, (pre .1 .0, (pre .1 .1 .0, (long, long))))
+    (pre .0 .0, (pre .1 .0, (pre .1 .1 .0, (long, long))))
 
 array-borrow-prefix-ratio : tie.Need-array-borrow-prefix-ratio
 array-borrow-prefix-ratio c = size-fits _ (c .before .before .before .before .before .before .before .pre .1 .1 .1)
@@ -140,7 +140,7 @@ difference-into-requires c κs =
     let fraction-call = at-fraction-into .fraction-into in
     let ratio-call = at-ratio-into .ratio-into in
     let size = start .pre .1 .1 .1 in
-    ready (length (start .args .out .now)) (start .pre .0) (size-fits _ size)
+    ready (length (start .args .out .now)) (start .pre .0 .0) (size-fits _ size)
     (back-length 1024 (size-fits _ size) (fraction-call .last .1 .1 .1 .1 .1 .1 .0) (fraction-call .kept .1 .1 .1 .1 .1 .1 .0))
     (back-length 1024 (size-fits _ size) (fraction-call .last .1 .1 .1 .1 .1 .1 .1 .0) (fraction-call .kept .1 .1 .1 .1 .1 .1 .1 .0))
     (back-length 1024 (size-fits _ size) (ratio-call .last .1 .1 .1 .1 .1 .1 .0) (ratio-call .kept .1 .1 .1 .1 .1 .1 .0))
@@ -171,7 +171,7 @@ quotient-into-requires c κs =
     at-difference-into .before .before .before .before .before .before .before .before .before .before .before .before .before .before .before in
     let difference-call = at-difference-into .difference-into in
     let size = start .pre .1 .1 .1 in
-    ready-quotient (length (start .args .out .now)) (start .pre .0)
+    ready-quotient (length (start .args .out .now)) (start .pre .0 .0)
     (back-length 2047 (twice-fits _ (size-fits _ size)) (difference-call .last .1 .1 .1 .1 .0) (difference-call .kept .1 .1 .1 .1 .0))
 
 same-length : tie.Need-same-length

@@ -65,7 +65,7 @@ interpolate-into-requires c κs =
     let pre = start .pre in
     let call = at-terms-into .terms-into in
     let same = back-length 1024 (size-fits _ (pre .1 .1 .1)) (call .last .1 .1 .1 .1 .1 .1 .0) (call .kept .1 .1 .1 .1 .1 .1 .0) in
-    (pre .0, (same, ap isSize (sym same) ∙ size-is _ (pre .1 .1 .1)))
+    (pre .0 .0, (same, ap isSize (sym same) ∙ size-is _ (pre .1 .1 .1)))
 
 same-length : tie.Need-same-length
 same-length c = search needs

@@ -4,6 +4,7 @@ use mathlib.Core.Path.{_≡_, ap, ap₂, _∙_}
 use Rattle.field.specs.Element.{Elem, of, _⊗_}
 use Rattle.field.proofs.Words.{of-result}
 use Rattle.domain.specs.Domain.{element, lagrange}
+use Rattle.domain.proofs.Membership.{in-domain}
 use Rattle.matrix_sumcheck.proofs.matrix.term_of.Statement.{statement}
 use Rattle.matrix_sumcheck.proofs.matrix.term_of.Tie as tie
 
@@ -11,13 +12,21 @@ element-of-requires : tie.Need-element-of-requires
 element-of-requires c κs = search needs
 
 lagrange-value-requires : tie.Need-lagrange-value-requires
-lagrange-value-requires c κs = search needs
+lagrange-value-requires c κs =
+    let start = c .before in
+    let k = start .pre .0 .1 in
+    let row-is = of-result (element (start .args .r) (start .args .row)) (c .element-of .ensures (k .prime) (k .known)) in
+    (search needs, (start .pre .1 .0, in-domain k (start .args .r) (start .pre .1 .0) (start .args .row) _ row-is))
 
 element-of-requires-2 : tie.Need-element-of-requires-2
 element-of-requires-2 c κs = search needs
 
 lagrange-value-requires-2 : tie.Need-lagrange-value-requires-2
-lagrange-value-requires-2 c κs = search needs
+lagrange-value-requires-2 c κs =
+    let start = c .before .before .before in
+    let k = start .pre .0 .1 in
+    let column-is = of-result (element (start .args .c) (start .args .column)) (c .element-of2 .ensures (k .prime) (k .known)) in
+    (search needs, (start .pre .1 .1, in-domain k (start .args .c) (start .pre .1 .1) (start .args .column) _ column-is))
 
 multiply-requires : tie.Need-multiply-requires
 multiply-requires c κs = search needs

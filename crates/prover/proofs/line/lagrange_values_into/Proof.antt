@@ -15,7 +15,8 @@ use Rattle.domain.specs.Domain.{root, element, lagrange}
 use Rattle.domain.specs.Known.{Known}
 use Rattle.domain.specs.Qualifies.{Qualifies}
 use Rattle.domain.proofs.Fill.{Filled, fill-none, fill-turn, fill-end, length-rule-words, rule-word-at}
-use Rattle.domain.proofs.Qualification.{one-word}
+use Rattle.domain.proofs.Qualification.{one-word, known-qualifies}
+use Rattle.domain.proofs.Membership.{in-domain}
 use Rattle.prover.proofs.line.lagrange_values_into.Statement.{statement}
 use Rattle.prover.proofs.line.lagrange_values_into.Tie as tie
 
@@ -53,7 +54,11 @@ loop-holds : tie.Need-loop-holds Inv-loop μ-loop
 loop-holds c = (omega arith, refl, λ q known Q. (first q (c .before .before .args .n), fill-none _ _))
 
 lagrange-value-requires : tie.Need-lagrange-value-requires Inv-loop μ-loop
-lagrange-value-requires c κs = (omega arith, c .before .before .before .before .pre .1 .0)
+lagrange-value-requires c κs =
+    let start = c .before .before .before .before in
+    let k = start .pre .0 .1 in
+    let last = of-result (element (start .args .n) (c .before .loop .i)) (c .before .loop .inv .2 (k .prime) (k .known) (known-qualifies (k .known)) .0) in
+    (omega arith, (start .pre .1 .0, in-domain k (start .args .n) (start .pre .1 .0) (c .before .loop .i) _ last))
 
 mul-out : tie.Need-mul-out Inv-loop μ-loop
 mul-out c = omega arith

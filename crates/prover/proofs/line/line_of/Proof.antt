@@ -59,7 +59,7 @@ witness-into-requires : tie.Need-witness-into-requires
 witness-into-requires c κs =
     let s = c .before .before .before .before .before .before .before in
     let F = s .pre .1 .0 in
-    (s .pre .0, ((C-fits F, X-fits F, X-below F), (F .z-length, sym (part-length _ _ (witness-bound F)))))
+    (s .pre .0 .0, ((C-fits F, X-fits F, X-below F), (F .z-length, sym (part-length _ _ (witness-bound F)))))
 
 array-share-prefix-witness : tie.Need-array-share-prefix-witness
 array-share-prefix-witness c =
@@ -83,7 +83,7 @@ assignment-into-requires c κs =
     let s = from-witness w in
     let F = s .pre .1 .0 in
     let whole = filled-length _ _ (witness-fits w) (witness w) (w .witness-into .kept .1 .1 .1 .1 .1 .0) in
-    (s .pre .0, ((C-fits F, X-fits F, X-below F), (F .z-length, sym whole, sym (part-length _ _ (assignment-bound F)))))
+    (s .pre .0 .0, ((C-fits F, X-fits F, X-below F), (F .z-length, sym whole, sym (part-length _ _ (assignment-bound F)))))
 
 array-share-prefix-assignment : tie.Need-array-share-prefix-assignment
 array-share-prefix-assignment c =

@@ -91,7 +91,7 @@ interpolate-into-requires c κs =
     let w = c .before .before .before .before in
     let s = start (at-rows w) in
     let size = filled-length _ _ (c-bound s) (sums w) (w .add-weights .kept .1 .1 .1 .1 .1 .1 .0) in
-    (s .pre .0, (s .pre .1 .1 .0 ∙ size, ap isSize (sym size) ∙ s .pre .1 .0 .1))
+    (s .pre .0 .0, (s .pre .1 .1 .0 ∙ size, ap isSize (sym size) ∙ s .pre .1 .0 .1))
 
 same-length : tie.Need-same-length
 same-length c = c .before .before .interpolate-into .kept .1 .1 .1 .0

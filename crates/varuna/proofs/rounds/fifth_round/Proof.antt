@@ -2,10 +2,9 @@
 use mathlib.Core.Path.{_≡_, refl, ap, _∙_}
 use mathlib.Core.List.{List, [], _∷_}
 use Prim.Native.Nat.{ℕ}
-use lib.Dec.{lit<}
 use lib.ListN.{length}
 use Rattle.domain.specs.BabyBear.{babyBear}
-use Rattle.domain.proofs.Qualification.{babyBear-qualifies}
+use Rattle.domain.proofs.Qualification.{babyBear-qualifies, babyBear-modulus}
 use Rattle.protocol.specs.Circuit.{Circuit, sizesOf, largest}
 use Rattle.protocol.specs.Messages.{Messages, lengths}
 use Rattle.protocol.specs.Meanings.{faultRefusal}
@@ -93,7 +92,7 @@ joined-quotient-into-requires : tie.Need-joined-quotient-into-requires
 unfolding lengths sizesOf circuitOf largest
 joined-quotient-into-requires c κs =
     let F = fits (c .before) in
-    (lit< tt, (shaped (F .fits), one-below-largest _ _ _ _ (F .lent-fit .0)))
+    (babyBear-modulus, (shaped (F .fits), one-below-largest _ _ _ _ (F .lent-fit .0)))
 
 enum-known-fault : tie.Need-enum-known-fault
 enum-known-fault c = search needs

@@ -2,11 +2,10 @@
 use mathlib.Core.Path.{_≡_, refl, ap, _∙_}
 use mathlib.Core.List.{List, [], _∷_}
 use Prim.Native.Nat.{ℕ}
-use lib.Dec.{lit<}
 use lib.ListN.{length}
 use Rattle.field.specs.Element.{Elem, of, words}
 use Rattle.domain.specs.BabyBear.{babyBear}
-use Rattle.domain.proofs.Qualification.{babyBear-qualifies}
+use Rattle.domain.proofs.Qualification.{babyBear-qualifies, babyBear-modulus}
 use Rattle.protocol.specs.Three.{A, B, C, each, mapThree}
 use Rattle.protocol.specs.Circuit.{Circuit, sizesOf}
 use Rattle.protocol.specs.Messages.{Messages, lengths, values, matrixRemainder}
@@ -104,34 +103,34 @@ matrix-remainder-into-requires : tie.Need-matrix-remainder-into-requires
 unfolding lengths sizesOf circuitOf
 matrix-remainder-into-requires c κs =
     let F = fits (c .before) in
-    (lit< tt, ((R-fits (F .fits), C-fits (F .fits)), (F .fits .lists .list-a, one-below _ _ (F .lent-fit .0))))
+    (babyBear-modulus, ((R-fits (F .fits), C-fits (F .fits)), (F .fits .lists .list-a, one-below _ _ (F .lent-fit .0))))
 
 matrix-remainder-into-requires-2 : tie.Need-matrix-remainder-into-requires-2
 unfolding lengths sizesOf circuitOf
 matrix-remainder-into-requires-2 c κs =
     let F = fits (c .before .before .before .before .before) in
-    (lit< tt, ((R-fits (F .fits), C-fits (F .fits)), (F .fits .lists .list-b, one-below _ _ (F .lent-fit .1 .0))))
+    (babyBear-modulus, ((R-fits (F .fits), C-fits (F .fits)), (F .fits .lists .list-b, one-below _ _ (F .lent-fit .1 .0))))
 
 matrix-remainder-into-requires-3 : tie.Need-matrix-remainder-into-requires-3
 unfolding lengths sizesOf circuitOf
 matrix-remainder-into-requires-3 c κs =
     let F = fits (c .before .before .before .before .before .before .before .before .before) in
-    (lit< tt, ((R-fits (F .fits), C-fits (F .fits)), (F .fits .lists .list-c, one-below _ _ (F .lent-fit .1 .1 .0))))
+    (babyBear-modulus, ((R-fits (F .fits), C-fits (F .fits)), (F .fits .lists .list-c, one-below _ _ (F .lent-fit .1 .1 .0))))
 
 matrix-value-requires : tie.Need-matrix-value-requires
 matrix-value-requires c κs =
     let F = fits (c .before .before .before .before .before .before .before .before .before .before .before .before) in
-    (lit< tt, (R-fits (F .fits), C-fits (F .fits)))
+    (babyBear-modulus, (R-fits (F .fits), C-fits (F .fits)))
 
 matrix-value-requires-2 : tie.Need-matrix-value-requires-2
 matrix-value-requires-2 c κs =
     let F = fits (c .before .before .before .before .before .before .before .before .before .before .before .before .before) in
-    (lit< tt, (R-fits (F .fits), C-fits (F .fits)))
+    (babyBear-modulus, (R-fits (F .fits), C-fits (F .fits)))
 
 matrix-value-requires-3 : tie.Need-matrix-value-requires-3
 matrix-value-requires-3 c κs =
     let F = fits (c .before .before .before .before .before .before .before .before .before .before .before .before .before .before) in
-    (lit< tt, (R-fits (F .fits), C-fits (F .fits)))
+    (babyBear-modulus, (R-fits (F .fits), C-fits (F .fits)))
 
 enum-known-fault : tie.Need-enum-known-fault
 enum-known-fault c = search needs

@@ -4,7 +4,7 @@ use mathlib.Core.List.{List, [], _∷_, _++_}
 use Prim.Native.Nat.{ℕ}
 use lib.Dec.{lit<}
 use Rattle.domain.specs.BabyBear.{babyBear}
-use Rattle.domain.proofs.Qualification.{babyBear-qualifies}
+use Rattle.domain.proofs.Qualification.{babyBear-qualifies, babyBear-modulus}
 use Rattle.protocol.specs.Three.{A, B, C}
 use Rattle.protocol.specs.Circuit.{Circuit}
 use Rattle.protocol.specs.Messages.{openings}
@@ -78,7 +78,7 @@ enum-told : tie.Need-enum-told
 enum-told c = search needs
 
 messages-opened-requires : tie.Need-messages-opened-requires
-messages-opened-requires c κs = (lit< tt, fits c .fits)
+messages-opened-requires c κs = (babyBear-modulus, fits c .fits)
 
 index-at-requires : tie.Need-index-at-requires
 index-at-requires c κs =

@@ -8,7 +8,7 @@ use borrow.Author.Tests.{eqb-true}
 use Rattle.field.specs.Element.{words}
 use Rattle.domain.specs.Polynomial.{Poly}
 use Rattle.domain.specs.BabyBear.{babyBear}
-use Rattle.domain.proofs.Qualification.{babyBear-qualifies}
+use Rattle.domain.proofs.Qualification.{babyBear-qualifies, babyBear-modulus}
 use Rattle.protocol.specs.Circuit.{Circuit, sizesOf}
 use Rattle.protocol.specs.Messages.{Messages, lengths, lineRemainder, lineQuotient}
 use Rattle.protocol.specs.Meanings.{faultRefusal, three}
@@ -111,7 +111,7 @@ slice-aggregate-line c = part-length _ _ (line-bound (fits (c .before) .fits))
 line-of-requires : tie.Need-line-of-requires
 line-of-requires c κs =
     let F = fits (c .before) in
-    (lit< tt, (F .fits, sym (part-length _ _ (line-bound (F .fits)))))
+    (babyBear-modulus, (F .fits, sym (part-length _ _ (line-bound (F .fits)))))
 
 array-share-prefix-sum : tie.Need-array-share-prefix-sum
 array-share-prefix-sum c =

@@ -7,7 +7,7 @@ use borrow.Author.Tests.{not-true, not-false}
 use Rattle.domain.proofs.SizeLaws.{size-bound}
 use Rattle.protocol.specs.Meanings.{sizes, transcript}
 use Rattle.protocol.specs.Session.{transcriptFits, leftBySteps}
-use Rattle.verdict.proofs.AllowedSizes.{allowed}
+use Rattle.protocol.proofs.AllowedSizes.{allowed}
 use Rattle.verifier.proofs.holdings.left_by_steps.Statement.{statement}
 use Rattle.verifier.proofs.holdings.left_by_steps.Tie as tie
 

@@ -14,7 +14,7 @@ use Rattle.protocol.specs.Circuit.{largest}
 use Rattle.protocol.specs.Checks.{listTranscript}
 use Rattle.protocol.specs.Meanings.{sizes, transcript}
 use Rattle.protocol.specs.Session.{all, allBelow, transcriptFits}
-use Rattle.verdict.proofs.AllowedSizes.{Allowed, allowed, largest-size}
+use Rattle.protocol.proofs.AllowedSizes.{Allowed, allowed, largest-size}
 use Rattle.verifier.proofs.holdings.transcript_fits.Statement.{statement}
 use Rattle.verifier.proofs.holdings.transcript_fits.Tie as tie
 

@@ -15,7 +15,7 @@ use Rattle.protocol.specs.Messages.{Messages, lengths}
 use Rattle.protocol.specs.Refusals.{Refusal, first, wordRefusal, challengeRefusal, lengthRefusal}
 use Rattle.protocol.specs.Session.{gammaRefusal}
 use Rattle.protocol.proofs.EarlyReturns.{stops, goes-on}
-use Rattle.verdict.proofs.AllowedSizes.{largest-size}
+use Rattle.protocol.proofs.AllowedSizes.{largest-size}
 use Rattle.verifier.proofs.Turns.{turn-allowed}
 use Rattle.verifier.proofs.refusals.judge_gamma.Statement.{statement}
 use Rattle.verifier.proofs.refusals.judge_gamma.Tie as tie

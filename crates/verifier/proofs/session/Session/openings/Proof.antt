@@ -1,6 +1,6 @@
 -- `verifier::session::Session::openings` meets its contract. Assumes nothing.
 use Prim.Native.Nat.{ℕ, suc, _≤_}
-use Rattle.domain.proofs.Qualification.{babyBear-qualifies}
+use Rattle.domain.proofs.Qualification.{babyBear-qualifies, babyBear-known}
 use Rattle.domain.proofs.SizeLaws.{size-bound}
 use Rattle.domain.specs.BabyBear.{babyBear}
 use Rattle.domain.specs.Size.{maxSize}
@@ -9,12 +9,13 @@ use Rattle.protocol.specs.Meanings.{faultRefusal, sizes, transcript, openings}
 use Rattle.protocol.specs.Refusals.{sixSizeTests}
 use Rattle.protocol.specs.Session as steps
 use Rattle.protocol.specs.Session.{Judged, openingsRefusal, openingsStep, verdictOf}
-use Rattle.protocol.proofs.Sessions.{InTurn}
+use Rattle.protocol.proofs.Sessions.{InTurn, LeftBySteps}
 use Rattle.protocol.proofs.RefusalLaws.{all-true}
 use Rattle.verifier.specs.Session.{sessionMeaning}
 use Rattle.verifier.proofs.Turns.{openings-turn}
-use Rattle.verdict.proofs.AllowedSizes.{allowed}
+use Rattle.protocol.proofs.AllowedSizes.{allowed}
 use borrow.Author.Needs.{needs}
+use lib.Dec.{lit<}
 use lib.ListN.{length, length-map}
 use lib.Seq.{length-take-le}
 use mathlib.Core.Path.{_≡_, refl, sym, ap, ap₂, _∙_}
@@ -26,9 +27,10 @@ judged : (c : tie.After-judge-openings) → let a = c .before .before .before .a
     openingsRefusal babyBear (sessionMeaning (a .self)) (openings (a .o) (a .index)) ≡ faultRefusal (c .judge-openings .result)
 judged c = sym (c .judge-openings .ensures babyBear babyBear-qualifies refl)
 
--- what nothing refuses is in turn, with sizes that are allowed
-turn : (c : tie.After-enum-told) → let a = c .before .before .before .before .before .args in InTurn 6 (a .self .stage) (sizes (a .self .sizes))
-turn c =
+-- what nothing refuses is in turn, with sizes that are allowed, and holds what steps could have left
+passed : (c : tie.After-enum-told) → let a = c .before .before .before .before .before .args in
+    InTurn 6 (a .self .stage) (sizes (a .self .sizes)) × LeftBySteps babyBear (sessionMeaning (a .self))
+passed c =
     let a = c .before .before .before .before .before .args in
     openings-turn babyBear (sessionMeaning (a .self)) (openings (a .o) (a .index))
     (judged (c .before .before) ∙ ap faultRefusal (c .enum-told .given .1))
@@ -42,7 +44,7 @@ within : (c : tie.After-enum-told) → let s = c .before .before .before .before
 within c =
     let s = c .before .before .before .before .before in
     let n = sizes (s .args .self .sizes) in
-    omega (arith, whole s, size-bound (n .|X|) (allowed n (all-true (sixSizeTests n) (turn c .sizes-allowed)) .X-size))
+    omega (arith, whole s, size-bound (n .|X|) (allowed n (all-true (sixSizeTests n) (passed c .0 .sizes-allowed)) .X-size))
 
 slice-aggregate-judge-openings : tie.Need-slice-aggregate-judge-openings
 slice-aggregate-judge-openings c = sym (whole (c .before .before))
@@ -72,8 +74,16 @@ verdict-requires : tie.Need-verdict-requires
 verdict-requires c κs =
     let t = c .before .before in
     let a = t .before .before .before .before .before .args in
-    let n = sizes (a .self .sizes) in
-    (search needs, (all-true (sixSizeTests n) (turn t .sizes-allowed), length-take-le (a .self .sizes .x) (a .self .x) (within t)))
+    let n = sizes (a .self .sizes) in (
+      lit< tt,
+      (
+        all-true (sixSizeTests n) (passed t .0 .sizes-allowed),
+        (
+          length-take-le (a .self .sizes .x) (a .self .x) (within t),
+          record { over = babyBear-known; is-outside = passed t .1 .heard .γ-outside },
+        ),
+      ),
+    )
 
 returns : tie.Need-returns
 unfolding openingsStep
@@ -84,11 +94,11 @@ unfolding openingsStep verdictOf
 returns-2 c =
     let t = c .before .before .before in
     let s = t .before .before .before .before .before .args .self in
-    let next : 7 ≡ suc (s .stage) = omega (arith, turn t .stage-is) in
+    let next : 7 ≡ suc (s .stage) = omega (arith, passed t .0 .stage-is) in
     let judging : ℕ → Verdict → steps.Stepped = λ n v.
     record { session = record { stage = n; sizes = sizes (s .sizes); x = s .x; transcript = transcript (s .transcript) }; answer = Judged v } in
     rw (judged (t .before .before) ∙ ap faultRefusal (t .enum-told .given .1))
-    (ap₂ judging next (c .verdict .ensures babyBear (record { is-module = refl; value = refl }) babyBear-qualifies))
+    (ap₂ judging next (c .verdict .ensures babyBear (babyBear-known .known) babyBear-qualifies))
 
 pub openings-spec : {M : Type 1} → statement M
 openings-spec =
