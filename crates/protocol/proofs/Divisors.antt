@@ -23,10 +23,11 @@ use Rattle.protocol.specs.Refusals.{sixSizeTests, sizeRefusal, wordRefus
 use Rattle.protocol.specs.Admission.{Admitted}
 use Rattle.protocol.specs.Calls.{inverseCall}
 use Rattle.protocol.specs.Divisors.{lagrangeDivisor, VerifierDivisors, ProverDivisors, InverseAnswers, DivisorsHold}
-use Rattle.protocol.proofs.RefusalLaws.{refuse-none, all-true}
+use Rattle.protocol.proofs.RefusalLaws.{refuse-none, none-refuse, all-true}
 use Rattle.protocol.proofs.AllowedSizes.{allowed, largest-size, size-within}
 use Rattle.protocol.proofs.AdmissionLaws.{admitted-well-formed}
 use Rattle.protocol.proofs.IndexPolynomials.{K-size}
+use Rattle.protocol.proofs.Sessions.{verdicts-allowed}
 use Rattle.protocol.proofs.MatrixPolynomials as circuits
 use Rattle.protocol.proofs.MatrixSum.{denominator-not-zero}
 use Rattle.protocol.proofs.IndexDecoding.{rowcol-not-zero}
@@ -81,11 +82,15 @@ inverse-answers q =
     below a small = lt-ltb a (q .p) small
 
 pub divisors : DivisorsHold
+unfolding sizeRefusal
 divisors q Q =
     record {
       answers = inverse-answers q;
       none-is-zero = none-is-zero;
       verifier = verifier-divisors Q;
+      judged = λ s o v x-length e.
+          let allowed-verdict = verdicts-allowed q s o v x-length e in
+          verifier-divisors Q (s .sizes) (none-refuse 4 0 (sixSizeTests (s .sizes)) (allowed-verdict .sizes-allowed)) _ _ (allowed-verdict .β-outside) (allowed-verdict .γ-outside);
       prover = prover-divisors Q;
       index = λ c admitted. rowcol-not-zero Q c (admitted-well-formed q c admitted);
     }

@@ -5,18 +5,22 @@ use mathlib.Core.Path.{_≡_}
 use mathlib.Core.Logic.{_≢_}
 use mathlib.Core.Option.{none}
 use Prim.Native.Nat.{ℕ, _≤_, _<_}
+use lib.ListN.{length}
 use Rattle.field.specs.Prime.{Prime}
 use Rattle.field.specs.Element.{Elem, of, 𝟘, 𝟙, _⊗_, _⊖_}
 use Rattle.field.specs.Power.{inverse}
+use Rattle.domain.specs.Size.{maxSize}
 use Rattle.domain.specs.Domain.{element, vanishing, Outside}
 use Rattle.domain.specs.Polynomial.{eval}
 use Rattle.domain.specs.Qualifies.{Qualifies}
 use Rattle.protocol.specs.Three.{MatrixName, at}
 use Rattle.protocol.specs.Circuit.{Circuit, Sizes, sizesOf, largest}
 use Rattle.protocol.specs.Index as indexer
+use Rattle.protocol.specs.Checks.{Openings, Verdict}
 use Rattle.protocol.specs.Messages.{denominator}
 use Rattle.protocol.specs.Refusals.{Done, Refused, sixSizeTests, sizeRefusal}
 use Rattle.protocol.specs.Admission.{Admitted}
+use Rattle.protocol.specs.Session.{Session, Judged, openingsStep}
 use Rattle.protocol.specs.Calls.{inverseCall}
 
 module _ {q : Prime} where
@@ -63,6 +67,10 @@ pub record Divisors (q : Prime) : Type 0 where
   pub none-is-zero : (a : Elem q) → inverse a ≡ none → a ≡ 𝟘
   pub verifier :
       (s : Sizes) → sizeRefusal (sixSizeTests s) ≡ none → (β γ : Elem q) → Outside (s .|C|) β → Outside (largest (s .|K|)) γ → VerifierDivisors s β γ
+  -- and so wherever a session answers a verdict, whoever made it
+  pub judged :
+      (s : Session) (o : Openings ℕ) (v : Verdict) → length (s .x) ≡ maxSize → openingsStep q s o .answer ≡ Judged v
+      → VerifierDivisors {q = q} (s .sizes) (of (s .transcript .β)) (of (s .transcript .γ))
   pub prover : (c : Circuit) → Admitted q c → (α β : Elem q) → Outside (c .|R|) α → Outside (c .|C|) β → ProverDivisors c α β
   -- an entry's value read back from the index polynomials: rowcolval_M/rowcol_M on K_M
   pub index :
