@@ -2,5 +2,6 @@
 pub use verifier::session::Answer;
 pub use verifier::session::Finished;
 pub use verifier::session::LastAnswer;
+pub use verifier::session::SESSION_WORDS;
 pub use verifier::session::Session;
 pub use verifier::session::Stepped;

@@ -16,6 +16,7 @@ use varuna::answers::Word;
 use varuna::session::Answer;
 use varuna::session::Finished;
 use varuna::session::LastAnswer;
+use varuna::session::SESSION_WORDS;
 use varuna::session::Stepped;
 
 // One word.
@@ -113,7 +114,7 @@ pub fn give_openings(answer: Openings, result: &mut [u32; 21], position: &mut us
 }
 
 // The next session.
-pub fn give_step(next: Stepped, session: &mut [u32; 1046], position: &mut usize) -> u32
+pub fn give_step(next: Stepped, session: &mut [u32; SESSION_WORDS], position: &mut usize) -> u32
     ensures { λ n. ⌜ told n (now (position .exit)) (now (session .exit)) ≡ stepAnswered (steppedMeaning next) (now (session .entry)) ⌝ }
 {
     let answer = next.answer;
@@ -151,7 +152,7 @@ fn verdict_number(verdict: Verdict) -> u32
 // The last session and the verdict. A refused step has no verdict, and says so over whatever the caller's variable held.
 pub fn give_verdict(
     next: Finished,
-    session: &mut [u32; 1046],
+    session: &mut [u32; SESSION_WORDS],
     verdict: &mut u32,
     position: &mut usize,
 ) -> u32

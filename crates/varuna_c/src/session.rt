@@ -11,10 +11,8 @@ use crate::inputs::indexes_in;
 use crate::inputs::messages_in;
 use crate::inputs::sizes_in;
 use crate::inputs::triple;
+use varuna::session::SESSION_WORDS;
 use varuna::session::Session;
-
-// The words of a session.
-const SESSION_WORDS: usize = 1046;
 
 // A session before it is opened.
 #[no_mangle]

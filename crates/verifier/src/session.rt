@@ -51,7 +51,7 @@ pub struct Finished {
 }
 
 // A session as words: the stage, the six sizes, the words of x, and the transcript.
-const SESSION_WORDS: usize = 1046;
+pub const SESSION_WORDS: usize = 1046;
 
 const X_START: usize = 7;
 
