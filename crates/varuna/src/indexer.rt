@@ -11,7 +11,7 @@ ghost use Rattle.circuit.specs.Given.{given};
 ghost use Rattle.varuna.specs.Answers.{filledMeaning, filling, fills};
 ghost use Rattle.varuna.specs.Inputs.{twelve};
 use crate::answers::Filled;
-use circuit::judging::judge_index;
+use call_refusals::judge_index;
 use field::MODULE_PRIME;
 use index::index_matrix_into;
 use protocol::Fault;

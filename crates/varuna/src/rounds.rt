@@ -13,7 +13,7 @@ use crate::answers::Filled;
 use crate::answers::IndexesOpened;
 use crate::answers::Openings;
 use crate::answers::ThreeWords;
-use circuit::judging;
+use call_refusals::judge_round;
 use circuit::matrices;
 use field::MODULE_PRIME;
 use matrix_sumcheck::joined::joined_quotient_into;
@@ -48,7 +48,7 @@ pub fn first_round(
     let due = matrices::lengths_of(r, c, x, ea, eb, ec);
     let lengths = [due.witness, due.rowQuotient];
     let none = &z[..0];
-    let fault = judging::judge_round(
+    let fault = judge_round(
         p,
         r,
         c,
@@ -95,7 +95,7 @@ pub fn second_round(
     let lengths = [0usize; 1];
     let none = &lengths[..0];
     let at = [alpha];
-    let fault = judging::judge_round(p, r, c, x, ea, eb, ec, z, mask, m, none, none, &at, &at);
+    let fault = judge_round(p, r, c, x, ea, eb, ec, z, mask, m, none, none, &at, &at);
     match fault {
         Fault::Fine => ThreeWords::Value(Triple {
             a: prover::rows::row_sum_value(p, r, ea, z, alpha),
@@ -134,7 +134,7 @@ pub fn third_round(
     let lengths = [due.lineRemainder, due.lineQuotient];
     let words = [alpha, eta.a, eta.b, eta.c];
     let at = [alpha];
-    let fault = judging::judge_round(
+    let fault = judge_round(
         p,
         r,
         c,
@@ -194,7 +194,7 @@ pub fn fourth_round(
     let lengths = [due.a, due.b, due.c];
     let words = [alpha, eta.a, eta.b, eta.c, beta];
     let at = [alpha, beta];
-    let fault = judging::judge_round(
+    let fault = judge_round(
         p,
         r,
         c,
@@ -252,7 +252,7 @@ pub fn fifth_round(
     let lengths = [matrices::lengths_of(r, c, x, ea, eb, ec).joinedQuotient];
     let words = [alpha, eta.a, eta.b, eta.c, beta, delta.a, delta.b, delta.c];
     let at = [alpha, beta];
-    let fault = judging::judge_round(
+    let fault = judge_round(
         p,
         r,
         c,
@@ -307,7 +307,7 @@ pub fn openings(
     let d = delta;
     let words = [alpha, e.a, e.b, e.c, beta, d.a, d.b, d.c, gamma];
     let at = [alpha, beta, gamma];
-    let fault = judging::judge_round(p, r, c, x, ea, eb, ec, z, mask, m, none, none, &words, &at);
+    let fault = judge_round(p, r, c, x, ea, eb, ec, z, mask, m, none, none, &words, &at);
     match fault {
         Fault::Fine => Openings::Value(
             messages_opened(p, r, c, x, ea, eb, ec, z, mask, m, alpha, e, beta, d, gamma),

@@ -1,14 +1,14 @@
--- `circuit::judging::judge_index_shape` meets its contract. Assumes nothing.
+-- `call_refusals::judge_index_shape` meets its contract. Assumes nothing.
 use mathlib.Core.Path.{sym, _∙_}
 use mathlib.Core.List.{[], _∷_}
 use borrow.Author.Tests.{not-true, not-false}
 use Rattle.protocol.specs.Refusals.{listRefusal}
 use Rattle.protocol.specs.Calls.{entryListTests}
 use Rattle.circuit.specs.Given.{given}
 use Rattle.circuit.specs.Judgement.{indexShapeRefusal}
 use Rattle.protocol.proofs.EarlyReturns.{stops, goes-on, last-answer}
-use Rattle.circuit.proofs.judging.judge_index_shape.Statement.{statement}
-use Rattle.circuit.proofs.judging.judge_index_shape.Tie as tie
+use Rattle.call_refusals.proofs.judge_index_shape.Statement.{statement}
+use Rattle.call_refusals.proofs.judge_index_shape.Tie as tie
 
 check-sizes-requires : tie.Need-check-sizes-requires
 check-sizes-requires c κs = tt

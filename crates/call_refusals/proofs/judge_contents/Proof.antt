@@ -1,4 +1,4 @@
--- `circuit::judging::judge_contents` meets its contract: each row where the rows before it do not refuse. Assumes nothing.
+-- `call_refusals::judge_contents` meets its contract: each row where the rows before it do not refuse. Assumes nothing.
 use borrow.Author.Needs.{needs}
 use mathlib.Core.Path.{_≡_, refl, sym, ap, ap₂, _∙_, subst⁻¹}
 use mathlib.Core.Bool.{true}
@@ -17,12 +17,12 @@ use Rattle.protocol.specs.Circuit.{Circuit, sizesOf, largest}
 use Rattle.protocol.specs.Refusals.{Refusal, first, wordRefusal, entryRefusal, maskRefusal, assignmentRefusal, challengeRefusal}
 use Rattle.protocol.specs.Admission.{entryValues}
 use Rattle.protocol.specs.Calls.{entriesOf, circuitOf}
 use Rattle.circuit.specs.Given.{given, entryLists, EachWithin}
 use Rattle.circuit.specs.Judgement.{contentsRefusal}
 use Rattle.protocol.proofs.EarlyReturns.{stops, goes-on, fine-none, last-answer}
 use Rattle.circuit.proofs.Parts.{largest-by-counts, larger-is-size, entries-within}
-use Rattle.circuit.proofs.judging.judge_contents.Statement.{statement}
-use Rattle.circuit.proofs.judging.judge_contents.Tie as tie
+use Rattle.call_refusals.proofs.judge_contents.Statement.{statement}
+use Rattle.call_refusals.proofs.judge_contents.Tie as tie
 
 -- the start, from the places of the four answers
 abbrev from-words : tie.After-check-call-words → tie.Start

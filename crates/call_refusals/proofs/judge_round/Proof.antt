@@ -1,4 +1,4 @@
--- `circuit::judging::judge_round` meets its contract. Assumes nothing.
+-- `call_refusals::judge_round` meets its contract. Assumes nothing.
 use mathlib.Core.Path.{_≡_, refl, sym, _∙_}
 use mathlib.Core.Bool.{true}
 use mathlib.Core.List.{List, [], _∷_}
@@ -10,12 +10,12 @@ use Rattle.field.specs.Prime.{Prime}
 use Rattle.protocol.specs.Meanings.{isFine}
 use Rattle.protocol.specs.Refusals.{Refusal, first, refuse, pairs}
 use Rattle.protocol.specs.Calls.{CircuitWords, circuitOf, roundRefusal}
 use Rattle.circuit.specs.Given.{given, proverInput}
 use Rattle.circuit.specs.Judgement.{shapeRefusal, contentsRefusal}
 use Rattle.protocol.proofs.EarlyReturns.{stops, goes-on, fine-none, last-answer}
 use Rattle.circuit.proofs.Parts.{prover-in-parts, shape-fits}
-use Rattle.circuit.proofs.judging.judge_round.Statement.{statement}
-use Rattle.circuit.proofs.judging.judge_round.Tie as tie
+use Rattle.call_refusals.proofs.judge_round.Statement.{statement}
+use Rattle.call_refusals.proofs.judge_round.Tie as tie
 
 -- the start, from the answers on the shape and on the lent slices
 abbrev from-shape : tie.After-judge-shape → tie.Start

@@ -1,4 +1,4 @@
--- `circuit::judging::judge_shape` meets its contract. Assumes nothing.
+-- `call_refusals::judge_shape` meets its contract. Assumes nothing.
 use mathlib.Core.Path.{sym, _∙_}
 use mathlib.Core.List.{List, [], _∷_}
 use mathlib.Core.Option.{Option}
@@ -6,12 +6,12 @@ use borrow.Author.Tests.{not-true, not-false}
 use Rattle.protocol.specs.Refusals.{Refusal, refuse}
 use Rattle.protocol.specs.Admission.{assignmentTests}
 use Rattle.protocol.specs.Calls.{CircuitWords, circuitOf}
 use Rattle.circuit.specs.Given.{given}
 use Rattle.circuit.specs.Judgement.{indexShapeRefusal}
 use Rattle.protocol.proofs.EarlyReturns.{stops, goes-on, last-answer}
 use Rattle.circuit.proofs.Parts.{shape-in-parts}
-use Rattle.circuit.proofs.judging.judge_shape.Statement.{statement}
-use Rattle.circuit.proofs.judging.judge_shape.Tie as tie
+use Rattle.call_refusals.proofs.judge_shape.Statement.{statement}
+use Rattle.call_refusals.proofs.judge_shape.Tie as tie
 
 -- the start, from the answer on the circuit; the circuit that the call is given, and the part of the answer after it
 abbrev start : tie.After-judge-index-shape → tie.Start

@@ -1,4 +1,4 @@
--- `circuit::judging::judge_index` meets its contract. Assumes nothing.
+-- `call_refusals::judge_index` meets its contract. Assumes nothing.
 use mathlib.Core.Path.{_≡_, refl, sym, ap, _∙_}
 use mathlib.Core.Bool.{Bool, true}
 use mathlib.Core.List.{List, [], _∷_}
@@ -11,12 +11,12 @@ use Rattle.field.specs.Prime.{Prime}
 use Rattle.protocol.specs.Meanings.{faultRefusal, isFine}
 use Rattle.protocol.specs.Refusals.{Refusal, first, refuse, pairs}
 use Rattle.protocol.specs.Calls.{CircuitWords, circuitOf}
 use Rattle.circuit.specs.Given.{given}
 use Rattle.circuit.specs.Judgement.{indexDue, indexShapeRefusal, indexRefusal, indexContentsRefusal}
 use Rattle.protocol.proofs.EarlyReturns.{stops, goes-on, fine-none, last-answer}
 use Rattle.circuit.proofs.Parts.{index-in-parts, index-shape-fits}
-use Rattle.circuit.proofs.judging.judge_index.Statement.{statement}
-use Rattle.circuit.proofs.judging.judge_index.Tie as tie
+use Rattle.call_refusals.proofs.judge_index.Statement.{statement}
+use Rattle.call_refusals.proofs.judge_index.Tie as tie
 
 -- the start, from the answers on the shape and on the lent slices
 abbrev from-shape : tie.After-judge-index-shape → tie.Start

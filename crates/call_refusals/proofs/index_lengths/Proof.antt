@@ -1,8 +1,8 @@
--- `circuit::judging::index_lengths` meets its contract. Assumes nothing.
+-- `call_refusals::index_lengths` meets its contract. Assumes nothing.
 use native.Mathlib.Omega.{arith}
 use Rattle.circuit.specs.Judgement.{indexDue}
-use Rattle.circuit.proofs.judging.index_lengths.Statement.{statement}
-use Rattle.circuit.proofs.judging.index_lengths.Tie as tie
+use Rattle.call_refusals.proofs.index_lengths.Statement.{statement}
+use Rattle.call_refusals.proofs.index_lengths.Tie as tie
 
 size-of-requires : tie.Need-size-of-requires
 size-of-requires c κs = tt

@@ -9,10 +9,10 @@ ghost use Rattle.domain.specs.Qualifies.{Qualifies};
 ghost use Rattle.protocol.specs.Circuit.{Circuit};
 ghost use Rattle.protocol.specs.Meanings.{faultRefusal};
 ghost use Rattle.protocol.specs.Calls.{roundRefusal};
 ghost use Rattle.circuit.specs.Given.{given, proverInput, entryLists, ThreeLists, Shaped};
 ghost use Rattle.circuit.specs.Judgement.{indexShapeRefusal, shapeRefusal, indexDue, indexRefusal, indexContentsRefusal, contentsRefusal};
-use crate::checks;
-use crate::matrices;
+use circuit::checks;
+use circuit::matrices;
 use protocol::Fault;
 use protocol::is_fine;
 

@@ -1,14 +1,14 @@
--- `circuit::judging::judge_index_contents` meets its contract. Assumes nothing.
+-- `call_refusals::judge_index_contents` meets its contract. Assumes nothing.
 use borrow.Author.Needs.{needs}
 use mathlib.Core.Path.{sym, _∙_}
 use mathlib.Core.List.{[], _∷_}
 use borrow.Author.Tests.{not-true, not-false}
 use Rattle.protocol.specs.Refusals.{entryRefusal}
 use Rattle.circuit.specs.Judgement.{indexContentsRefusal}
 use Rattle.protocol.proofs.EarlyReturns.{stops, goes-on, last-answer}
 use Rattle.circuit.proofs.Parts.{circuit-words}
-use Rattle.circuit.proofs.judging.judge_index_contents.Statement.{statement}
-use Rattle.circuit.proofs.judging.judge_index_contents.Tie as tie
+use Rattle.call_refusals.proofs.judge_index_contents.Statement.{statement}
+use Rattle.call_refusals.proofs.judge_index_contents.Tie as tie
 
 check-three-values-requires : tie.Need-check-three-values-requires
 check-three-values-requires c κs = search needs
