@@ -2,4 +2,3 @@ pub mod PrintedLaws
 pub mod RoundLaws
 pub mod RoundResults
 pub mod Bounds
-pub mod JobLaws

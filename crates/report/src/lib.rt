@@ -1,10 +1,8 @@
-// The lines that program `prove` prints for a job: its proof and verdict, or its refusal.
-mod conversation;
-mod first_rounds;
+// The lines of a job that program `prove` prints, round by round, and those of a verdict and of a refusal.
+pub mod first_rounds;
 pub mod lines;
-mod matrix_rounds;
-mod messages;
-pub mod whole;
+pub mod matrix_rounds;
+pub mod messages;
 
 use protocol::Triple;
 

@@ -1,4 +1,4 @@
--- `report::whole::put_last` meets its contract. Assumes nothing.
+-- `outcome_text::whole::put_last` meets its contract. Assumes nothing.
 use mathlib.Core.Path.{sym, ap, _∙_}
 use Prim.Native.Nat.{ℕ, _*_, _/_, _≤_}
 use native.Mathlib.Omega.{arith}
@@ -10,12 +10,12 @@ use Rattle.protocol.specs.Messages.{lengths}
 use Rattle.protocol.specs.Meanings.{three, sizes, openings}
 use Rattle.poly.proofs.LentParts.{lent-length, back-holds, back-length, back-is}
 use Rattle.prover.proofs.WitnessLaws.{public-within}
 use Rattle.report.specs.ProofText.{answerText}
 use Rattle.report.specs.Stages.{lastAnswer}
 use Rattle.report.proofs.PrintedLaws.{printed-as}
 use borrow.Author.Needs.{needs}
-use Rattle.report.proofs.whole.put_last.Statement.{statement}
-use Rattle.report.proofs.whole.put_last.Tie as tie
+use Rattle.outcome_text.proofs.whole.put_last.Statement.{statement}
+use Rattle.outcome_text.proofs.whole.put_last.Tie as tie
 
 cast-n : tie.Need-cast-n
 cast-n c = search needs

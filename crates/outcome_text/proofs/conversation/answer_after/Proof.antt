@@ -1,4 +1,4 @@
--- `report::conversation::answer_after` meets its contract. Assumes nothing.
+-- `outcome_text::conversation::answer_after` meets its contract. Assumes nothing.
 use mathlib.Core.Path.{ap, _∙_}
 use Prim.Native.Nat.{ℕ}
 use native.Mathlib.Omega.{arith}
@@ -8,10 +8,10 @@ use Rattle.protocol.specs.Messages.{Messages, lengths}
 use Rattle.protocol.specs.Session.{Stepped, gammaStep, openingsStep}
 use Rattle.protocol.specs.Meanings.{openings}
 use Rattle.verifier.specs.Session.{sessionMeaning}
 use Rattle.report.specs.Stages.{answerAfter}
 use borrow.Author.Needs.{needs}
-use Rattle.report.proofs.conversation.answer_after.Statement.{statement}
-use Rattle.report.proofs.conversation.answer_after.Tie as tie
+use Rattle.outcome_text.proofs.conversation.answer_after.Statement.{statement}
+use Rattle.outcome_text.proofs.conversation.answer_after.Tie as tie
 
 message-lengths-requires : tie.Need-message-lengths-requires
 message-lengths-requires c κs = search needs

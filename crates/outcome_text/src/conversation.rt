@@ -6,12 +6,12 @@ ghost use Rattle.protocol.specs.Messages.{lengths};
 ghost use Rattle.protocol.specs.Meanings.{three, sizes};
 ghost use Rattle.protocol.specs.Meanings as meanings;
 ghost use Rattle.verifier.specs.Session.{sessionMeaning, lastMeaning};
 ghost use Rattle.report.specs.Stages.{afterSums, afterValues, answerAfter, lastAnswer};
-use crate::Challenges;
 use protocol::Opened;
 use protocol::Sizes;
 use protocol::Triple;
 use protocol::lengths::message_lengths;
+use report::Challenges;
 use varuna::session::LastAnswer;
 use varuna::session::Session;
 

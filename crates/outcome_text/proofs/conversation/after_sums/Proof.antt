@@ -1,4 +1,4 @@
--- `report::conversation::after_sums` meets its contract. Assumes nothing.
+-- `outcome_text::conversation::after_sums` meets its contract. Assumes nothing.
 use mathlib.Core.Path.{ap, _∙_}
 use Prim.Native.Nat.{ℕ}
 use native.Mathlib.Omega.{arith}
@@ -6,10 +6,10 @@ use Rattle.domain.specs.BabyBear.{babyBear}
 use Rattle.protocol.specs.Messages.{Messages, lengths}
 use Rattle.protocol.specs.Session.{Session, Stepped, openStep, alphaStep, etaStep}
 use Rattle.protocol.specs.Meanings.{three, sizes}
 use Rattle.report.specs.Stages.{afterSums}
 use borrow.Author.Needs.{needs}
-use Rattle.report.proofs.conversation.after_sums.Statement.{statement}
-use Rattle.report.proofs.conversation.after_sums.Tie as tie
+use Rattle.outcome_text.proofs.conversation.after_sums.Statement.{statement}
+use Rattle.outcome_text.proofs.conversation.after_sums.Tie as tie
 
 -- the lengths due, from the opened session, and the start
 abbrev at-lengths : tie.After-opened → tie.After-message-lengths

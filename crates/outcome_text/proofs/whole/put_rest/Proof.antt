@@ -1,4 +1,4 @@
--- `report::whole::put_rest` meets its contract. Assumes nothing.
+-- `outcome_text::whole::put_rest` meets its contract. Assumes nothing.
 use mathlib.Core.Path.{_≡_, sym, ap, _∙_}
 use mathlib.Core.List.{_++_}
 use native.Mathlib.Omega.{arith}
@@ -8,13 +8,13 @@ use Rattle.protocol.specs.Calls.{ProverInput, circuitOf}
 use Rattle.protocol.specs.Meanings.{three}
 use Rattle.circuit.specs.Given.{proverInput}
 use Rattle.circuit.proofs.Fitting.{C-fits, X-fits, X-below}
 use Rattle.report.specs.Stages.{fourthText, fifthText, lastText, restText, openedMeaning}
 use Rattle.report.proofs.PrintedLaws.{printed-then, printed-within, printed-as, printed-place, printed-length}
 use Rattle.report.proofs.Bounds.{fitting}
 use Rattle.report.proofs.RoundLaws.{fourth-free, fifth-free}
 use borrow.Author.Needs.{needs}
-use Rattle.report.proofs.whole.put_rest.Statement.{statement}
-use Rattle.report.proofs.whole.put_rest.Tie as tie
+use Rattle.outcome_text.proofs.whole.put_rest.Statement.{statement}
+use Rattle.outcome_text.proofs.whole.put_rest.Tie as tie
 
 abbrev input : tie.Start → ProverInput
 input s =

@@ -1,16 +1,16 @@
--- `report::whole::put_proof` meets its contract. Assumes nothing.
+-- `outcome_text::whole::put_proof` meets its contract. Assumes nothing.
 use mathlib.Core.List.{_++_}
 use native.Mathlib.Omega.{arith}
 use Rattle.protocol.specs.Calls.{ProverInput}
 use Rattle.protocol.specs.Meanings.{three}
 use Rattle.circuit.specs.Given.{proverInput}
 use Rattle.report.proofs.PrintedLaws.{printed-then, printed-within, printed-as, printed-place, printed-length}
 use Rattle.protocol.specs.Three.{listed}
 use Rattle.report.specs.Stages.{section, firstText, thirdText, restText, stagesText, openedMeaning}
 use Rattle.report.proofs.RoundLaws.{first-free, second-free, third-free}
 use borrow.Author.Needs.{needs}
-use Rattle.report.proofs.whole.put_proof.Statement.{statement}
-use Rattle.report.proofs.whole.put_proof.Tie as tie
+use Rattle.outcome_text.proofs.whole.put_proof.Statement.{statement}
+use Rattle.outcome_text.proofs.whole.put_proof.Tie as tie
 
 abbrev input : tie.Start → ProverInput
 input s =

@@ -1,4 +1,4 @@
--- `report::conversation::after_values` meets its contract. Assumes nothing.
+-- `outcome_text::conversation::after_values` meets its contract. Assumes nothing.
 use mathlib.Core.Path.{ap, _∙_}
 use Prim.Native.Nat.{ℕ}
 use native.Mathlib.Omega.{arith}
@@ -7,10 +7,10 @@ use Rattle.protocol.specs.Messages.{Messages, lengths}
 use Rattle.protocol.specs.Session.{Session, Stepped, betaStep, deltaStep}
 use Rattle.protocol.specs.Meanings.{three}
 use Rattle.verifier.specs.Session.{sessionMeaning}
 use Rattle.report.specs.Stages.{afterValues}
 use borrow.Author.Needs.{needs}
-use Rattle.report.proofs.conversation.after_values.Statement.{statement}
-use Rattle.report.proofs.conversation.after_values.Tie as tie
+use Rattle.outcome_text.proofs.conversation.after_values.Statement.{statement}
+use Rattle.outcome_text.proofs.conversation.after_values.Tie as tie
 
 -- the lengths due, from the session after β
 abbrev at-lengths : tie.After-beta → tie.After-message-lengths

@@ -1,4 +1,4 @@
--- `report::whole::put_job` meets its contract. Assumes nothing.
+-- `outcome_text::whole::put_job` meets its contract. Assumes nothing.
 use mathlib.Core.Path.{sym, ap, _∙_}
 use mathlib.Core.List.{[]}
 use mathlib.Core.Option.{Option}
@@ -10,11 +10,11 @@ use Rattle.protocol.proofs.CallsProve.{judged-done}
 use Rattle.circuit.specs.Given.{proverInput}
 use Rattle.varuna.specs.Answers.{openingsMeaning}
 use Rattle.text.proofs.WrittenLaws.{written-as}
 use Rattle.report.specs.Stages.{jobDrawn}
-use Rattle.report.proofs.JobLaws.{judged-refused, refused-text, free-text}
+use Rattle.outcome_text.proofs.JobLaws.{judged-refused, refused-text, free-text}
 use borrow.Author.Needs.{needs}
-use Rattle.report.proofs.whole.put_job.Statement.{statement}
-use Rattle.report.proofs.whole.put_job.Tie as tie
+use Rattle.outcome_text.proofs.whole.put_job.Statement.{statement}
+use Rattle.outcome_text.proofs.whole.put_job.Tie as tie
 
 -- what is given, from the openings, and their refusal
 abbrev start : tie.After-openings → tie.Start

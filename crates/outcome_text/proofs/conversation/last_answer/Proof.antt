@@ -1,12 +1,12 @@
--- `report::conversation::last_answer` meets its contract. Assumes nothing.
+-- `outcome_text::conversation::last_answer` meets its contract. Assumes nothing.
 use mathlib.Core.Path.{ap, _∙_}
 use Prim.Native.Nat.{ℕ}
 use Rattle.protocol.specs.Messages.{Messages, lengths}
 use Rattle.protocol.specs.Meanings.{three, sizes, openings}
 use Rattle.report.specs.Stages.{afterValues, answerAfter}
 use borrow.Author.Needs.{needs}
-use Rattle.report.proofs.conversation.last_answer.Statement.{statement}
-use Rattle.report.proofs.conversation.last_answer.Tie as tie
+use Rattle.outcome_text.proofs.conversation.last_answer.Statement.{statement}
+use Rattle.outcome_text.proofs.conversation.last_answer.Tie as tie
 
 after-sums-requires : tie.Need-after-sums-requires
 after-sums-requires c κs = search needs
