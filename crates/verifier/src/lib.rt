@@ -1,4 +1,2 @@
-// The verifier: what refuses each step, with the modulus p as a parameter, and the public session.
-mod holdings;
-mod refusals;
+// The verifier: the public session. Crate `step_refusals` has what refuses its steps.
 pub mod session;

@@ -12,8 +12,6 @@ ghost use Rattle.protocol.specs.Session as steps;
 ghost use Rattle.protocol.specs.Meanings.{three, sizes, transcript};
 ghost use Rattle.protocol.specs.Meanings as meanings;
 ghost use Rattle.verifier.specs.Session.{sessionMeaning, steppedMeaning, finishedMeaning, sessionOf, sessionWords, transcriptOf, threeAt};
-use crate::holdings::transcript_words;
-use crate::refusals;
 use field::MODULE_PRIME;
 use protocol::Fault;
 use protocol::Opened;
@@ -21,6 +19,8 @@ use protocol::Sizes;
 use protocol::Transcript;
 use protocol::Triple;
 use protocol::Verdict;
+use step_refusals::holdings::transcript_words;
+use step_refusals::refusals;
 
 // The steps taken, the sizes, the public words with zeros after them, and the transcript.
 pub struct Session {

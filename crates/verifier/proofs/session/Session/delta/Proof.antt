@@ -2,7 +2,7 @@
 use Rattle.domain.specs.BabyBear.{babyBear}
 use Rattle.protocol.specs.Meanings.{faultRefusal, three, sizes}
 use Rattle.protocol.specs.Session.{deltaRefusal, deltaStep}
-use Rattle.verifier.proofs.Turns.{delta-turn}
+use Rattle.step_refusals.proofs.Turns.{delta-turn}
 use borrow.Author.Needs.{needs}
 use mathlib.Core.Path.{_≡_, refl, sym, ap, _∙_}
 use native.Mathlib.Omega.{arith}

@@ -3,7 +3,7 @@ use Rattle.domain.proofs.Qualification.{babyBear-qualifies}
 use Rattle.domain.specs.BabyBear.{babyBear}
 use Rattle.protocol.specs.Meanings.{faultRefusal, sizes}
 use Rattle.protocol.specs.Session.{gammaRefusal, gammaStep}
-use Rattle.verifier.proofs.Turns.{gamma-turn}
+use Rattle.step_refusals.proofs.Turns.{gamma-turn}
 use borrow.Author.Needs.{needs}
 use mathlib.Core.Path.{_≡_, refl, sym, ap, _∙_}
 use native.Mathlib.Omega.{arith}

@@ -5,7 +5,7 @@ use Rattle.protocol.specs.Checks.{Transcript}
 use Rattle.protocol.specs.Meanings.{faultRefusal, sizes}
 use Rattle.protocol.specs.Session as steps
 use Rattle.protocol.specs.Session.{Taken, openRefusal, openStep}
-use Rattle.verifier.proofs.Turns.{words-fit}
+use Rattle.step_refusals.proofs.Turns.{words-fit}
 use borrow.Author.Needs.{needs}
 use mathlib.Core.List.{List}
 use mathlib.Core.Path.{_≡_, refl, sym, ap, ap₂, _∙_}
