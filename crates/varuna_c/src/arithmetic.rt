@@ -2,8 +2,8 @@
 ghost use mathlib.Core.Path.{_≡_};
 ghost use Rattle.domain.specs.BabyBear.{babyBear};
 ghost use Rattle.protocol.specs.Calls.{addCall, subtractCall, multiplyCall, powerCall, inverseCall};
-ghost use Rattle.varuna_c.specs.Answers.{told, answered};
-use crate::answers::give_word;
+ghost use Rattle.c_numbers.specs.Answers.{told, answered};
+use c_numbers::answers::give_word;
 
 // a + b. Refusal 6.
 #[no_mangle]

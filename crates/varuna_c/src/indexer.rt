@@ -7,8 +7,8 @@ ghost use Rattle.protocol.specs.Index.{mapIndex};
 ghost use Rattle.protocol.specs.Calls.{indexCall};
 ghost use Rattle.circuit.specs.Given.{given};
 ghost use Rattle.varuna.specs.Inputs.{twelve};
-ghost use Rattle.varuna_c.specs.Answers.{told, answered};
-use crate::answers::give_filled;
+ghost use Rattle.c_numbers.specs.Answers.{told, answered};
+use c_numbers::answers::give_filled;
 
 // The twelve index polynomials of a circuit. Refusals 4 to 7.
 #[no_mangle]

@@ -2,10 +2,8 @@
 // `varuna` and hands its answer over in numbers: it returns 0 where the call is done and the refusal's number where it is refused, and
 // sets the position; a refusal changes no other memory, but for the verdict, which a refused last step sets to 0, none. A slice is a
 // pointer and a length, an array and a number a pointer.
-mod answers;
 pub mod arithmetic;
 pub mod indexer;
-mod inputs;
 pub mod polynomials;
 pub mod records;
 pub mod rounds;

@@ -3,9 +3,9 @@ ghost use mathlib.Core.Path.{_≡_};
 ghost use lib.ListN.{length};
 ghost use Rattle.domain.specs.BabyBear.{babyBear};
 ghost use Rattle.protocol.specs.Calls.{domainCall, evaluateCall, interpolateCall};
-ghost use Rattle.varuna_c.specs.Answers.{told, answered};
-use crate::answers::give_filled;
-use crate::answers::give_word;
+ghost use Rattle.c_numbers.specs.Answers.{told, answered};
+use c_numbers::answers::give_filled;
+use c_numbers::answers::give_word;
 
 // The n elements of the domain of size n. Refusals 4, 5.
 #[no_mangle]

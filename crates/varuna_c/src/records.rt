@@ -6,12 +6,12 @@ ghost use Rattle.protocol.specs.Record.{readRecord};
 ghost use Rattle.protocol.specs.Calls.{writeCall, placeCall};
 ghost use Rattle.record.specs.Answers.{sizesFound};
 ghost use Rattle.record.specs.Layout.{eachSection};
-ghost use Rattle.varuna_c.specs.Answers.{told, answered, sizesListed};
-ghost use Rattle.varuna_c.specs.Inputs.{sizesIn};
-use crate::answers::give_filled;
-use crate::answers::give_place;
-use crate::answers::give_sizes;
-use crate::inputs::sizes_in;
+ghost use Rattle.c_numbers.specs.Answers.{told, answered, sizesListed};
+ghost use Rattle.c_numbers.specs.Inputs.{sizesIn};
+use c_numbers::answers::give_filled;
+use c_numbers::answers::give_place;
+use c_numbers::answers::give_sizes;
+use c_numbers::inputs::sizes_in;
 
 // A record of eleven sections. Refusals 4, 5, 6.
 #[no_mangle]

@@ -6,11 +6,11 @@ ghost use Rattle.protocol.specs.Calls.{firstRoundCall, secondRoundCall, thirdRo
 ghost use Rattle.circuit.specs.Given.{proverInput};
 ghost use Rattle.varuna.specs.Inputs.{threeOf};
 ghost use Rattle.verifier.specs.Session.{threeAt};
-ghost use Rattle.varuna_c.specs.Answers.{told, answered, threeListed, threeListedWith};
-use crate::answers::give_filled;
-use crate::answers::give_openings;
-use crate::answers::give_three;
-use crate::inputs::triple;
+ghost use Rattle.c_numbers.specs.Answers.{told, answered, threeListed, threeListedWith};
+use c_numbers::answers::give_filled;
+use c_numbers::answers::give_openings;
+use c_numbers::answers::give_three;
+use c_numbers::inputs::triple;
 
 // Round 1: ŵ and h0. Refusals 4 to 9.
 #[no_mangle]

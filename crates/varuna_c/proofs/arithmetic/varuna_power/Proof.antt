@@ -1,6 +1,6 @@
 -- `varuna_c::arithmetic::varuna_power` meets its contract. Assumes nothing.
 use mathlib.Core.Path.{ap, _∙_}
-use Rattle.varuna_c.specs.Answers.{answered}
+use Rattle.c_numbers.specs.Answers.{answered}
 use borrow.Author.Needs.{needs}
 use Rattle.varuna_c.proofs.arithmetic.varuna_power.Statement.{statement}
 use Rattle.varuna_c.proofs.arithmetic.varuna_power.Tie as tie

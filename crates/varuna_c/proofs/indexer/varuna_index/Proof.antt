@@ -6,7 +6,7 @@ use Rattle.protocol.specs.Index.{mapIndex}
 use Rattle.protocol.specs.Calls.{indexCall}
 use Rattle.circuit.specs.Given.{given}
 use Rattle.varuna.specs.Inputs.{twelve}
-use Rattle.varuna_c.proofs.AnswerLaws.{filled-told}
+use Rattle.c_numbers.proofs.AnswerLaws.{filled-told}
 use Rattle.varuna_c.proofs.indexer.varuna_index.Statement.{statement}
 use Rattle.varuna_c.proofs.indexer.varuna_index.Tie as tie
 

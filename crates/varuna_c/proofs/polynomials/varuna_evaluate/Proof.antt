@@ -1,6 +1,6 @@
 -- `varuna_c::polynomials::varuna_evaluate` meets its contract. Assumes nothing.
 use mathlib.Core.Path.{ap, _∙_}
-use Rattle.varuna_c.specs.Answers.{answered}
+use Rattle.c_numbers.specs.Answers.{answered}
 use borrow.Author.Needs.{needs}
 use Rattle.varuna_c.proofs.polynomials.varuna_evaluate.Statement.{statement}
 use Rattle.varuna_c.proofs.polynomials.varuna_evaluate.Tie as tie

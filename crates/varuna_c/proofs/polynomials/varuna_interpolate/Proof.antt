@@ -2,7 +2,7 @@
 use lib.ListN.{length}
 use Rattle.domain.specs.BabyBear.{babyBear}
 use Rattle.protocol.specs.Calls.{interpolateCall}
-use Rattle.varuna_c.proofs.AnswerLaws.{filled-told}
+use Rattle.c_numbers.proofs.AnswerLaws.{filled-told}
 use borrow.Author.Needs.{needs}
 use Rattle.varuna_c.proofs.polynomials.varuna_interpolate.Statement.{statement}
 use Rattle.varuna_c.proofs.polynomials.varuna_interpolate.Tie as tie

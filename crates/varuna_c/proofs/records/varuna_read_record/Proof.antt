@@ -1,6 +1,6 @@
 -- `varuna_c::records::varuna_read_record` meets its contract. Assumes nothing.
 use mathlib.Core.Path.{ap, _∙_}
-use Rattle.varuna_c.specs.Answers.{answered, sizesListed}
+use Rattle.c_numbers.specs.Answers.{answered, sizesListed}
 use borrow.Author.Needs.{needs}
 use Rattle.varuna_c.proofs.records.varuna_read_record.Statement.{statement}
 use Rattle.varuna_c.proofs.records.varuna_read_record.Tie as tie

@@ -9,8 +9,8 @@ use Rattle.protocol.specs.Refusals.{Outcome}
 use Rattle.protocol.specs.Calls.{writeCall}
 use Rattle.record.specs.Layout.{eachSection}
 use Rattle.varuna.specs.Answers.{fills}
-use Rattle.varuna_c.specs.Inputs.{sizesIn}
-use Rattle.varuna_c.proofs.AnswerLaws.{filled-told}
+use Rattle.c_numbers.specs.Inputs.{sizesIn}
+use Rattle.c_numbers.proofs.AnswerLaws.{filled-told}
 use borrow.Author.Needs.{needs}
 use Rattle.varuna_c.proofs.records.varuna_write_record.Statement.{statement}
 use Rattle.varuna_c.proofs.records.varuna_write_record.Tie as tie

@@ -10,7 +10,7 @@ use Rattle.varuna.specs.Answers.{fills}
 use Rattle.protocol.specs.Refusals.{Outcome}
 use mathlib.Core.List.{List}
 use Rattle.protocol.specs.Calls.{fifthRoundCall}
-use Rattle.varuna_c.proofs.AnswerLaws.{filled-told}
+use Rattle.c_numbers.proofs.AnswerLaws.{filled-told}
 use borrow.Author.Needs.{needs}
 use Rattle.varuna_c.proofs.rounds.varuna_fifth_round.Statement.{statement}
 use Rattle.varuna_c.proofs.rounds.varuna_fifth_round.Tie as tie

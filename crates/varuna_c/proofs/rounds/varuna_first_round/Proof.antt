@@ -5,7 +5,7 @@ use Rattle.domain.specs.BabyBear.{babyBear}
 use Prim.Native.Nat.{ℕ}
 use Rattle.circuit.specs.Given.{proverInput}
 use Rattle.protocol.specs.Calls.{firstRoundCall}
-use Rattle.varuna_c.proofs.AnswerLaws.{filled-told}
+use Rattle.c_numbers.proofs.AnswerLaws.{filled-told}
 use borrow.Author.Needs.{needs}
 use Rattle.varuna_c.proofs.rounds.varuna_first_round.Statement.{statement}
 use Rattle.varuna_c.proofs.rounds.varuna_first_round.Tie as tie

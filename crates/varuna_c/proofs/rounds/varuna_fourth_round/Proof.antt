@@ -11,7 +11,7 @@ use Rattle.varuna.specs.Answers.{fillsThree}
 use Rattle.protocol.specs.Refusals.{Outcome}
 use mathlib.Core.List.{List}
 use Rattle.protocol.specs.Calls.{fourthRoundCall}
-use Rattle.varuna_c.proofs.AnswerLaws.{three-filled-told}
+use Rattle.c_numbers.proofs.AnswerLaws.{three-filled-told}
 use borrow.Author.Needs.{needs}
 use Rattle.varuna_c.proofs.rounds.varuna_fourth_round.Statement.{statement}
 use Rattle.varuna_c.proofs.rounds.varuna_fourth_round.Tie as tie

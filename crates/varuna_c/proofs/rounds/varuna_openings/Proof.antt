@@ -7,7 +7,7 @@ use Rattle.circuit.specs.Given.{proverInput}
 use Rattle.protocol.specs.Refusals.{Outcome}
 use mathlib.Core.List.{List}
 use Rattle.protocol.specs.Calls.{openingsCall}
-use Rattle.varuna_c.specs.Answers.{answered}
+use Rattle.c_numbers.specs.Answers.{answered}
 use borrow.Author.Needs.{needs}
 use Rattle.varuna_c.proofs.rounds.varuna_openings.Statement.{statement}
 use Rattle.varuna_c.proofs.rounds.varuna_openings.Tie as tie

@@ -1,6 +1,6 @@
 -- `varuna_c::rounds::varuna_second_round` meets its contract. Assumes nothing.
 use mathlib.Core.Path.{ap, _∙_}
-use Rattle.varuna_c.specs.Answers.{answered, threeListed}
+use Rattle.c_numbers.specs.Answers.{answered, threeListed}
 use borrow.Author.Needs.{needs}
 use Rattle.varuna_c.proofs.rounds.varuna_second_round.Statement.{statement}
 use Rattle.varuna_c.proofs.rounds.varuna_second_round.Tie as tie

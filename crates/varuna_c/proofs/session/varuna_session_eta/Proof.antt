@@ -6,7 +6,7 @@ use Rattle.protocol.specs.Three.{Three}
 use Prim.Native.Nat.{ℕ}
 use Rattle.protocol.specs.Session as steps
 use Rattle.verifier.specs.Session.{sessionOf}
-use Rattle.varuna_c.specs.Answers.{stepAnswered}
+use Rattle.c_numbers.specs.Answers.{stepAnswered}
 use Rattle.protocol.specs.Session.{etaStep}
 use borrow.Author.Needs.{needs}
 use Rattle.varuna_c.proofs.session.varuna_session_eta.Statement.{statement}

@@ -1,7 +1,7 @@
 -- `varuna_c::session::varuna_session_gamma` meets its contract. Assumes nothing.
 use mathlib.Core.Path.{ap, _∙_}
 use Rattle.domain.specs.BabyBear.{babyBear}
-use Rattle.varuna_c.specs.Answers.{stepAnswered}
+use Rattle.c_numbers.specs.Answers.{stepAnswered}
 use Rattle.protocol.specs.Session.{gammaStep}
 use borrow.Author.Needs.{needs}
 use Rattle.varuna_c.proofs.session.varuna_session_gamma.Statement.{statement}

@@ -2,8 +2,8 @@
 use mathlib.Core.Path.{ap, ap₂, _∙_}
 use Rattle.domain.specs.BabyBear.{babyBear}
 use Rattle.verifier.specs.Session.{threeAt}
-use Rattle.varuna_c.specs.Answers.{lastAnswered}
-use Rattle.varuna_c.specs.Inputs.{openingsIn}
+use Rattle.c_numbers.specs.Answers.{lastAnswered}
+use Rattle.c_numbers.specs.Inputs.{openingsIn}
 use Rattle.protocol.specs.Meanings.{openings}
 use Rattle.protocol.specs.Session.{openingsStep}
 use borrow.Author.Needs.{needs}

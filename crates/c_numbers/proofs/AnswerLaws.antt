@@ -5,7 +5,7 @@ use Prim.Native.Nat.{ℕ}
 use Rattle.protocol.specs.Three.{Three}
 use Rattle.protocol.specs.Refusals.{Outcome, Done, Refused}
 use Rattle.varuna.specs.Answers.{Filling, filling, fills, fillsThree}
-use Rattle.varuna_c.specs.Answers.{Answered, told, answered, threeListed, threeListedWith}
+use Rattle.c_numbers.specs.Answers.{Answered, told, answered, threeListed, threeListedWith}
 
 -- slices beside what is handed over, and alone
 abbrev with-slices : {S T : Type 0} → Answered T → S → Answered (T × S)

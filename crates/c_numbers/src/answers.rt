@@ -4,7 +4,7 @@ ghost use Rattle.protocol.specs.Meanings.{verdictMeaning};
 ghost use Rattle.record.specs.Answers.{readingMeaning, placeMeaning};
 ghost use Rattle.varuna.specs.Answers.{wordMeaning, threeMeaning, filledMeaning, openingsMeaning};
 ghost use Rattle.verifier.specs.Session.{steppedMeaning, finishedMeaning};
-ghost use Rattle.varuna_c.specs.Answers.{told, answered, threeListed, sizesListed, stepAnswered, lastAnswered, verdictNumber};
+ghost use Rattle.c_numbers.specs.Answers.{told, answered, threeListed, sizesListed, stepAnswered, lastAnswered, verdictNumber};
 use varuna::answers::Check;
 use varuna::answers::Filled;
 use varuna::answers::Openings;

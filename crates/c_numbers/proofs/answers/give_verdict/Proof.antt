@@ -1,11 +1,11 @@
--- `varuna_c::answers::give_verdict` meets its contract. Assumes nothing.
+-- `c_numbers::answers::give_verdict` meets its contract. Assumes nothing.
 use mathlib.Core.List.{List}
 use mathlib.Core.Path.{ap₂}
 use Prim.Native.Nat.{ℕ}
-use Rattle.varuna_c.specs.Answers.{told}
+use Rattle.c_numbers.specs.Answers.{told}
 use borrow.Author.Needs.{needs}
-use Rattle.varuna_c.proofs.answers.give_verdict.Statement.{statement}
-use Rattle.varuna_c.proofs.answers.give_verdict.Tie as tie
+use Rattle.c_numbers.proofs.answers.give_verdict.Statement.{statement}
+use Rattle.c_numbers.proofs.answers.give_verdict.Tie as tie
 
 enum-known-answer : tie.Need-enum-known-answer
 enum-known-answer c = search needs

@@ -1,9 +1,9 @@
--- `varuna_c::answers::give_step` meets its contract. Assumes nothing.
+-- `c_numbers::answers::give_step` meets its contract. Assumes nothing.
 use mathlib.Core.Path.{ap}
-use Rattle.varuna_c.specs.Answers.{told}
+use Rattle.c_numbers.specs.Answers.{told}
 use borrow.Author.Needs.{needs}
-use Rattle.varuna_c.proofs.answers.give_step.Statement.{statement}
-use Rattle.varuna_c.proofs.answers.give_step.Tie as tie
+use Rattle.c_numbers.proofs.answers.give_step.Statement.{statement}
+use Rattle.c_numbers.proofs.answers.give_step.Tie as tie
 
 enum-told : tie.Need-enum-told
 enum-told c = search needs

@@ -1,9 +1,9 @@
--- `varuna_c::inputs::triple` meets its contract. Assumes nothing.
+-- `c_numbers::inputs::triple` meets its contract. Assumes nothing.
 use mathlib.Core.Path.{refl}
 use Rattle.verifier.specs.Session.{threeAt}
 use borrow.Author.Needs.{needs}
-use Rattle.varuna_c.proofs.inputs.triple.Statement.{statement}
-use Rattle.varuna_c.proofs.inputs.triple.Tie as tie
+use Rattle.c_numbers.proofs.inputs.triple.Statement.{statement}
+use Rattle.c_numbers.proofs.inputs.triple.Tie as tie
 
 element-copy-out-t4 : tie.Need-element-copy-out-t4
 element-copy-out-t4 c = search needs

@@ -1,7 +1,7 @@
--- `varuna_c::answers::give_sizes` meets its contract. Assumes nothing.
+-- `c_numbers::answers::give_sizes` meets its contract. Assumes nothing.
 use borrow.Author.Needs.{needs}
-use Rattle.varuna_c.proofs.answers.give_sizes.Statement.{statement}
-use Rattle.varuna_c.proofs.answers.give_sizes.Tie as tie
+use Rattle.c_numbers.proofs.answers.give_sizes.Statement.{statement}
+use Rattle.c_numbers.proofs.answers.give_sizes.Tie as tie
 
 enum-known-answer : tie.Need-enum-known-answer
 enum-known-answer c = search needs

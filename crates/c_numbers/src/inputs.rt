@@ -2,7 +2,7 @@
 ghost use mathlib.Core.Path.{_≡_};
 ghost use Rattle.protocol.specs.Meanings.{three, sizes as sizesMeaning};
 ghost use Rattle.verifier.specs.Session.{threeAt};
-ghost use Rattle.varuna_c.specs.Inputs.{sizesIn, messagesIn, indexesIn};
+ghost use Rattle.c_numbers.specs.Inputs.{sizesIn, messagesIn, indexesIn};
 use varuna::answers::Opened;
 use varuna::answers::Sizes;
 use varuna::answers::Triple;

@@ -1,10 +1,10 @@
--- `varuna_c::inputs::sizes_in` meets its contract. Assumes nothing.
+-- `c_numbers::inputs::sizes_in` meets its contract. Assumes nothing.
 use mathlib.Core.Path.{refl}
 use Rattle.verifier.specs.Session.{threeAt}
-use Rattle.varuna_c.specs.Inputs.{sizesIn}
+use Rattle.c_numbers.specs.Inputs.{sizesIn}
 use borrow.Author.Needs.{needs}
-use Rattle.varuna_c.proofs.inputs.sizes_in.Statement.{statement}
-use Rattle.varuna_c.proofs.inputs.sizes_in.Tie as tie
+use Rattle.c_numbers.proofs.inputs.sizes_in.Statement.{statement}
+use Rattle.c_numbers.proofs.inputs.sizes_in.Tie as tie
 
 element-copy-out-t4 : tie.Need-element-copy-out-t4
 element-copy-out-t4 c = search needs
