@@ -1,8 +1,6 @@
 pub mod PrimePowers
 pub mod RecordLaws
-pub mod ScanLaws
-pub mod LineLaws
-pub mod CircuitLaws
+pub mod NthLineLaws
 pub mod TableLaws
 pub mod SheetLaws
 pub mod Counts

@@ -9,12 +9,13 @@ use lib.ListN.{length, take}
 use borrow.Author.Tests.{le-leb, lt-leb, eq-eqb, ne-eqb}
 use Rattle.algebra.proofs.Choice.{pick-true, pick-false}
 use Rattle.field.specs.Prime.{Prime}
-use Rattle.figures.specs.declared.numbers.Request.{Request}
-use Rattle.figures.specs.declared.circuits.Found.{Found}
-use Rattle.figures.specs.Figures.{Given, figures}
-use Rattle.figures.specs.Placed.{given, foundLine, messageOf, isWrong, Kept}
-use Rattle.figures.specs.Sheet.{linesOf, lineOf, wrong, wrongText, circuits, rowsText, tooLong, usage, tooMany, unlessWrong, tableText, sheetText}
-use Rattle.figures.proofs.CircuitLaws.{is-wrong, not-wrong}
+use Rattle.sheet_lines.specs.declared.numbers.Request.{Request}
+use Rattle.sheet_lines.specs.declared.circuits.Found.{Found}
+use Rattle.sheet_lines.specs.Lines.{Given, linesOf, lineOf, wrong, wrongText, circuits}
+use Rattle.sheet_lines.specs.Meanings.{given, foundLine, messageOf, isWrong, Kept}
+use Rattle.sheet_lines.proofs.CircuitLaws.{is-wrong, not-wrong}
+use Rattle.figures.specs.Figures.{figures}
+use Rattle.figures.specs.Sheet.{rowsText, tooLong, usage, tooMany, unlessWrong, tableText, sheetText}
 
 module _ (q : Prime) where
   -- the table of the circuits that are kept

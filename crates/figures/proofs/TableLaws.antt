@@ -18,10 +18,12 @@ use Rattle.text.specs.Decimal.{decimal}
 use Rattle.text.specs.Written.{Written}
 use Rattle.text.proofs.DecimalLaws.{decimal-short}
 use Rattle.text.proofs.WrittenLaws.{written-then, written-length, written-as}
-use Rattle.figures.specs.declared.numbers.Request.{Request}
-use Rattle.figures.specs.Figures.{Given, Figure, figure, sizeFigures, lengthFigures, checkFigures, tripleFigures, figures}
-use Rattle.figures.specs.Placed.{given, figureAt, Within, cellRoom, rowRoom}
-use Rattle.figures.specs.Sheet.{linesOf, cellText, cellsText, rowText, rowsText}
+use Rattle.sheet_lines.specs.declared.numbers.Request.{Request}
+use Rattle.sheet_lines.specs.Lines.{Given, linesOf}
+use Rattle.sheet_lines.specs.Meanings.{given}
+use Rattle.figures.specs.Figures.{Figure, figure, sizeFigures, lengthFigures, checkFigures, tripleFigures, figures}
+use Rattle.figures.specs.Placed.{figureAt, Within, cellRoom, rowRoom}
+use Rattle.figures.specs.Sheet.{cellText, cellsText, rowText, rowsText}
 use Rattle.figures.proofs.PrimePowers.{squared, cubed, prime-squared, prime-cubed}
 
 -- a short text

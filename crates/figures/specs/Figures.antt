@@ -5,18 +5,12 @@ use Prim.Native.Nat.{ℕ, _+_, _-_, _*_}
 use Prim.Native.String.{String}
 use Rattle.field.specs.Prime.{Prime}
 use Rattle.domain.specs.Size.{sizeFor}
-use Rattle.protocol.specs.Three.{Three, mapThree}
+use Rattle.protocol.specs.Three.{mapThree}
 use Rattle.protocol.specs.Circuit.{Sizes, largest}
 use Rattle.protocol.specs.Messages.{lengths}
 use Rattle.protocol.specs.Record.{sectionBytes}
 use Rattle.protocol.specs.Refusals.{trailerBytes}
-
--- what the planner gives of a circuit: |R|, |C|, |X| and the entry counts of A, B, C
-pub record Given : Type 0 where
-  pub |R| : ℕ
-  pub |C| : ℕ
-  pub |X| : ℕ
-  pub entries : Three ℕ
+use Rattle.sheet_lines.specs.Lines.{Given}
 
 -- the circuit's sizes
 abbrev pub sizesFor : Given → Sizes

@@ -1,19 +1,16 @@
 -- What program `sheet` writes for a text with a circuit on each line: a table with a row for each figure and a column for each
 -- circuit, or a message. Assumes nothing.
-use mathlib.Core.List.{List, [], _∷_, _++_, map, foldr}
+use mathlib.Core.List.{List, [], _++_, map, foldr}
 use mathlib.Core.Option.{Option, none, some}
-use Prim.Native.Nat.{ℕ, suc}
+use Prim.Native.Nat.{ℕ}
 use lib.Dec.{eqb, leb}
-use lib.ListN.{length, getD}
+use lib.ListN.{length}
 use Rattle.algebra.specs.Lists.{pick}
 use Rattle.field.specs.Prime.{Prime}
-use Rattle.domain.specs.Size.{maxSize}
-use Rattle.protocol.specs.Three.{listed}
-use Rattle.protocol.specs.Refusals.{Refusal, first, sizeTests, sizeRefusal, listRefusal}
 use Rattle.text.specs.Ascii.{ascii}
 use Rattle.text.specs.Decimal.{decimal}
-use Rattle.figures.specs.Figures.{Given, Figure, figures}
-use Rattle.figures.specs.Numbers.{numbersIn}
+use Rattle.sheet_lines.specs.Lines.{Given, Line, linesOf, lineOf, wrong, circuits}
+use Rattle.figures.specs.Figures.{Figure, figures}
 
 -- the longest text, in bytes, and the most circuits
 abbrev pub longestText : ℕ
@@ -22,7 +19,7 @@ longestText = 2048
 abbrev pub mostCircuits : ℕ
 mostCircuits = 16
 
--- the messages
+-- the messages for the text
 abbrev pub tooLong : List ℕ
 tooLong = ascii "sheet reads at most 2048 bytes\n"
 
@@ -32,80 +29,10 @@ usage = ascii "sheet reads one circuit a line: |R| |C| |X| and the entry counts 
 abbrev pub tooMany : List ℕ
 tooMany = ascii "sheet takes at most 16 circuits\n"
 
--- those for a line, and what stands before them for line n
-abbrev pub notSix : List ℕ
-notSix = ascii "six numbers are |R| |C| |X| and the entry counts of A, B, C\n"
-
-abbrev pub refusedText : Refusal → List ℕ
-refusedText r = ascii "refused " ++ (decimal (r .number) ++ (ascii " " ++ (decimal (r .position) ++ ascii "\n")))
-
-unfoldable pub wrongText : ℕ → List ℕ → List ℕ
-wrongText n message = ascii "line " ++ (decimal n ++ (ascii ": " ++ message))
-
--- a byte more in front of the first line
-abbrev pub onFirst : ℕ → List (List ℕ) → List (List ℕ)
-onFirst b [] = (b ∷ []) ∷ []
-onFirst b (line ∷ lines) = (b ∷ line) ∷ lines
-
--- the lines of a text, without the newlines (10) at their ends
-unfoldable pub linesOf : List ℕ → List (List ℕ)
-linesOf [] = []
-linesOf (b ∷ text) = pick (eqb b 10) ([] ∷ linesOf text) (onFirst b (linesOf text))
-
--- what a line holds: nothing, a circuit, or something that a message is due for
-pub data Line : Type 0 where
-  Blank : Line
-  Circuit : Given → Line
-  Wrong : List ℕ → Line
-
--- 4 for the sizes, then 5 for the counts
-unfoldable pub sheetRefusal : Given → Option Refusal
-sheetRefusal g =
-    first
-    (sizeRefusal (sizeTests (g .|R|) (g .|C|) (g .|X|) [])
-    ∷ listRefusal (map (λ n. leb n maxSize) (listed (g .entries)))
-    ∷ [])
-
-abbrev pub circuitLine : Given → Option Refusal → Line
-circuitLine g none = Circuit g
-circuitLine g (some r) = Wrong (refusedText r)
-
--- the circuit of six numbers
-abbrev pub givenBy : List ℕ → Given
-givenBy ns =
-    record {
-      |R| = getD ns 0 0;
-      |C| = getD ns 1 0;
-      |X| = getD ns 2 0;
-      entries = record { a = getD ns 3 0; b = getD ns 4 0; c = getD ns 5 0 };
-    }
-
--- a line by its numbers, where it has nothing but numbers
-abbrev pub lineBy : Option (List ℕ) → Line
-lineBy none = Wrong notSix
-lineBy (some ns) =
-    pick (eqb (length ns) 0) Blank (pick (eqb (length ns) 6) (circuitLine (givenBy ns) (sheetRefusal (givenBy ns))) (Wrong notSix))
-
-unfoldable pub lineOf : List ℕ → Line
-lineOf line = lineBy (numbersIn line)
-
--- the message for the first wrong line, if there is one; the first of the lines is line n of the text
-abbrev pub wrong : ℕ → List Line → Option (List ℕ)
-wrong n [] = none
-wrong n (Blank ∷ ls) = wrong (suc n) ls
-wrong n (Circuit g ∷ ls) = wrong (suc n) ls
-wrong n (Wrong message ∷ ls) = some (wrongText n message)
-
+-- the message for a wrong line, if there is one, and else the text
 abbrev pub unlessWrong : Option (List ℕ) → List ℕ → List ℕ
 unlessWrong none text = text
 unlessWrong (some message) text = message
-
--- the circuits of the lines, in order
-abbrev pub circuits : List Line → List Given
-circuits [] = []
-circuits (Blank ∷ ls) = circuits ls
-circuits (Circuit g ∷ ls) = g ∷ circuits ls
-circuits (Wrong message ∷ ls) = circuits ls
 
 -- a row: the figure's name, its number for each circuit, and the theorem, with tabs between
 unfoldable pub cellText : Figure → Given → List ℕ

@@ -1,10 +1,10 @@
 // The numbers of one circuit: all figures that fit a word of the machine.
-use crate::numbers::Request;
 use field::MODULE_PRIME;
 use protocol::Sizes;
 use protocol::Triple;
 use protocol::lengths::message_lengths;
 use protocol::six_sizes::largest;
+use sheet_lines::numbers::Request;
 ghost use mathlib.Core.Path.{_≡_};
 ghost use mathlib.Core.List.{map};
 ghost use Prim.Native.Nat.{_+_, _-_, _*_, _<_};
@@ -12,8 +12,9 @@ ghost use Rattle.domain.specs.BabyBear.{babyBear};
 ghost use Rattle.protocol.specs.Meanings.{sizes as sizesMeaning};
 ghost use Rattle.protocol.specs.Record.{sectionBytes};
 ghost use Rattle.protocol.specs.Refusals.{trailerBytes};
+ghost use Rattle.sheet_lines.specs.Meanings.{given};
 ghost use Rattle.figures.specs.Figures.{sizesFor, Figure, sizeFigures, lengthFigures, checkFigures};
-ghost use Rattle.figures.specs.Placed.{given, figureAt};
+ghost use Rattle.figures.specs.Placed.{figureAt};
 
 // The sums and the values have a word for each matrix.
 const MATRICES: usize = 3;

@@ -1,17 +1,15 @@
 // The planner's sheet: the figures of the circuits of a text, as a table.
-mod circuits;
 mod column;
-mod lines;
 mod messages;
-mod numbers;
+mod nth_line;
 mod table;
 
-use circuits::MOST_CIRCUITS;
-use circuits::collect;
-use circuits::first_wrong;
-use circuits::is_wrong;
 use messages::put_wrong;
-use numbers::Request;
+use sheet_lines::circuits::MOST_CIRCUITS;
+use sheet_lines::circuits::collect;
+use sheet_lines::circuits::first_wrong;
+use sheet_lines::circuits::is_wrong;
+use sheet_lines::numbers::Request;
 use table::put_table;
 use text::put_bytes;
 ghost use mathlib.Core.List.{List};
@@ -19,8 +17,9 @@ ghost use Prim.Native.Nat.{_≤_};
 ghost use lib.ListN.{length};
 ghost use Rattle.domain.specs.BabyBear.{babyBear};
 ghost use Rattle.text.specs.Written.{Written};
-ghost use Rattle.figures.specs.Figures.{Given};
-ghost use Rattle.figures.specs.Placed.{Kept, sheetRoom};
+ghost use Rattle.sheet_lines.specs.Lines.{Given};
+ghost use Rattle.sheet_lines.specs.Meanings.{Kept};
+ghost use Rattle.figures.specs.Placed.{sheetRoom};
 ghost use Rattle.figures.specs.Sheet.{tableText, sheetText};
 
 // The longest text that is read.

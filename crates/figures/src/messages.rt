@@ -1,5 +1,5 @@
 // The message for a wrong line.
-use crate::circuits::Found;
+use sheet_lines::circuits::Found;
 use text::put_byte;
 use text::put_bytes;
 use text::put_decimal;
@@ -8,8 +8,9 @@ ghost use Prim.Native.Nat.{_+_, _≤_};
 ghost use lib.ListN.{length};
 ghost use Rattle.text.specs.Decimal.{decimal};
 ghost use Rattle.text.specs.Written.{Written};
-ghost use Rattle.figures.specs.Placed.{foundLine, messageOf, Within, sheetRoom};
-ghost use Rattle.figures.specs.Sheet.{refusedText, wrongText};
+ghost use Rattle.sheet_lines.specs.Lines.{refusedText, wrongText};
+ghost use Rattle.sheet_lines.specs.Meanings.{foundLine, messageOf};
+ghost use Rattle.figures.specs.Placed.{Within, sheetRoom};
 
 // A number with what stands before it.
 fn put_labelled(label: &[u8], n: usize, out: &mut [u8], at: usize) -> usize

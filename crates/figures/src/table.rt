@@ -1,9 +1,9 @@
 // The table: a row for each figure, with its name, a number for each circuit, and the theorem behind it.
-use crate::circuits::MOST_CIRCUITS;
 use crate::column::NUMBERS;
 use crate::column::number;
-use crate::lines::put_line;
-use crate::numbers::Request;
+use crate::nth_line::put_line;
+use sheet_lines::circuits::MOST_CIRCUITS;
+use sheet_lines::numbers::Request;
 use text::put_byte;
 use text::put_decimal;
 ghost use mathlib.Core.List.{map};
@@ -13,8 +13,9 @@ ghost use Rattle.domain.specs.BabyBear.{babyBear};
 ghost use Rattle.text.specs.Ascii.{ascii};
 ghost use Rattle.text.specs.Decimal.{decimal};
 ghost use Rattle.text.specs.Written.{Written};
+ghost use Rattle.sheet_lines.specs.Meanings.{given};
 ghost use Rattle.figures.specs.Figures.{figures};
-ghost use Rattle.figures.specs.Placed.{given, figureAt, Within, cellRoom, rowRoom, sheetRoom};
+ghost use Rattle.figures.specs.Placed.{figureAt, Within, cellRoom, rowRoom, sheetRoom};
 ghost use Rattle.figures.specs.Sheet.{cellText, cellsText, rowText, rowsText};
 
 // p³ and p² for the module's prime, in decimal, a line each.

@@ -5,7 +5,7 @@ use Prim.Native.Nat.{ℕ, _-_, _*_}
 use Rattle.domain.specs.BabyBear.{babyBear}
 use Rattle.protocol.specs.Circuit.{Sizes, largest}
 use Rattle.protocol.specs.Three.{Three}
-use Rattle.figures.specs.Placed.{given}
+use Rattle.sheet_lines.specs.Meanings.{given}
 use borrow.Author.Needs.{needs}
 use Rattle.figures.proofs.column.check_numbers.Statement.{statement}
 use Rattle.figures.proofs.column.check_numbers.Tie as tie

@@ -4,8 +4,9 @@ use Prim.Native.Nat.{_+_, _-_}
 use native.Mathlib.Omega.{arith}
 use lib.ListN.{getD}
 use Rattle.domain.specs.BabyBear.{babyBear}
+use Rattle.sheet_lines.specs.Meanings.{given}
 use Rattle.figures.specs.Figures.{Figure, sizeFigures, lengthFigures, checkFigures}
-use Rattle.figures.specs.Placed.{given, figureAt}
+use Rattle.figures.specs.Placed.{figureAt}
 use Rattle.figures.proofs.TableLaws.{size-row, length-row, check-row, number-of}
 use borrow.Author.Needs.{needs}
 use Rattle.figures.proofs.column.number.Statement.{statement}

@@ -2,7 +2,7 @@
 use mathlib.Core.Path.{ap}
 use mathlib.Core.List.{[], _∷_}
 use Rattle.protocol.specs.Circuit.{Sizes, largest}
-use Rattle.figures.specs.Placed.{given}
+use Rattle.sheet_lines.specs.Meanings.{given}
 use borrow.Author.Needs.{needs}
 use Rattle.figures.proofs.column.size_numbers.Statement.{statement}
 use Rattle.figures.proofs.column.size_numbers.Tie as tie

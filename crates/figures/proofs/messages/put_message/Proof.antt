@@ -1,7 +1,7 @@
 -- `figures::messages::put_message` meets its contract. Assumes nothing.
 use mathlib.Core.Path.{sym, ap}
 use Rattle.text.proofs.WrittenLaws.{written-none, written-as}
-use Rattle.figures.specs.Placed.{foundLine, messageOf}
+use Rattle.sheet_lines.specs.Meanings.{foundLine, messageOf}
 use borrow.Author.Needs.{needs}
 use Rattle.figures.proofs.messages.put_message.Statement.{statement}
 use Rattle.figures.proofs.messages.put_message.Tie as tie

@@ -1,6 +1,6 @@
 -- `figures::messages::put_wrong` meets its contract. Assumes nothing.
 use Rattle.text.proofs.WrittenLaws.{written-then}
-use Rattle.figures.specs.Sheet.{wrongText}
+use Rattle.sheet_lines.specs.Lines.{wrongText}
 use borrow.Author.Needs.{needs}
 use Rattle.figures.proofs.messages.put_wrong.Statement.{statement}
 use Rattle.figures.proofs.messages.put_wrong.Tie as tie

@@ -6,7 +6,8 @@ use native.Mathlib.Omega.{arith}
 use lib.ListN.{take}
 use Rattle.domain.specs.BabyBear.{babyBear}
 use Rattle.text.proofs.WrittenLaws.{written-none}
-use Rattle.figures.specs.Placed.{given, figureAt, Within, cellRoom}
+use Rattle.sheet_lines.specs.Meanings.{given}
+use Rattle.figures.specs.Placed.{figureAt, Within, cellRoom}
 use Rattle.figures.specs.Sheet.{cellsText}
 use Rattle.figures.proofs.TableLaws.{within-room, within-length, cell-turn}
 use borrow.Author.Needs.{needs}

@@ -6,7 +6,8 @@ use lib.ListN.{length}
 use Rattle.domain.specs.BabyBear.{babyBear}
 use Rattle.text.specs.Decimal.{decimal}
 use Rattle.text.proofs.WrittenLaws.{written-as}
-use Rattle.figures.specs.Placed.{given, figureAt}
+use Rattle.sheet_lines.specs.Meanings.{given}
+use Rattle.figures.specs.Placed.{figureAt}
 use Rattle.figures.proofs.TableLaws.{within-room, few-digits, powers-lines, power-short, power-row}
 use borrow.Author.Needs.{needs}
 use Rattle.figures.proofs.table.put_number.Statement.{statement}

@@ -7,8 +7,9 @@ use lib.ListN.{take}
 use lib.Seq.{take-all}
 use Rattle.domain.specs.BabyBear.{babyBear}
 use Rattle.text.proofs.WrittenLaws.{written-none, written-as}
+use Rattle.sheet_lines.specs.Meanings.{given}
 use Rattle.figures.specs.Figures.{figures}
-use Rattle.figures.specs.Placed.{given, Within, rowRoom}
+use Rattle.figures.specs.Placed.{Within, rowRoom}
 use Rattle.figures.specs.Sheet.{rowsText}
 use Rattle.figures.proofs.TableLaws.{within-room, within-length, row-turn, length-figures}
 use borrow.Author.Needs.{needs}

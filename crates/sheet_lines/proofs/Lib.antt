@@ -1,0 +1,3 @@
+pub mod ScanLaws
+pub mod LineLaws
+pub mod CircuitLaws
