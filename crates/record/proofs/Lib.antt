@@ -1,9 +1,6 @@
-pub mod Scanned
 pub mod Allowed
 pub mod Bounds
 pub mod WordList
 pub mod Starts
 pub mod Rows
-pub mod Writing
-pub mod Lengths
 pub mod Places

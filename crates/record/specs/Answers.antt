@@ -1,12 +1,9 @@
--- What this crate's calls answer (document 01, "Proof record"): the reader's and the section finder's answers, and the refusal
--- and the lent bytes of a call by its outcome. Assumes nothing.
-use mathlib.Core.Path.{_≡_}
+-- What this crate's calls answer (document 01, "Proof record"): the reader's and the section finder's answers. Assumes nothing.
 use mathlib.Core.List.{List, []}
-use mathlib.Core.Option.{Option, none, some}
 use Prim.Native.Nat.{ℕ, _+_, _≤_}
 use lib.ListN.{take, drop}
 use Rattle.protocol.specs.Circuit.{Sizes}
-use Rattle.protocol.specs.Refusals.{Refusal, Outcome, Done, Refused}
+use Rattle.protocol.specs.Refusals.{Outcome, Done, Refused}
 use Rattle.protocol.specs.Record.{Contents}
 use Rattle.protocol.specs.Meanings.{sizes}
 use Rattle.record.specs.declared.reader.Reading.{Reading}
@@ -38,18 +35,3 @@ Within n (Refused r) = Unit {0}
 abbrev pub partAt : List ℕ → Outcome (ℕ × ℕ) → List ℕ
 partAt bytes (Done (start, len)) = take len (drop start bytes)
 partAt bytes (Refused r) = []
-
--- the refusal of a call
-abbrev pub refusalOf : {T : Type 0} → Outcome T → Option Refusal
-refusalOf (Done result) = none
-refusalOf (Refused r) = some r
-
--- what a lent slice holds after a call: the result, and where the call is refused what it held before
-abbrev pub lentAfter : {T : Type 0} → Outcome T → T → T
-lentAfter (Done result) before = result
-lentAfter (Refused r) before = before
-
--- a call's refusal, and a lent slice before and after it, are those of the outcome
-pub record LentAnswer {T : Type 0} (o : Outcome T) (refusal : Option Refusal) (before after : T) : Type 0 where
-  pub answer : refusal ≡ refusalOf o
-  pub lent : after ≡ lentAfter o before

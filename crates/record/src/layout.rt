@@ -14,6 +14,9 @@ pub const TRAILER_WORDS: usize = 18;
 
 pub const TRAILER_BYTES: usize = 72;
 
+// The row of the table of refusals for lists.
+pub const BAD_LIST: u32 = 5;
+
 // The sums and the values have a word for each matrix.
 const MATRICES: usize = 3;
 

@@ -4,7 +4,7 @@ ghost use lib.ListN.{length};
 ghost use Rattle.field.specs.Prime.{Prime};
 ghost use Rattle.protocol.specs.Calls.{placeCall, sectionCall};
 ghost use Rattle.record.specs.Answers.{placeMeaning, Within};
-use crate::judging::BAD_LIST;
+use crate::layout::BAD_LIST;
 use crate::layout::SECTIONS;
 use crate::layout::section_bounds;
 use crate::reader::layout_fault;

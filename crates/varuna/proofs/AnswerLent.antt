@@ -8,7 +8,7 @@ use Rattle.protocol.specs.declared.Fault.{Fault}
 use Rattle.protocol.specs.declared.Fault.the-variants as fault
 use Rattle.protocol.specs.Meanings.{faultRefusal}
 use Rattle.protocol.specs.Refusals.{Refusal, Outcome, Done, Refused}
-use Rattle.record.specs.Answers.{LentAnswer}
+use Rattle.record_writer.specs.Answers.{LentAnswer}
 use Rattle.varuna.specs.Answers.{filling, fills}
 
 pub lent-done : (o : Outcome (List ℕ)) {f : Fault} {before after : List ℕ} → fault.Fine ≡ f → LentAnswer o (faultRefusal f) before after

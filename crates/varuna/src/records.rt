@@ -6,7 +6,7 @@ ghost use Rattle.protocol.specs.Calls.{writeCall, sectionCall, placeCall};
 ghost use Rattle.protocol.specs.Meanings.{sizes as sizesMeaning};
 ghost use Rattle.protocol.specs.Record.{readRecord};
 ghost use Rattle.record.specs.Answers.{readingMeaning, sizesFound, placeMeaning};
-ghost use Rattle.record.specs.Layout.{eachSection};
+ghost use Rattle.record_writer.specs.Sections.{eachSection};
 ghost use Rattle.varuna.specs.Answers.{filledMeaning, filling, fills};
 use crate::answers::Filled;
 use field::MODULE_PRIME;
@@ -37,7 +37,7 @@ pub fn write_record(
         (now (h1 .entry)) (now (o .entry)) (now (ga .entry)) (now (gb .entry)) (now (gc .entry)) (now (h2 .entry)))
         (length (now (out .entry)))) (now (out .entry)) ⌝ }
 {
-    let fault = record::write(
+    let fault = record_writer::write(
         MODULE_PRIME,
         sizes,
         w,

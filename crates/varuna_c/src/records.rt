@@ -5,7 +5,7 @@ ghost use Rattle.domain.specs.BabyBear.{babyBear};
 ghost use Rattle.protocol.specs.Record.{readRecord};
 ghost use Rattle.protocol.specs.Calls.{writeCall, placeCall};
 ghost use Rattle.record.specs.Answers.{sizesFound};
-ghost use Rattle.record.specs.Layout.{eachSection};
+ghost use Rattle.record_writer.specs.Sections.{eachSection};
 ghost use Rattle.c_numbers.specs.Answers.{told, answered, sizesListed};
 ghost use Rattle.c_numbers.specs.Inputs.{sizesIn};
 use c_numbers::answers::give_filled;

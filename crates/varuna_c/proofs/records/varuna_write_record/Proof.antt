@@ -7,7 +7,7 @@ use Rattle.domain.specs.BabyBear.{babyBear}
 use Rattle.protocol.specs.Circuit.{Sizes}
 use Rattle.protocol.specs.Refusals.{Outcome}
 use Rattle.protocol.specs.Calls.{writeCall}
-use Rattle.record.specs.Layout.{eachSection}
+use Rattle.record_writer.specs.Sections.{eachSection}
 use Rattle.varuna.specs.Answers.{fills}
 use Rattle.c_numbers.specs.Inputs.{sizesIn}
 use Rattle.c_numbers.proofs.AnswerLaws.{filled-told}

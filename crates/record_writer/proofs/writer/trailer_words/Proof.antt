@@ -1,9 +1,9 @@
--- `record::writer::trailer_words` meets its contract. Assumes nothing.
+-- `record_writer::writer::trailer_words` meets its contract. Assumes nothing.
 use borrow.Author.Needs.{needs}
 use Rattle.protocol.specs.Record.{sectionLengths, startsFrom, sectionBytes, trailer}
 use Rattle.record.specs.Layout.{bounds}
-use Rattle.record.proofs.writer.trailer_words.Statement.{statement}
-use Rattle.record.proofs.writer.trailer_words.Tie as tie
+use Rattle.record_writer.proofs.writer.trailer_words.Statement.{statement}
+use Rattle.record_writer.proofs.writer.trailer_words.Tie as tie
 
 section-bounds-requires : tie.Need-section-bounds-requires
 section-bounds-requires c κs = search needs

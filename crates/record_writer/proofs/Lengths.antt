@@ -22,11 +22,12 @@ use Rattle.protocol.specs.Record.{sectionLengths, sectionBytes, writeRecord}
 use Rattle.protocol.specs.Calls.{writeCall}
 use Rattle.protocol.proofs.RefusalLaws.{first-none, refuse-none}
 use Rattle.protocol.proofs.Rows.{length-pairs, first-before-last, refuse-append}
-use Rattle.record.specs.Answers.{LentAnswer}
-use Rattle.record.specs.Layout.{Allowed, byteCount, joined, bounds, lengthRefusals, shapeRefusal}
+use Rattle.record.specs.Layout.{Allowed, byteCount, bounds}
 use Rattle.record.proofs.Allowed.{lengths-bound, byteCount-bound}
 use Rattle.record.proofs.Bounds.{bound-at}
 use Rattle.record.proofs.Starts.{eleven, last-bound}
+use Rattle.record_writer.specs.Answers.{LentAnswer}
+use Rattle.record_writer.specs.Sections.{joined, lengthRefusals, shapeRefusal}
 
 pub length-due : (s : Sizes) {due : List ℕ} → due ≡ sectionLengths s → length due ≡ 11
 length-due s e = ap length e ∙ eleven s

@@ -1,13 +1,13 @@
--- `record::writer::put_six` meets its contract. Assumes nothing.
+-- `record_writer::writer::put_six` meets its contract. Assumes nothing.
 use mathlib.Core.List.{_++_}
 use mathlib.Core.Path.{ap, _∙_}
 use native.Mathlib.Omega.{arith}
 use lib.ListN.{take}
 use borrow.Author.Needs.{needs}
 use Rattle.protocol.specs.Record.{bytesOf}
-use Rattle.record.proofs.Writing.{six-joined}
-use Rattle.record.proofs.writer.put_six.Statement.{statement}
-use Rattle.record.proofs.writer.put_six.Tie as tie
+use Rattle.record_writer.proofs.Writing.{six-joined}
+use Rattle.record_writer.proofs.writer.put_six.Statement.{statement}
+use Rattle.record_writer.proofs.writer.put_six.Tie as tie
 
 put-words-requires : tie.Need-put-words-requires
 put-words-requires c κs = search needs

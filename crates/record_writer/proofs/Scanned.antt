@@ -9,7 +9,7 @@ use lib.Dec.{ltb}
 use lib.ListN.{length, length-append}
 use Rattle.protocol.specs.Refusals.{Refusal, first}
 use Rattle.protocol.proofs.Rows.{refuse-map-append}
-use Rattle.record.specs.Layout.{refuseWords}
+use Rattle.record_writer.specs.Sections.{refuseWords}
 
 pub record Scanned (p : ℕ) (before : List ℕ) (found : Option Refusal) (count : ℕ) : Type 0 where
   pub all : count ≡ length before

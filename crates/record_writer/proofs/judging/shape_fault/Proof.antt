@@ -1,4 +1,4 @@
--- `record::judging::shape_fault` meets its contract: the sizes, then the lengths. Assumes nothing.
+-- `record_writer::judging::shape_fault` meets its contract: the sizes, then the lengths. Assumes nothing.
 use mathlib.Core.Path.{_≡_, sym, _∙_}
 use mathlib.Core.Bool.{true}
 use mathlib.Core.List.{List, [], _∷_}
@@ -9,9 +9,9 @@ use Rattle.protocol.specs.Meanings.{sizes, isFine}
 use Rattle.protocol.specs.Refusals.{Refusal, sixSizeTests, sizeRefusal}
 use Rattle.protocol.proofs.EarlyReturns.{stops, goes-on, fine-none, last-answer}
 use Rattle.protocol.proofs.RefusalLaws.{refuse-none}
-use Rattle.record.specs.Layout.{lengthRefusals, shapeRefusal}
-use Rattle.record.proofs.judging.shape_fault.Statement.{statement}
-use Rattle.record.proofs.judging.shape_fault.Tie as tie
+use Rattle.record_writer.specs.Sections.{lengthRefusals, shapeRefusal}
+use Rattle.record_writer.proofs.judging.shape_fault.Statement.{statement}
+use Rattle.record_writer.proofs.judging.shape_fault.Tie as tie
 
 -- the row after the sizes
 abbrev rest : tie.Start → List (Option Refusal)

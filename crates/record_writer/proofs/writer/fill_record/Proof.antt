@@ -1,4 +1,4 @@
--- `record::writer::fill_record` meets its contract. Assumes nothing.
+-- `record_writer::writer::fill_record` meets its contract. Assumes nothing.
 use mathlib.Core.List.{_++_}
 use mathlib.Core.Path.{_≡_, ap, _∙_}
 use Prim.Native.Nat.{_≤_}
@@ -7,11 +7,11 @@ use lib.ListN.{length}
 use borrow.Author.Needs.{needs}
 use Rattle.protocol.specs.Meanings.{sizes}
 use Rattle.protocol.specs.Record.{bytesOf, writeRecord}
-use Rattle.record.proofs.Writing.{record-filled}
+use Rattle.record_writer.proofs.Writing.{record-filled}
 use Rattle.record.proofs.Starts.{eighteen}
-use Rattle.record.specs.Layout.{joined, eachSection}
-use Rattle.record.proofs.writer.fill_record.Statement.{statement}
-use Rattle.record.proofs.writer.fill_record.Tie as tie
+use Rattle.record_writer.specs.Sections.{joined, eachSection}
+use Rattle.record_writer.proofs.writer.fill_record.Statement.{statement}
+use Rattle.record_writer.proofs.writer.fill_record.Tie as tie
 
 trailer-words-requires : tie.Need-trailer-words-requires
 trailer-words-requires c κs = search needs

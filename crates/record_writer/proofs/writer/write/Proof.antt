@@ -1,4 +1,4 @@
--- `record::writer::write` meets its contract: sizes and lengths, then the words, then the record. Assumes nothing.
+-- `record_writer::writer::write` meets its contract: sizes and lengths, then the words, then the record. Assumes nothing.
 use mathlib.Core.Path.{_≡_, refl, sym, _∙_}
 use mathlib.Core.Bool.{true}
 use mathlib.Core.List.{List, [], _∷_, map}
@@ -14,10 +14,10 @@ use Rattle.protocol.specs.Meanings.{sizes, isFine}
 use Rattle.protocol.specs.Refusals.{Refusal, wordRefusal}
 use Rattle.protocol.proofs.EarlyReturns.{stops, goes-on, fine-none, last-answer}
 use Rattle.protocol.proofs.Rows.{word-row}
-use Rattle.record.specs.Layout.{joined, eachSection, shapeRefusal}
-use Rattle.record.proofs.Lengths.{Shaped, shaped, few-bytes, room-given, write-refused, write-done}
-use Rattle.record.proofs.writer.write.Statement.{statement}
-use Rattle.record.proofs.writer.write.Tie as tie
+use Rattle.record_writer.specs.Sections.{joined, eachSection, shapeRefusal}
+use Rattle.record_writer.proofs.Lengths.{Shaped, shaped, few-bytes, room-given, write-refused, write-done}
+use Rattle.record_writer.proofs.writer.write.Statement.{statement}
+use Rattle.record_writer.proofs.writer.write.Tie as tie
 
 -- the start, and the sizes, the sections and the lent bytes of the call
 abbrev start : tie.After-shape-fault → tie.Start

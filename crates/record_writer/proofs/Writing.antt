@@ -8,7 +8,7 @@ use lib.ListN.{length, take, getD, set, length-set}
 use lib.Seq.{take-suc, take-suc-set, take-all}
 use Rattle.protocol.specs.Record.{wordBytes, bytesOf}
 use Rattle.protocol.proofs.Words.{bytesOf-append}
-use Rattle.record.specs.Layout.{joined, eachSection}
+use Rattle.record_writer.specs.Sections.{joined, eachSection}
 
 -- a byte stored after the bytes so far
 byte-stored : (l done : List ℕ) (n b : ℕ) → n < length l → take n l ≡ done → take (suc n) (set l n b) ≡ done ++ (b ∷ [])

@@ -1,4 +1,4 @@
--- `record::judging::lengths_fault` meets its contract: every length passed so far is the one given. Assumes nothing.
+-- `record_writer::judging::lengths_fault` meets its contract: every length passed so far is the one given. Assumes nothing.
 use mathlib.Core.Path.{_≡_, sym, ap, _∙_}
 use mathlib.Core.Bool.{Bool, false}
 use mathlib.Core.List.{List, [], _∷_}
@@ -12,10 +12,10 @@ use borrow.Author.Tests.{eq-eqb, ne-eqb}
 use Rattle.protocol.specs.Meanings.{sizes}
 use Rattle.protocol.specs.Refusals.{Refusal, first, refuse, pairs, trailerBytes}
 use Rattle.protocol.proofs.Rows.{Passed, passed-none, passed-turn, passed-stop, passed-end, length-pairs, pairs-at, first-stop, first-pass}
-use Rattle.record.proofs.Lengths.{total-bound, length-due, length-rows}
-use Rattle.record.specs.Layout.{lengthRefusals}
-use Rattle.record.proofs.judging.lengths_fault.Statement.{statement}
-use Rattle.record.proofs.judging.lengths_fault.Tie as tie
+use Rattle.record_writer.proofs.Lengths.{total-bound, length-due, length-rows}
+use Rattle.record_writer.specs.Sections.{lengthRefusals}
+use Rattle.record_writer.proofs.judging.lengths_fault.Statement.{statement}
+use Rattle.record_writer.proofs.judging.lengths_fault.Tie as tie
 
 abbrev Inv-loop : tie.InvT-loop
 Inv-loop found lent due bounds k₀ k = (k ≤ 11) × Passed 5 0 (pairs eqb found due) k

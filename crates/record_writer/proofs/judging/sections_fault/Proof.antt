@@ -1,12 +1,12 @@
--- `record::judging::sections_fault` meets its contract: the words so far are looked through. Assumes nothing.
+-- `record_writer::judging::sections_fault` meets its contract: the words so far are looked through. Assumes nothing.
 use mathlib.Core.Path.{ap, _∙_}
 use native.Mathlib.Omega.{arith}
 use borrow.Author.Needs.{needs}
-use Rattle.record.proofs.Writing.{eleven-joined}
-use Rattle.record.proofs.Scanned.{scanned-none, scanned-more}
-use Rattle.record.specs.Layout.{refuseWords}
-use Rattle.record.proofs.judging.sections_fault.Statement.{statement}
-use Rattle.record.proofs.judging.sections_fault.Tie as tie
+use Rattle.record_writer.proofs.Writing.{eleven-joined}
+use Rattle.record_writer.proofs.Scanned.{scanned-none, scanned-more}
+use Rattle.record_writer.specs.Sections.{refuseWords}
+use Rattle.record_writer.proofs.judging.sections_fault.Statement.{statement}
+use Rattle.record_writer.proofs.judging.sections_fault.Tie as tie
 
 scan-words-requires : tie.Need-scan-words-requires
 scan-words-requires c κs = search needs

@@ -1,11 +1,11 @@
--- `record::writer::put_word` meets its contract. Assumes nothing.
+-- `record_writer::writer::put_word` meets its contract. Assumes nothing.
 use native.Mathlib.Omega.{arith}
 use lib.ListN.{length-set}
 use borrow.Author.Needs.{needs}
 use Rattle.protocol.specs.Record.{wordBytes}
-use Rattle.record.proofs.Writing.{word-stored}
-use Rattle.record.proofs.writer.put_word.Statement.{statement}
-use Rattle.record.proofs.writer.put_word.Tie as tie
+use Rattle.record_writer.proofs.Writing.{word-stored}
+use Rattle.record_writer.proofs.writer.put_word.Statement.{statement}
+use Rattle.record_writer.proofs.writer.put_word.Tie as tie
 
 cast-out : tie.Need-cast-out
 cast-out c = search needs

@@ -5,21 +5,21 @@ ghost use Prim.Native.Nat.{_+_, _<_, _^_};
 ghost use lib.ListN.{length};
 ghost use Rattle.protocol.specs.Refusals.{first};
 ghost use Rattle.protocol.specs.Meanings.{faultRefusal, sizes as sizesMeaning};
-ghost use Rattle.record.specs.Layout.{Allowed, byteCount, joined, eachSection, refuseWords, lengthRefusals, shapeRefusal};
-use crate::layout::SECTIONS;
-use crate::layout::TRAILER_BYTES;
-use crate::layout::section_bounds;
-use crate::layout::section_lengths;
+ghost use Rattle.record.specs.Layout.{Allowed, byteCount};
+ghost use Rattle.record_writer.specs.Sections.{eachSection, joined, lengthRefusals, shapeRefusal, refuseWords};
 use protocol::Fault;
 use protocol::Sizes;
 use protocol::is_fine;
 use protocol::scans::judge_words;
 use protocol::six_sizes::judge_sizes;
+use record::layout::BAD_LIST;
+use record::layout::SECTIONS;
+use record::layout::TRAILER_BYTES;
+use record::layout::section_bounds;
+use record::layout::section_lengths;
 
-// The rows of the table of refusals for sizes and for lists.
+// The row of the table of refusals for sizes.
 const BAD_SIZE: u32 = 4;
-
-pub const BAD_LIST: u32 = 5;
 
 // The lengths of the sections and of the lent bytes against those that the sizes give.
 fn lengths_fault(s: Sizes, found: &[usize], lent: usize) -> Fault

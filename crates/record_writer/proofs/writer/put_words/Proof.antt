@@ -1,4 +1,4 @@
--- `record::writer::put_words` meets its contract: the bytes so far are those of the words so far. Assumes nothing.
+-- `record_writer::writer::put_words` meets its contract: the bytes so far are those of the words so far. Assumes nothing.
 use mathlib.Core.List.{append-nil, _++_}
 use mathlib.Core.Path.{_≡_, refl, sym, ap, _∙_}
 use Prim.Native.Nat.{_+_, _*_, _-_, _<_, _≤_}
@@ -7,9 +7,9 @@ use lib.Seq.{take-all}
 use lib.ListN.{length, take}
 use borrow.Author.Needs.{needs}
 use Rattle.protocol.specs.Record.{bytesOf}
-use Rattle.record.proofs.Writing.{word-added}
-use Rattle.record.proofs.writer.put_words.Statement.{statement}
-use Rattle.record.proofs.writer.put_words.Tie as tie
+use Rattle.record_writer.proofs.Writing.{word-added}
+use Rattle.record_writer.proofs.writer.put_words.Statement.{statement}
+use Rattle.record_writer.proofs.writer.put_words.Tie as tie
 
 abbrev Inv-loop : tie.InvT-loop
 Inv-loop out₀ at ws next₀ i₀ out next i =

@@ -1,4 +1,4 @@
--- `record::judging::scan_words` meets its contract. Assumes nothing.
+-- `record_writer::judging::scan_words` meets its contract. Assumes nothing.
 use mathlib.Core.Path.{refl, sym, _∙_}
 use mathlib.Core.List.{List, [], _∷_}
 use mathlib.Core.Option.{Option}
@@ -6,9 +6,9 @@ use borrow.Author.Needs.{needs}
 use borrow.Author.Tests.{not-true, not-false}
 use Rattle.protocol.specs.Refusals.{Refusal}
 use Rattle.protocol.proofs.EarlyReturns.{stops, goes-on, last-answer}
-use Rattle.record.specs.Layout.{refuseWords}
-use Rattle.record.proofs.judging.scan_words.Statement.{statement}
-use Rattle.record.proofs.judging.scan_words.Tie as tie
+use Rattle.record_writer.specs.Sections.{refuseWords}
+use Rattle.record_writer.proofs.judging.scan_words.Statement.{statement}
+use Rattle.record_writer.proofs.judging.scan_words.Tie as tie
 
 -- the row of these words
 abbrev here : tie.Start → List (Option Refusal)

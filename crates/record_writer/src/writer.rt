@@ -8,17 +8,18 @@ ghost use Rattle.protocol.specs.Refusals.{trailerBytes};
 ghost use Rattle.protocol.specs.Record.{wordBytes, bytesOf, trailer, writeRecord};
 ghost use Rattle.protocol.specs.Calls.{writeCall};
 ghost use Rattle.protocol.specs.Meanings.{faultRefusal, sizes as sizesMeaning};
-ghost use Rattle.record.specs.Answers.{LentAnswer};
-ghost use Rattle.record.specs.Layout.{Allowed, byteCount, joined, eachSection};
+ghost use Rattle.record.specs.Layout.{Allowed, byteCount};
+ghost use Rattle.record_writer.specs.Answers.{LentAnswer};
+ghost use Rattle.record_writer.specs.Sections.{eachSection, joined};
 use crate::judging::sections_fault;
 use crate::judging::shape_fault;
-use crate::layout::SECTIONS;
-use crate::layout::TRAILER_WORDS;
-use crate::layout::WORD_BYTES;
-use crate::layout::section_bounds;
 use protocol::Fault;
 use protocol::Sizes;
 use protocol::is_fine;
+use record::layout::SECTIONS;
+use record::layout::TRAILER_WORDS;
+use record::layout::WORD_BYTES;
+use record::layout::section_bounds;
 
 // The four bytes of a word.
 fn put_word(out: &mut [u8], at: usize, word: u32)
