@@ -1,8 +1,16 @@
 -- `protocol::six_sizes::judge_sizes` meets its contract. Assumes nothing.
 use borrow.Author.Needs.{needs}
-use Rattle.protocol.specs.Refusals.{sizeTests, sixSizeTests}
+use mathlib.Core.Path.{_≡_, ap, _∙_}
+use mathlib.Core.Bool.{Bool}
+use mathlib.Core.List.{List, [], _∷_}
+use Rattle.protocol.specs.Refusals.{refuse, sizeTests, sixSizeTests}
 use Rattle.protocol.proofs.six_sizes.judge_sizes.Statement.{statement}
 use Rattle.protocol.proofs.six_sizes.judge_sizes.Tie as tie
+
+-- six tests that are equal one by one
+same-tests : {r c x k l m r′ c′ x′ k′ l′ m′ : Bool} → r ≡ r′ → c ≡ c′ → x ≡ x′ → k ≡ k′ → l ≡ l′ → m ≡ m′
+    → _≡_ {A = List Bool} (r ∷ c ∷ x ∷ k ∷ l ∷ m ∷ []) (r′ ∷ c′ ∷ x′ ∷ k′ ∷ l′ ∷ m′ ∷ [])
+same-tests r c x k l m = cc
 
 is-size-requires : tie.Need-is-size-requires
 is-size-requires c κs = search needs
@@ -30,7 +38,14 @@ first-failed-requires c κs = search needs
 
 returns : tie.Need-returns
 unfolding sizeTests sixSizeTests
-returns c = cc
+returns c =
+    let last = c .before .before in
+    let a = last .before .before .before .before .before .before .before .args in
+    c .first-failed .ensures
+    ∙ ap (refuse (a .number) (a .position))
+    (same-tests (last .before .before .before .before .before .is-size .ensures) (last .before .before .before .before .is-size2 .ensures)
+    (last .before .before .before .is-public-size .ensures) (last .before .before .is-size3 .ensures) (last .before .is-size4 .ensures)
+    (last .is-size5 .ensures))
 
 pub judge-sizes-spec : {M : Type 1} → statement M
 judge-sizes-spec =
