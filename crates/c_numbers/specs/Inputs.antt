@@ -3,7 +3,7 @@
 use mathlib.Core.List.{List, [], _∷_}
 use Prim.Native.Nat.{ℕ, _+_}
 use lib.ListN.{getD}
-use Rattle.protocol.specs.declared.Opened.{Opened}
+use Rattle.shared.specs.declared.Opened.{Opened}
 use Rattle.protocol.specs.Circuit.{Sizes}
 use Rattle.protocol.specs.Index.{Index}
 use Rattle.protocol.specs.Checks.{Openings}

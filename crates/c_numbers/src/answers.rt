@@ -1,6 +1,6 @@
 // The answers of the public calls, handed over in numbers.
 ghost use mathlib.Core.Path.{_≡_};
-ghost use Rattle.protocol.specs.Meanings.{verdictMeaning};
+ghost use Rattle.shared.specs.Meanings.{verdictMeaning};
 ghost use Rattle.record.specs.Answers.{readingMeaning, placeMeaning};
 ghost use Rattle.varuna.specs.Answers.{wordMeaning, threeMeaning, filledMeaning, openingsMeaning};
 ghost use Rattle.verifier.specs.Session.{steppedMeaning, finishedMeaning};

@@ -1,6 +1,6 @@
 // The arrays that an exported function is given, as the values that the public calls take.
 ghost use mathlib.Core.Path.{_≡_};
-ghost use Rattle.protocol.specs.Meanings.{three, sizes as sizesMeaning};
+ghost use Rattle.shared.specs.Meanings.{three, sizes as sizesMeaning};
 ghost use Rattle.verifier.specs.Session.{threeAt};
 ghost use Rattle.c_numbers.specs.Inputs.{sizesIn, messagesIn, indexesIn};
 use varuna::answers::Opened;

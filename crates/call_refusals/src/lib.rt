@@ -7,14 +7,14 @@ ghost use lib.ListN.{length};
 ghost use Rattle.field.specs.Prime.{Prime};
 ghost use Rattle.domain.specs.Qualifies.{Qualifies};
 ghost use Rattle.protocol.specs.Circuit.{Circuit};
-ghost use Rattle.protocol.specs.Meanings.{faultRefusal};
+ghost use Rattle.shared.specs.Meanings.{faultRefusal};
 ghost use Rattle.protocol.specs.Calls.{roundRefusal};
 ghost use Rattle.circuit.specs.Given.{given, proverInput, entryLists, ThreeLists, Shaped};
 ghost use Rattle.circuit.specs.Judgement.{indexShapeRefusal, shapeRefusal, indexDue, indexRefusal, indexContentsRefusal, contentsRefusal};
 use circuit::checks;
 use circuit::matrices;
-use protocol::Fault;
-use protocol::is_fine;
+use shared::Fault;
+use shared::is_fine;
 
 // 4 and 5 of a circuit: its sizes and its entry lists.
 fn judge_index_shape(r: u32, c: u32, x: u32, ea: &[u32], eb: &[u32], ec: &[u32]) -> Fault

@@ -11,7 +11,7 @@ ghost use Rattle.field.specs.Element.{Elem, of, words, equal, _⊗_};
 ghost use Rattle.domain.specs.Size.{isSize, maxSize};
 ghost use Rattle.domain.specs.Qualifies.{Qualifies};
 ghost use Rattle.protocol.specs.Circuit.{Entry, Circuit};
-ghost use Rattle.protocol.specs.Meanings.{faultRefusal};
+ghost use Rattle.shared.specs.Meanings.{faultRefusal};
 ghost use Rattle.protocol.specs.Refusals.{refuse, pairs, sizeTests, rises, entryTests};
 ghost use Rattle.protocol.specs.Refusals.{sizeRefusal, listRefusal, wordRefusal, entryRefusal, maskRefusal, assignmentRefusal, challengeRefusal};
 ghost use Rattle.protocol.specs.Calls.{entriesOf};
@@ -19,11 +19,11 @@ ghost use Rattle.protocol.specs.Admission.{entryValues};
 ghost use Rattle.circuit.specs.Given.{entryLists, EachWithin, ThreeLists};
 ghost use Rattle.circuit.specs.Judgement.{wholeAndFew};
 use crate::matrices;
-use protocol::Fault;
-use protocol::is_fine;
-use protocol::scans::first_failed;
-use protocol::scans::judge_words;
-use protocol::six_sizes::is_public_size;
+use shared::Fault;
+use shared::is_fine;
+use shared::scans::first_failed;
+use shared::scans::judge_words;
+use shared::six_sizes::is_public_size;
 
 // The most words of an entry list: three for each of 1,024 entries.
 const MAX_ENTRY_WORDS: usize = 3072;

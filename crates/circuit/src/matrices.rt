@@ -12,13 +12,13 @@ ghost use Rattle.protocol.specs.Three.{MatrixName, at};
 ghost use Rattle.protocol.specs.Circuit.{Circuit, sizesOf, largest, rowSum};
 ghost use Rattle.protocol.specs.Calls.{entriesOf, circuitOf};
 ghost use Rattle.protocol.specs.Messages.{lengths};
-ghost use Rattle.protocol.specs.Meanings.{sizes as sizesMeaning, messageLengths};
+ghost use Rattle.shared.specs.Meanings.{sizes as sizesMeaning, messageLengths};
 ghost use Rattle.circuit.specs.Given.{given, entryLists, Within};
-use protocol::Sizes;
-use protocol::Triple;
-use protocol::lengths::Lengths;
-use protocol::lengths::message_lengths;
-use protocol::six_sizes::largest;
+use shared::Sizes;
+use shared::Triple;
+use shared::lengths::Lengths;
+use shared::lengths::message_lengths;
+use shared::six_sizes::largest;
 
 // |K_M|: the smallest size not below the entry count, and the largest size where no size is.
 pub fn size_of(entries: &[u32]) -> u32

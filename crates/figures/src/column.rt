@@ -1,15 +1,15 @@
 // The numbers of one circuit: all figures that fit a word of the machine.
 use field::MODULE_PRIME;
-use protocol::Sizes;
-use protocol::Triple;
-use protocol::lengths::message_lengths;
-use protocol::six_sizes::largest;
+use shared::Sizes;
+use shared::Triple;
+use shared::lengths::message_lengths;
+use shared::six_sizes::largest;
 use sheet_lines::numbers::Request;
 ghost use mathlib.Core.Path.{_≡_};
 ghost use mathlib.Core.List.{map};
 ghost use Prim.Native.Nat.{_+_, _-_, _*_, _<_};
 ghost use Rattle.domain.specs.BabyBear.{babyBear};
-ghost use Rattle.protocol.specs.Meanings.{sizes as sizesMeaning};
+ghost use Rattle.shared.specs.Meanings.{sizes as sizesMeaning};
 ghost use Rattle.protocol.specs.Record.{sectionBytes};
 ghost use Rattle.protocol.specs.Refusals.{trailerBytes};
 ghost use Rattle.sheet_lines.specs.Meanings.{given};

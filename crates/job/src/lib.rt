@@ -3,7 +3,7 @@ ghost use mathlib.Core.Path.{_≡_};
 ghost use Prim.Native.Nat.{_/_, _≤_};
 ghost use lib.ListN.{length};
 ghost use Rattle.domain.specs.BabyBear.{babyBear};
-ghost use Rattle.protocol.specs.Meanings.{faultRefusal};
+ghost use Rattle.shared.specs.Meanings.{faultRefusal};
 ghost use Rattle.protocol.specs.Record.{wordsIn};
 ghost use Rattle.text.specs.Buffer.{put};
 ghost use Rattle.text.specs.Written.{Written};
@@ -15,10 +15,10 @@ mod parts;
 
 use circuit::checks::check_counts;
 use circuit::checks::check_sizes;
-use protocol::Fault;
-use protocol::is_fine;
 use record::word_at;
 use report::lines::put_refused;
+use shared::Fault;
+use shared::is_fine;
 use text::put_bytes;
 
 // The most bytes of a job, and of its sizes and counts.

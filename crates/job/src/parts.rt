@@ -12,9 +12,9 @@ ghost use Rattle.report.specs.Stages.{jobDrawn, mostProof};
 ghost use Rattle.job.specs.JobText.{headRefusal, jobLength, jobOf};
 ghost use Rattle.job.specs.Parts.{Placed, challengesOf, inputAt};
 use outcome_text::whole::put_job;
-use protocol::Triple;
 use report::Challenges;
 use report::lines::wide;
+use shared::Triple;
 
 // The words before the entries: three sizes and three counts.
 const HEAD_WORDS: usize = 6;

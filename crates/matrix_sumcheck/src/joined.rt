@@ -13,11 +13,11 @@ ghost use Rattle.domain.specs.Polynomial.{_⊞_, _·_};
 ghost use Rattle.protocol.specs.Three.{MatrixName, mapThree, at};
 ghost use Rattle.protocol.specs.Circuit.{Circuit, largest};
 ghost use Rattle.protocol.specs.Messages.{matrixQuotient, joinedQuotient};
-ghost use Rattle.protocol.specs.Meanings.{three};
+ghost use Rattle.shared.specs.Meanings.{three};
 ghost use Rattle.protocol.specs.Calls.{entriesOf};
 ghost use Rattle.circuit.specs.Given.{EntryWords, CircuitShaped};
 ghost use Rattle.matrix_sumcheck.specs.MatrixGiven.{Given, Challenged, lists};
-use protocol::Triple;
+use shared::Triple;
 
 // δ_M (|K_M|/|K|) h_M added to the slice, whose length is |K| - 1.
 fn add_matrix(

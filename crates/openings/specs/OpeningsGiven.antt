@@ -3,12 +3,12 @@ use mathlib.Core.List.{List, [], _∷_, map}
 use Prim.Native.Nat.{ℕ}
 use Rattle.field.specs.Prime.{Prime}
 use Rattle.field.specs.Element.{Elem, of}
-use Rattle.protocol.specs.declared.Opened.{Opened}
+use Rattle.shared.specs.declared.Opened.{Opened}
 use Rattle.protocol.specs.Three.{Three, each, listed, mapThree}
 use Rattle.protocol.specs.Checks.{Openings}
 use Rattle.protocol.specs.Messages.{messages, openings}
 use Rattle.protocol.specs.Index.{index}
-use Rattle.protocol.specs.Meanings.{three}
+use Rattle.shared.specs.Meanings.{three}
 use Rattle.protocol.specs.Calls.{ProverInput}
 use Rattle.prover.specs.CallGiven.{circuitIn, zIn}
 use Rattle.openings.specs.declared.IndexOpened.{IndexOpened}

@@ -15,7 +15,7 @@ ghost use Rattle.protocol.specs.Three.{MatrixName, at, mapThree};
 ghost use Rattle.protocol.specs.Circuit.{Circuit};
 ghost use Rattle.protocol.specs.Index.{index as indexOf, indexAt, listIndex};
 ghost use Rattle.protocol.specs.Messages.{witness as witnessPoly, matrixRemainder, joinedQuotient};
-ghost use Rattle.protocol.specs.Meanings.{three};
+ghost use Rattle.shared.specs.Meanings.{three};
 ghost use Rattle.protocol.specs.Calls.{entriesOf, circuitOf};
 ghost use Rattle.circuit.specs.Given.{given, proverInput, Fits, EntryWords, CircuitShaped};
 ghost use Rattle.matrix_sumcheck.specs.MatrixGiven.{Given, Challenged, lists};
@@ -25,11 +25,11 @@ ghost use Rattle.openings.specs.OpeningsGiven.{messagesOpened, messageLi
 use circuit::matrices;
 use matrix_sumcheck::joined;
 use matrix_sumcheck::matrix;
-use protocol::Opened;
-use protocol::Triple;
 use prover::line;
 use prover::rows;
 use prover::witness;
+use shared::Opened;
+use shared::Triple;
 
 // g1 and h1 at one point.
 struct LineOpened {

@@ -26,7 +26,7 @@ use Rattle.protocol.specs.Record.{sections}
 use Rattle.protocol.specs.Session.{Answer, Taken}
 use Rattle.protocol.specs.Job.{Job, challengeWords, challengePoints, jobRefusal, proof, trueOpenings, publicWords, conversation, conversationOn, honestConversation}
 use Rattle.protocol.specs.Demand2.{KeepsRules}
-use Rattle.protocol.specs.declared.Opened.{Opened}
+use Rattle.shared.specs.declared.Opened.{Opened}
 use Rattle.protocol.proofs.AdmissionLaws.{job-fits}
 use Rattle.protocol.proofs.CallsProve.{openings-listed}
 use Rattle.protocol.proofs.Honest.{rules-kept}

@@ -1,7 +1,6 @@
 pub mod RefusalLaws
 pub mod AllowedSizes
 pub mod Rows
-pub mod EarlyReturns
 pub mod VerdictLaws
 pub mod AdmissionLaws
 pub mod Extension

@@ -4,7 +4,6 @@ pub mod Index
 pub mod Checks
 pub mod Messages
 pub mod Refusals
-pub mod Meanings
 pub mod Admission
 pub mod Session
 pub mod Record

@@ -18,7 +18,7 @@ ghost use Rattle.protocol.specs.Three.{each, mapThree};
 ghost use Rattle.protocol.specs.Circuit.{Circuit};
 ghost use Rattle.protocol.specs.Checks.{weighted};
 ghost use Rattle.protocol.specs.Calls.{entriesOf};
-ghost use Rattle.protocol.specs.Meanings.{three};
+ghost use Rattle.shared.specs.Meanings.{three};
 ghost use Rattle.protocol.specs.Messages.{line as linePoly, lineRemainder, lineQuotient};
 ghost use Rattle.protocol.proofs.AdmissionLaws.{WellFormed};
 ghost use Rattle.protocol.proofs.ProverForms.{columnSum};
@@ -26,7 +26,7 @@ ghost use Rattle.circuit.specs.Given.{proverInput, Fits, Within, EachWithin, en
 ghost use Rattle.prover.specs.LineSums.{columnTotal};
 ghost use Rattle.prover.specs.CallGiven.{lineIn};
 use crate::witness;
-use protocol::Triple;
+use shared::Triple;
 
 // L of each element of the domain of size n at alpha, in order.
 fn lagrange_values_into(p: u32, n: u32, alpha: u32, out: &mut [u32])

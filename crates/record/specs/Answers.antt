@@ -5,7 +5,7 @@ use lib.ListN.{take, drop}
 use Rattle.protocol.specs.Circuit.{Sizes}
 use Rattle.protocol.specs.Refusals.{Outcome, Done, Refused}
 use Rattle.protocol.specs.Record.{Contents}
-use Rattle.protocol.specs.Meanings.{sizes}
+use Rattle.shared.specs.Meanings.{sizes}
 use Rattle.record.specs.declared.reader.Reading.{Reading}
 use Rattle.record.specs.declared.reader.Reading.the-variants as reading
 use Rattle.record.specs.declared.sections.Place.{Place}

@@ -1,10 +1,10 @@
 // The layout of a record that the sizes give: the lengths of its sections and the places where they begin.
 ghost use mathlib.Core.Path.{_≡_};
 ghost use Rattle.protocol.specs.Record.{sectionLengths};
-ghost use Rattle.protocol.specs.Meanings.{sizes as sizesMeaning};
+ghost use Rattle.shared.specs.Meanings.{sizes as sizesMeaning};
 ghost use Rattle.record.specs.Layout.{Allowed, bounds};
-use protocol::Sizes;
-use protocol::lengths::message_lengths;
+use shared::Sizes;
+use shared::lengths::message_lengths;
 
 pub const WORD_BYTES: usize = 4;
 

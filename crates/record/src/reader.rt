@@ -6,7 +6,7 @@ ghost use lib.ListN.{length};
 ghost use Rattle.field.specs.Prime.{Prime};
 ghost use Rattle.protocol.specs.Refusals.{trailerBytes};
 ghost use Rattle.protocol.specs.Record.{wordAt, trailerWord, sizesRead, endRow, trailerRow, wordRow, readRecord};
-ghost use Rattle.protocol.specs.Meanings.{faultRefusal, sizes as sizesMeaning};
+ghost use Rattle.shared.specs.Meanings.{faultRefusal, sizes as sizesMeaning};
 ghost use Rattle.record.specs.Answers.{readingMeaning, sizesFound};
 ghost use Rattle.record.specs.Layout.{Allowed, startsRefusal, layoutRefusal};
 use crate::layout::SECTIONS;
@@ -14,11 +14,11 @@ use crate::layout::TRAILER_BYTES;
 use crate::layout::TRAILER_WORDS;
 use crate::layout::WORD_BYTES;
 use crate::layout::section_bounds;
-use protocol::Fault;
-use protocol::Sizes;
-use protocol::Triple;
-use protocol::is_fine;
-use protocol::six_sizes::judge_sizes;
+use shared::Fault;
+use shared::Sizes;
+use shared::Triple;
+use shared::is_fine;
+use shared::six_sizes::judge_sizes;
 
 // The rows of the table of refusals that a record can fail.
 const BAD_END: u32 = 2;

@@ -10,7 +10,7 @@ use crate::layout::section_bounds;
 use crate::reader::layout_fault;
 use crate::reader::section_words_fault;
 use crate::reader::sizes_in;
-use protocol::Fault;
+use shared::Fault;
 
 // Where a section stands, its start and its length in bytes, or a refusal's number and position.
 pub enum Place {

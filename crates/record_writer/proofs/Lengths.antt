@@ -13,10 +13,10 @@ use borrow.Author.Tests.{eqb-true}
 use Rattle.algebra.specs.Counting.{All}
 use Rattle.algebra.proofs.Counting.{append-all}
 use Rattle.field.specs.Prime.{Prime}
-use Rattle.protocol.specs.declared.Fault.{Fault}
-use Rattle.protocol.specs.declared.Fault.the-variants as fault
+use Rattle.shared.specs.declared.Fault.{Fault}
+use Rattle.shared.specs.declared.Fault.the-variants as fault
 use Rattle.protocol.specs.Circuit.{Sizes}
-use Rattle.protocol.specs.Meanings.{faultRefusal, isFine}
+use Rattle.shared.specs.Meanings.{faultRefusal, isFine}
 use Rattle.protocol.specs.Refusals.{Refusal, judged, first, refuse, pairs, sixSizeTests, sizeRefusal, listRefusal, wordRefusal, trailerBytes}
 use Rattle.protocol.specs.Record.{sectionLengths, sectionBytes, writeRecord}
 use Rattle.protocol.specs.Calls.{writeCall}

@@ -4,19 +4,19 @@ ghost use mathlib.Core.List.{[], _∷_, map};
 ghost use Prim.Native.Nat.{_+_, _<_, _^_};
 ghost use lib.ListN.{length};
 ghost use Rattle.protocol.specs.Refusals.{first};
-ghost use Rattle.protocol.specs.Meanings.{faultRefusal, sizes as sizesMeaning};
+ghost use Rattle.shared.specs.Meanings.{faultRefusal, sizes as sizesMeaning};
 ghost use Rattle.record.specs.Layout.{Allowed, byteCount};
 ghost use Rattle.record_writer.specs.Sections.{eachSection, joined, lengthRefusals, shapeRefusal, refuseWords};
-use protocol::Fault;
-use protocol::Sizes;
-use protocol::is_fine;
-use protocol::scans::judge_words;
-use protocol::six_sizes::judge_sizes;
 use record::layout::BAD_LIST;
 use record::layout::SECTIONS;
 use record::layout::TRAILER_BYTES;
 use record::layout::section_bounds;
 use record::layout::section_lengths;
+use shared::Fault;
+use shared::Sizes;
+use shared::is_fine;
+use shared::scans::judge_words;
+use shared::six_sizes::judge_sizes;
 
 // The row of the table of refusals for sizes.
 const BAD_SIZE: u32 = 4;

@@ -16,7 +16,7 @@ use Rattle.protocol.specs.Circuit.{Circuit, sizesOf, largest}
 use Rattle.protocol.specs.Refusals.{Refusal, pairs, listRefusal, maskRefusal, assignmentRefusal, challengeRefusal}
 use Rattle.protocol.specs.Admission.{entryValues, circuitRefusals, proverRefusal, assignmentTests}
 use Rattle.protocol.specs.Calls.{ProverInput, circuitOf, entryListTests, roundRefusal}
-use Rattle.protocol.specs.Meanings.{three}
+use Rattle.shared.specs.Meanings.{three}
 use Rattle.protocol.proofs.RefusalLaws.{first-none, none-first, refuse-none, none-refuse, wordRefusal-none, none-wordRefusal}
 use Rattle.report.specs.declared.Challenges.{Challenges}
 use Rattle.report.specs.Stages.{Free, FreeJob}

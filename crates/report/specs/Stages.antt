@@ -17,8 +17,8 @@ use Rattle.protocol.specs.Session.{Answer, Session, Stepped, unopened, openStep
 use Rattle.protocol.specs.Calls.{ProverInput, roundRefusal}
 use Rattle.protocol.specs.Job.{Job, challengeWords, challengePoints}
 use Rattle.protocol.specs.Demand2.{jobOf}
-use Rattle.protocol.specs.Meanings.{three, openings}
-use Rattle.protocol.specs.declared.Opened.{Opened}
+use Rattle.shared.specs.Meanings.{three, openings}
+use Rattle.shared.specs.declared.Opened.{Opened}
 use Rattle.varuna.specs.declared.answers.IndexesOpened.{IndexesOpened}
 use Rattle.varuna.specs.Answers.{indexArrays}
 use Rattle.prover.specs.CallGiven.{circuitIn, witnessIn, assignmentIn, lineIn}

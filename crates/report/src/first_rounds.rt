@@ -3,13 +3,13 @@ ghost use mathlib.Core.List.{[], _∷_};
 ghost use Prim.Native.Nat.{_+_, _*_, _≤_};
 ghost use lib.ListN.{length};
 ghost use Rattle.protocol.specs.Three.{listed};
-ghost use Rattle.protocol.specs.Meanings.{three};
+ghost use Rattle.shared.specs.Meanings.{three};
 ghost use Rattle.circuit.specs.Given.{proverInput};
 ghost use Rattle.report.specs.Printed.{Printed};
 ghost use Rattle.report.specs.Stages.{Free, firstLines, firstText, thirdLines, thirdText, mostLine};
 use crate::lines::put_line;
 use circuit::matrices::lengths_of;
-use protocol::Triple;
+use shared::Triple;
 use varuna::rounds;
 
 // w, m, h0.

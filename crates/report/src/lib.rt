@@ -4,7 +4,7 @@ pub mod lines;
 pub mod matrix_rounds;
 pub mod messages;
 
-use protocol::Triple;
+use shared::Triple;
 
 // α, η, β, δ, γ.
 pub struct Challenges {

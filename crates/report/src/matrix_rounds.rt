@@ -4,7 +4,7 @@ ghost use mathlib.Core.List.{[], _∷_, _++_};
 ghost use Prim.Native.Nat.{_+_, _≤_};
 ghost use lib.ListN.{length};
 ghost use Rattle.protocol.specs.Three.{listed};
-ghost use Rattle.protocol.specs.Meanings.{three};
+ghost use Rattle.shared.specs.Meanings.{three};
 ghost use Rattle.circuit.specs.Given.{proverInput};
 ghost use Rattle.varuna.specs.Inputs.{threeOf};
 ghost use Rattle.report.specs.Printed.{Printed};
@@ -13,7 +13,7 @@ use crate::lines::put_line;
 use crate::lines::put_three;
 use crate::messages::words_or_zeros;
 use circuit::matrices::lengths_of;
-use protocol::Triple;
+use shared::Triple;
 use varuna::rounds;
 
 // o, ga, gb, gc.

@@ -1,11 +1,11 @@
 // The σ of a job that is not refused, and what a round answers, as three words.
 ghost use mathlib.Core.Path.{_≡_};
 ghost use mathlib.Core.List.{[], _∷_};
-ghost use Rattle.protocol.specs.Meanings.{three};
+ghost use Rattle.shared.specs.Meanings.{three};
 ghost use Rattle.circuit.specs.Given.{proverInput};
 ghost use Rattle.varuna.specs.Answers.{threeMeaning};
 ghost use Rattle.report.specs.Stages.{Free, sumWords, threeOrZeros};
-use protocol::Triple;
+use shared::Triple;
 use varuna::answers::ThreeWords;
 use varuna::rounds;
 

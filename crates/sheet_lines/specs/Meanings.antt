@@ -4,7 +4,7 @@ use mathlib.Core.Bool.{Bool, true, false}
 use mathlib.Core.List.{List, [], _∷_, map}
 use Prim.Native.Nat.{ℕ, _+_, _-_, _≤_, min}
 use lib.ListN.{length, take, drop}
-use Rattle.protocol.specs.Meanings.{three}
+use Rattle.shared.specs.Meanings.{three}
 use Rattle.sheet_lines.specs.declared.numbers.Request.{Request}
 use Rattle.sheet_lines.specs.declared.circuits.Found.{Found}
 use Rattle.sheet_lines.specs.declared.circuits.Found.the-variants as found

@@ -5,12 +5,12 @@ use crate::numbers::Request;
 use crate::numbers::read;
 use circuit::checks::check_counts;
 use circuit::checks::check_sizes;
-use protocol::Fault;
-use protocol::Triple;
-use protocol::is_fine;
+use shared::Fault;
+use shared::Triple;
+use shared::is_fine;
 ghost use mathlib.Core.Path.{_≡_};
 ghost use mathlib.Core.List.{List, [], _∷_, _++_, map};
-ghost use Rattle.protocol.specs.Meanings.{faultRefusal};
+ghost use Rattle.shared.specs.Meanings.{faultRefusal};
 ghost use Rattle.sheet_lines.specs.Lines.{Given, sheetRefusal, circuitLine, linesOf, lineOf, wrong, circuits as circuitsIn};
 ghost use Rattle.sheet_lines.specs.Meanings.{given, foundLine, isWrong as wrongFound, Kept};
 

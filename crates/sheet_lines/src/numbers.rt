@@ -1,5 +1,5 @@
 // Six numbers read from a line: digits, and blanks between the numbers.
-use protocol::Triple;
+use shared::Triple;
 ghost use mathlib.Core.Path.{_≡_};
 ghost use mathlib.Core.Bool.{true};
 ghost use Prim.Native.Nat.{_-_};

@@ -13,9 +13,9 @@ use Rattle.field.specs.Prime.{Prime}
 use Rattle.field.specs.Element.{of}
 use Rattle.domain.specs.Size.{maxSize}
 use Rattle.domain.proofs.SizeLaws.{size-bound}
-use Rattle.protocol.specs.declared.Fault.{Fault}
-use Rattle.protocol.specs.Meanings.{faultRefusal, isFine}
-use Rattle.protocol.proofs.EarlyReturns.{fine-none}
+use Rattle.shared.specs.declared.Fault.{Fault}
+use Rattle.shared.specs.Meanings.{faultRefusal, isFine}
+use Rattle.shared.proofs.EarlyReturns.{fine-none}
 use Rattle.protocol.specs.Three.{Three, listed}
 use Rattle.protocol.specs.Circuit.{Sizes, largest}
 use Rattle.protocol.specs.Checks.{Openings, listOpenings}

@@ -11,12 +11,12 @@ ghost use Rattle.domain.specs.Qualifies.{Qualifies};
 ghost use Rattle.protocol.specs.Checks.{listTranscript};
 ghost use Rattle.protocol.specs.Refusals.{sixSizeTests};
 ghost use Rattle.protocol.specs.Session.{all, publicFits, transcriptFits, leftBySteps};
-ghost use Rattle.protocol.specs.Meanings.{sizes, transcript};
-use protocol::Sizes;
-use protocol::Transcript;
-use protocol::is_fine;
-use protocol::scans::judge_words;
-use protocol::six_sizes::largest;
+ghost use Rattle.shared.specs.Meanings.{sizes, transcript};
+use shared::Sizes;
+use shared::Transcript;
+use shared::is_fine;
+use shared::scans::judge_words;
+use shared::six_sizes::largest;
 
 // The words of a transcript in the order in which they are heard.
 pub fn transcript_words(t: Transcript) -> [u32; 15]

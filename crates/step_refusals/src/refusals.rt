@@ -14,18 +14,18 @@ ghost use Rattle.protocol.specs.Index.{listIndex};
 ghost use Rattle.protocol.specs.Checks.{listOpenings};
 ghost use Rattle.protocol.specs.Refusals.{first, refuse, turnRefusal, wordRefusal, challengeRefusal, lengthRefusal};
 ghost use Rattle.protocol.specs.Session.{inTurn, openRefusal, alphaRefusal, etaRefusal, betaRefusal, deltaRefusal, gammaRefusal, openingsRefusal};
-ghost use Rattle.protocol.specs.Meanings.{faultRefusal, three, sizes, transcript, indexWords, openings};
+ghost use Rattle.shared.specs.Meanings.{faultRefusal, three, sizes, transcript, indexWords, openings};
 use crate::holdings::left_by_steps;
-use protocol::Fault;
-use protocol::Opened;
-use protocol::Sizes;
-use protocol::Transcript;
-use protocol::Triple;
-use protocol::is_fine;
-use protocol::lengths::message_lengths;
-use protocol::scans::judge_words;
-use protocol::six_sizes::judge_sizes;
-use protocol::six_sizes::largest;
+use shared::Fault;
+use shared::Opened;
+use shared::Sizes;
+use shared::Transcript;
+use shared::Triple;
+use shared::is_fine;
+use shared::lengths::message_lengths;
+use shared::scans::judge_words;
+use shared::six_sizes::judge_sizes;
+use shared::six_sizes::largest;
 
 // The step after the first n is in turn.
 fn in_turn(n: u32, stage: u32, s: Sizes) -> bool

@@ -3,8 +3,8 @@
 use mathlib.Core.Path.{_≡_, sym, ap, ap₂, _∙_}
 use mathlib.Core.Option.{Option, none}
 use Prim.Native.Nat.{ℕ}
-use Rattle.protocol.specs.declared.Fault.{Fault}
-use Rattle.protocol.specs.Meanings.{faultRefusal}
+use Rattle.shared.specs.declared.Fault.{Fault}
+use Rattle.shared.specs.Meanings.{faultRefusal}
 use Rattle.protocol.specs.Three.{Three}
 use Rattle.protocol.specs.Refusals.{Refusal, Done, judged}
 use Rattle.varuna.specs.Answers.{filling, fills, fillsThree}

@@ -4,9 +4,9 @@ use mathlib.Core.List.{List}
 use mathlib.Core.Option.{none, some}
 use Prim.Native.Nat.{ℕ}
 use native.Mathlib.Omega.{arith}
-use Rattle.protocol.specs.declared.Fault.{Fault}
-use Rattle.protocol.specs.declared.Fault.the-variants as fault
-use Rattle.protocol.specs.Meanings.{faultRefusal}
+use Rattle.shared.specs.declared.Fault.{Fault}
+use Rattle.shared.specs.declared.Fault.the-variants as fault
+use Rattle.shared.specs.Meanings.{faultRefusal}
 use Rattle.protocol.specs.Refusals.{Refusal, Outcome, Done, Refused}
 use Rattle.record_writer.specs.Answers.{LentAnswer}
 use Rattle.varuna.specs.Answers.{filling, fills}

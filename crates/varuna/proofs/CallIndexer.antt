@@ -5,9 +5,9 @@ use Prim.Native.Nat.{ℕ}
 use lib.ListN.{length}
 use Rattle.field.specs.Element.{words}
 use Rattle.domain.specs.BabyBear.{babyBear}
-use Rattle.protocol.specs.declared.Fault.{Fault}
-use Rattle.protocol.specs.declared.Fault.the-variants as fault
-use Rattle.protocol.specs.Meanings.{faultRefusal}
+use Rattle.shared.specs.declared.Fault.{Fault}
+use Rattle.shared.specs.declared.Fault.the-variants as fault
+use Rattle.shared.specs.Meanings.{faultRefusal}
 use Rattle.protocol.specs.Three.{MatrixName, A, B, C, Three, each, mapThree}
 use Rattle.protocol.specs.Circuit.{sizesOf}
 use Rattle.protocol.specs.Index.{Index, mapIndex, index}

@@ -16,13 +16,13 @@ use Rattle.field.proofs.ElementLaws.{primeRing}
 use Rattle.field.proofs.Words.{of-result}
 use Rattle.domain.specs.Size.{isSize}
 use Rattle.domain.specs.Domain.{root, element, domain}
-use Rattle.protocol.specs.declared.Fault.{Fault}
-use Rattle.protocol.specs.Meanings.{faultRefusal, isFine}
+use Rattle.shared.specs.declared.Fault.{Fault}
+use Rattle.shared.specs.Meanings.{faultRefusal, isFine}
 use Rattle.protocol.specs.Refusals.{Refusal, first, refuse, sizeRefusal, listRefusal, wordRefusal}
 use Rattle.protocol.specs.Calls.{maxWords}
 use Rattle.protocol.proofs.RefusalLaws.{first-none, refuse-none}
 use Rattle.protocol.proofs.Rows.{first-only, refuse-map-append}
-use Rattle.protocol.proofs.EarlyReturns.{stops, goes-on, last-answer}
+use Rattle.shared.proofs.EarlyReturns.{stops, goes-on, last-answer}
 
 -- the powers of the root are the domain
 pub powers-domain : (q : Prime) (n g lent : ℕ) → lent ≡ n → g ≡ root {q = q} n .word

@@ -11,9 +11,9 @@ use Rattle.domain.specs.Size.{sizeFor}
 use Rattle.domain.specs.Known.{Known}
 use Rattle.domain.specs.BabyBear.{babyBear}
 use Rattle.domain.proofs.SizeLaws.{size-positive, sizeFor-is-size}
-use Rattle.protocol.specs.declared.Fault.{Fault}
-use Rattle.protocol.specs.declared.Fault.the-variants as fault
-use Rattle.protocol.specs.Meanings.{faultRefusal}
+use Rattle.shared.specs.declared.Fault.{Fault}
+use Rattle.shared.specs.declared.Fault.the-variants as fault
+use Rattle.shared.specs.Meanings.{faultRefusal}
 use Rattle.protocol.specs.Calls.{ProverInput, roundRefusal}
 use Rattle.circuit.proofs.Parts.{larger-is-size}
 use Rattle.circuit.proofs.Fitting.{RoundFits, round-fits}

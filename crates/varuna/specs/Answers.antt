@@ -2,12 +2,12 @@
 use mathlib.Core.Path.{_≡_, refl}
 use mathlib.Core.List.{List, [], _∷_, _++_}
 use Prim.Native.Nat.{ℕ}
-use Rattle.protocol.specs.declared.Opened.{Opened}
+use Rattle.shared.specs.declared.Opened.{Opened}
 use Rattle.protocol.specs.Three.{Three}
 use Rattle.protocol.specs.Checks.{listOpenings}
 use Rattle.protocol.specs.Refusals.{Outcome, Done, Refused}
-use Rattle.protocol.specs.Meanings.{three}
-use Rattle.protocol.specs.Meanings as meanings
+use Rattle.shared.specs.Meanings.{three}
+use Rattle.shared.specs.Meanings as meanings
 use Rattle.openings.specs.OpeningsGiven.{messageList, indexList}
 use Rattle.varuna.specs.declared.answers.Word.{Word}
 use Rattle.varuna.specs.declared.answers.Word.the-variants as word

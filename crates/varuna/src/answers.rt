@@ -3,13 +3,13 @@
 ghost use mathlib.Core.Path.{_≡_};
 ghost use Rattle.varuna.specs.Answers.{indexArrays};
 pub use openings::IndexOpened;
-pub use protocol::Check;
-pub use protocol::Opened;
-pub use protocol::Sizes;
-pub use protocol::Triple;
-pub use protocol::Verdict;
 pub use record::Place;
 pub use record::Reading;
+pub use shared::Check;
+pub use shared::Opened;
+pub use shared::Sizes;
+pub use shared::Triple;
+pub use shared::Verdict;
 
 // One word.
 pub enum Word {

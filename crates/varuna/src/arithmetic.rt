@@ -5,12 +5,12 @@ ghost use Rattle.field.specs.Meanings.{inverseMeaning};
 ghost use Rattle.domain.specs.BabyBear.{babyBear};
 ghost use Rattle.protocol.specs.Refusals.{wordRefusal, inverseOutcome};
 ghost use Rattle.protocol.specs.Calls.{addCall, subtractCall, multiplyCall, powerCall, inverseCall};
-ghost use Rattle.protocol.specs.Meanings.{faultRefusal};
+ghost use Rattle.shared.specs.Meanings.{faultRefusal};
 ghost use Rattle.varuna.specs.Answers.{wordMeaning};
 use crate::answers::Word;
 use field::Inverse;
 use field::MODULE_PRIME;
-use protocol::Fault;
+use shared::Fault;
 
 fn check_word(a: u32) -> Fault
     ensures { λ r. ⌜ faultRefusal r ≡ wordRefusal babyBear (a ∷ []) ⌝ }

@@ -14,7 +14,7 @@ use crate::answers::Filled;
 use call_refusals::judge_index;
 use field::MODULE_PRIME;
 use index::index_matrix_into;
-use protocol::Fault;
+use shared::Fault;
 
 // The twelve index polynomials of a circuit with entry lists ea, eb, ec, each into a slice of |K_M| words: row, col, rowcol and
 // rowcolval of A, then B, then C. Refusals: 4 for a size, 5 for an entry list or a slice, 6 for a value, 7 for an entry.

@@ -7,14 +7,14 @@ ghost use Rattle.domain.specs.BabyBear.{babyBear};
 ghost use Rattle.domain.specs.Size.{isSize};
 ghost use Rattle.protocol.specs.Refusals.{first, sizeRefusal, listRefusal, wordRefusal};
 ghost use Rattle.protocol.specs.Calls.{maxWords, domainCall, evaluateCall, interpolateCall};
-ghost use Rattle.protocol.specs.Meanings.{faultRefusal};
+ghost use Rattle.shared.specs.Meanings.{faultRefusal};
 ghost use Rattle.varuna.specs.Answers.{wordMeaning, filledMeaning, filling, fills};
 use crate::answers::Filled;
 use crate::answers::Word;
 use field::MODULE_PRIME;
-use protocol::Fault;
-use protocol::is_fine;
-use protocol::scans::judge_words;
+use shared::Fault;
+use shared::is_fine;
+use shared::scans::judge_words;
 
 // The most words to evaluate.
 const MAX_WORDS: usize = 2048;

@@ -3,17 +3,17 @@ ghost use mathlib.Core.Path.{_≡_};
 ghost use lib.ListN.{length};
 ghost use Rattle.domain.specs.BabyBear.{babyBear};
 ghost use Rattle.protocol.specs.Calls.{writeCall, sectionCall, placeCall};
-ghost use Rattle.protocol.specs.Meanings.{sizes as sizesMeaning};
+ghost use Rattle.shared.specs.Meanings.{sizes as sizesMeaning};
 ghost use Rattle.protocol.specs.Record.{readRecord};
 ghost use Rattle.record.specs.Answers.{readingMeaning, sizesFound, placeMeaning};
 ghost use Rattle.record_writer.specs.Sections.{eachSection};
 ghost use Rattle.varuna.specs.Answers.{filledMeaning, filling, fills};
 use crate::answers::Filled;
 use field::MODULE_PRIME;
-use protocol::Fault;
-use protocol::Sizes;
 use record::Place;
 use record::Reading;
+use shared::Fault;
+use shared::Sizes;
 
 // A record of eleven sections into lent bytes. Refusals: 4 for a size, 5 for a section or the lent bytes, 6 for a word.
 pub fn write_record(

@@ -4,7 +4,7 @@
 ghost use mathlib.Core.Path.{_≡_};
 ghost use lib.ListN.{length};
 ghost use Rattle.domain.specs.BabyBear.{babyBear};
-ghost use Rattle.protocol.specs.Meanings.{three};
+ghost use Rattle.shared.specs.Meanings.{three};
 ghost use Rattle.protocol.specs.Calls.{firstRoundCall, secondRoundCall, thirdRoundCall, fourthRoundCall, fifthRoundCall, openingsCall};
 ghost use Rattle.varuna.specs.Answers.{threeMeaning, filledMeaning, filling, fills, fillsThree, openingsMeaning};
 ghost use Rattle.circuit.specs.Given.{proverInput};
@@ -21,8 +21,8 @@ use matrix_sumcheck::matrix::matrix_remainder_into;
 use matrix_sumcheck::matrix::matrix_value;
 use openings::index_at;
 use openings::messages_opened;
-use protocol::Fault;
-use protocol::Triple;
+use shared::Fault;
+use shared::Triple;
 
 // Round 1: ŵ, of |C| - |X| + 1 words, and h0, of |R| - 1, into slices.
 pub fn first_round(

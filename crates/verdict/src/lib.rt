@@ -19,15 +19,15 @@ ghost use Rattle.protocol.specs.Checks.{numeratorValue, denominatorValue, matri
 ghost use Rattle.protocol.specs.Checks as checks;
 ghost use Rattle.protocol.specs.Refusals.{sixSizeTests};
 ghost use Rattle.protocol.specs.Session.{all};
-ghost use Rattle.protocol.specs.Meanings.{three, sizes, transcript, indexWords, openings, verdictMeaning};
+ghost use Rattle.shared.specs.Meanings.{three, sizes, transcript, indexWords, openings, verdictMeaning};
 ghost use Rattle.verdict.specs.Among.{SizeAmong};
-use protocol::Check;
-use protocol::Opened;
-use protocol::Sizes;
-use protocol::Transcript;
-use protocol::Triple;
-use protocol::Verdict;
-use protocol::six_sizes::largest;
+use shared::Check;
+use shared::Opened;
+use shared::Sizes;
+use shared::Transcript;
+use shared::Triple;
+use shared::Verdict;
+use shared::six_sizes::largest;
 
 // Row: σ_A σ_B - σ_C = h0(α) v_R(α).
 fn row_holds(p: u32, s: Sizes, t: Transcript, o: Opened) -> bool

@@ -7,7 +7,7 @@ use Rattle.protocol.specs.Three.{Three, listed}
 use Rattle.protocol.specs.Checks.{Transcript, listTranscript}
 use Rattle.protocol.specs.Session as steps
 use Rattle.protocol.specs.Session.{Taken, Judged, Refused}
-use Rattle.protocol.specs.Meanings.{sizes, transcript, verdictMeaning}
+use Rattle.shared.specs.Meanings.{sizes, transcript, verdictMeaning}
 use Rattle.verifier.specs.declared.session.Session.{Session}
 use Rattle.verifier.specs.declared.session.Answer as declared-answer
 use Rattle.verifier.specs.declared.session.Answer.the-variants as answer

@@ -8,12 +8,12 @@ use native.Mathlib.Omega.{arith}
 use lib.Dec.{eqb}
 use borrow.Author.Tests.{not-true, not-false}
 use Rattle.field.specs.Prime.{Prime}
-use Rattle.protocol.specs.Meanings.{faultRefusal, isFine}
+use Rattle.shared.specs.Meanings.{faultRefusal, isFine}
 use Rattle.protocol.specs.Refusals.{Refusal, first, refuse, pairs}
 use Rattle.protocol.specs.Calls.{CircuitWords, circuitOf}
 use Rattle.circuit.specs.Given.{given}
 use Rattle.circuit.specs.Judgement.{indexDue, indexShapeRefusal, indexRefusal, indexContentsRefusal}
-use Rattle.protocol.proofs.EarlyReturns.{stops, goes-on, fine-none, last-answer}
+use Rattle.shared.proofs.EarlyReturns.{stops, goes-on, fine-none, last-answer}
 use Rattle.circuit.proofs.Parts.{index-in-parts, index-shape-fits}
 use Rattle.call_refusals.proofs.judge_index.Statement.{statement}
 use Rattle.call_refusals.proofs.judge_index.Tie as tie

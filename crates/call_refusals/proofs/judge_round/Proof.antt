@@ -7,12 +7,12 @@ use native.Mathlib.Omega.{arith}
 use lib.Dec.{eqb}
 use borrow.Author.Tests.{not-true, not-false}
 use Rattle.field.specs.Prime.{Prime}
-use Rattle.protocol.specs.Meanings.{isFine}
+use Rattle.shared.specs.Meanings.{isFine}
 use Rattle.protocol.specs.Refusals.{Refusal, first, refuse, pairs}
 use Rattle.protocol.specs.Calls.{CircuitWords, circuitOf, roundRefusal}
 use Rattle.circuit.specs.Given.{given, proverInput}
 use Rattle.circuit.specs.Judgement.{shapeRefusal, contentsRefusal}
-use Rattle.protocol.proofs.EarlyReturns.{stops, goes-on, fine-none, last-answer}
+use Rattle.shared.proofs.EarlyReturns.{stops, goes-on, fine-none, last-answer}
 use Rattle.circuit.proofs.Parts.{prover-in-parts, shape-fits}
 use Rattle.call_refusals.proofs.judge_round.Statement.{statement}
 use Rattle.call_refusals.proofs.judge_round.Tie as tie

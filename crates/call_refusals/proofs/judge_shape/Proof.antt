@@ -8,7 +8,7 @@ use Rattle.protocol.specs.Admission.{assignmentTests}
 use Rattle.protocol.specs.Calls.{CircuitWords, circuitOf}
 use Rattle.circuit.specs.Given.{given}
 use Rattle.circuit.specs.Judgement.{indexShapeRefusal}
-use Rattle.protocol.proofs.EarlyReturns.{stops, goes-on, last-answer}
+use Rattle.shared.proofs.EarlyReturns.{stops, goes-on, last-answer}
 use Rattle.circuit.proofs.Parts.{shape-in-parts}
 use Rattle.call_refusals.proofs.judge_shape.Statement.{statement}
 use Rattle.call_refusals.proofs.judge_shape.Tie as tie

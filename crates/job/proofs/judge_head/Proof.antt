@@ -8,7 +8,7 @@ use lib.ListN.{getD}
 use borrow.Author.Tests.{not-true, not-false}
 use Rattle.domain.specs.Size.{maxSize}
 use Rattle.protocol.specs.Refusals.{Refusal, listRefusal}
-use Rattle.protocol.proofs.EarlyReturns.{stops, goes-on, last-answer}
+use Rattle.shared.proofs.EarlyReturns.{stops, goes-on, last-answer}
 use Rattle.job.specs.JobText.{headRefusal}
 use borrow.Author.Needs.{needs}
 use Rattle.job.proofs.judge_head.Statement.{statement}

@@ -2,7 +2,7 @@
 use mathlib.Core.Path.{_≡_, sym, ap, _∙_}
 use Prim.Native.Nat.{_*_}
 use native.Mathlib.Omega.{arith}
-use Rattle.protocol.specs.Meanings.{faultRefusal}
+use Rattle.shared.specs.Meanings.{faultRefusal}
 use Rattle.text.proofs.WrittenLaws.{written-as}
 use Rattle.varuna.proofs.AnswerLaws.{matched}
 use Rattle.job.specs.JobText.{jobLength}

@@ -7,7 +7,7 @@ use Rattle.domain.specs.Size.{sizeFor}
 use Rattle.protocol.specs.Three.{A, mapThree}
 use Rattle.protocol.specs.Circuit.{Circuit, largest}
 use Rattle.protocol.specs.Messages.{joinedQuotient}
-use Rattle.protocol.specs.Meanings.{three}
+use Rattle.shared.specs.Meanings.{three}
 use Rattle.protocol.specs.Calls.{entriesOf, circuitOf}
 use Rattle.circuit.specs.Given.{given}
 use Rattle.circuit.proofs.Parts.{largest-by-counts}

@@ -7,7 +7,7 @@ use Rattle.domain.specs.Polynomial.{Poly}
 use Rattle.domain.proofs.SizeLaws.{size-positive, size-bound}
 use Rattle.protocol.specs.Circuit.{Circuit}
 use Rattle.protocol.specs.Messages.{lineRemainder, lineQuotient}
-use Rattle.protocol.specs.Meanings.{three}
+use Rattle.shared.specs.Meanings.{three}
 use Rattle.protocol.specs.Calls.{ProverInput, circuitOf}
 use Rattle.circuit.specs.Given.{given, proverInput}
 use Rattle.poly.proofs.LentParts.{lent-length}

@@ -3,7 +3,7 @@ use Rattle.field.proofs.Words.{of-result}
 use Rattle.field.specs.Element.{Elem, of, _⊕_, _⊗_, _⊖_}
 use Rattle.protocol.specs.Checks.{denominatorValue}
 use Rattle.protocol.specs.Index.{mapIndex}
-use Rattle.protocol.specs.Meanings.{indexWords}
+use Rattle.shared.specs.Meanings.{indexWords}
 use borrow.Author.Needs.{needs}
 use mathlib.Core.Path.{ap, ap₂, _∙_}
 use Rattle.verdict.proofs.denominator_value.Statement.{statement}

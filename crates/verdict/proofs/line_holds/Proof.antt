@@ -2,7 +2,7 @@
 use Rattle.field.proofs.Words.{of-result}
 use Rattle.field.specs.Element.{Elem, of, _⊕_, _⊗_}
 use Rattle.protocol.specs.Checks.{mapTranscript, weighted, assignmentValue, lineLeft, lineRight}
-use Rattle.protocol.specs.Meanings.{sizes, transcript}
+use Rattle.shared.specs.Meanings.{sizes, transcript}
 use borrow.Author.Needs.{needs}
 use lib.Dec.{eqb}
 use mathlib.Core.List.{List, map}

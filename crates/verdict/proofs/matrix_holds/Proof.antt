@@ -6,7 +6,7 @@ use Rattle.field.proofs.Words.{of-result}
 use Rattle.field.specs.Element.{Elem, of, _⊕_, _⊗_}
 use Rattle.protocol.specs.Checks.{mapTranscript, mapOpenings, selector, matrixLeft, joinedLeft, joinedRight}
 use Rattle.protocol.specs.Circuit.{largest}
-use Rattle.protocol.specs.Meanings.{three, sizes, transcript, openings}
+use Rattle.shared.specs.Meanings.{three, sizes, transcript, openings}
 use Rattle.protocol.specs.Three.{MatrixName, A, B, C, at}
 use Rattle.protocol.proofs.AllowedSizes.{allowed, largest-size, size-within}
 use Rattle.verdict.specs.Among.{SizeAmong}

@@ -6,7 +6,7 @@ use Rattle.field.specs.Power.{_⊘_}
 use Rattle.protocol.proofs.ThreeLaws.{at-each}
 use Rattle.protocol.specs.Checks.{mapTranscript, numeratorValue, denominatorValue, matrixLeft}
 use Rattle.protocol.specs.Index.{mapIndex}
-use Rattle.protocol.specs.Meanings.{three, sizes, transcript, indexWords}
+use Rattle.shared.specs.Meanings.{three, sizes, transcript, indexWords}
 use Rattle.protocol.specs.Three.{at}
 use borrow.Author.Needs.{needs}
 use mathlib.Core.Path.{sym, ap, ap₂, _∙_}

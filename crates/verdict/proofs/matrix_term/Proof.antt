@@ -3,7 +3,7 @@ use Rattle.field.proofs.Words.{of-result}
 use Rattle.field.specs.Element.{of, _⊗_}
 use Rattle.protocol.specs.Checks.{mapTranscript, selector, matrixLeft}
 use Rattle.protocol.specs.Index.{mapIndex}
-use Rattle.protocol.specs.Meanings.{sizes, transcript, indexWords}
+use Rattle.shared.specs.Meanings.{sizes, transcript, indexWords}
 use borrow.Author.Needs.{needs}
 use mathlib.Core.Path.{ap, ap₂, _∙_}
 use Rattle.verdict.proofs.matrix_term.Statement.{statement}

@@ -4,7 +4,7 @@ use Rattle.field.proofs.Words.{of-result}
 use Rattle.field.specs.Element.{of, _⊗_}
 use Rattle.protocol.specs.Checks.{numeratorValue}
 use Rattle.protocol.specs.Index.{mapIndex}
-use Rattle.protocol.specs.Meanings.{indexWords}
+use Rattle.shared.specs.Meanings.{indexWords}
 use borrow.Author.Needs.{needs}
 use mathlib.Core.Path.{ap, ap₂, _∙_}
 use Rattle.verdict.proofs.numerator_value.Statement.{statement}

@@ -8,7 +8,7 @@ use Rattle.field.specs.Element.{Elem, of, _⊗_}
 use Rattle.field.specs.Power.{_⊘_}
 use Rattle.protocol.specs.Checks.{selector}
 use Rattle.protocol.specs.Circuit.{largest}
-use Rattle.protocol.specs.Meanings.{three}
+use Rattle.shared.specs.Meanings.{three}
 use borrow.Author.Needs.{needs}
 use mathlib.Core.Path.{_≡_, sym, ap, ap₂, _∙_}
 use Rattle.verdict.proofs.selector.Statement.{statement}

@@ -2,7 +2,7 @@
 -- nothing.
 use Rattle.algebra.proofs.Choice.{pick-true, pick-false}
 use Rattle.protocol.specs.Checks.{verdict}
-use Rattle.protocol.specs.Meanings.{sizes}
+use Rattle.shared.specs.Meanings.{sizes}
 use Rattle.protocol.proofs.AllowedSizes.{allowed}
 use borrow.Author.Needs.{needs}
 use borrow.Author.Tests.{not-true, not-false}

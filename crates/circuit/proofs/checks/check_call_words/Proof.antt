@@ -13,7 +13,7 @@ use Rattle.protocol.specs.Circuit.{Circuit}
 use Rattle.protocol.specs.Refusals.{Refusal, first, refuse, wordRefusal}
 use Rattle.protocol.specs.Admission.{entryValues}
 use Rattle.circuit.specs.Given.{entryLists}
-use Rattle.protocol.proofs.EarlyReturns.{stops, goes-on, last-answer}
+use Rattle.shared.proofs.EarlyReturns.{stops, goes-on, last-answer}
 use Rattle.circuit.proofs.Parts.{values-length, words-in-parts}
 use Rattle.circuit.proofs.checks.check_call_words.Statement.{statement}
 use Rattle.circuit.proofs.checks.check_call_words.Tie as tie

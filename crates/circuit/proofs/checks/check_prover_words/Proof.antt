@@ -9,7 +9,7 @@ use lib.Dec.{ltb}
 use lib.ListN.{length}
 use borrow.Author.Tests.{lt-ltb, le-ltb, not-true, not-false}
 use Rattle.protocol.specs.Refusals.{Refusal, first, refuse}
-use Rattle.protocol.proofs.EarlyReturns.{stops, goes-on, passes, fails-first, last-answer}
+use Rattle.shared.proofs.EarlyReturns.{stops, goes-on, passes, fails-first, last-answer}
 use Rattle.circuit.proofs.Parts.{prover-words}
 use Rattle.circuit.proofs.checks.check_prover_words.Statement.{statement}
 use Rattle.circuit.proofs.checks.check_prover_words.Tie as tie

@@ -10,7 +10,7 @@ use Rattle.protocol.specs.Circuit.{Circuit}
 use Rattle.protocol.specs.Refusals.{Refusal, first, refuse, entryTests, entryRefusal}
 use Rattle.protocol.specs.Calls.{entriesOf}
 use Rattle.circuit.specs.Given.{entryLists}
-use Rattle.protocol.proofs.EarlyReturns.{stops, goes-on, last-answer}
+use Rattle.shared.proofs.EarlyReturns.{stops, goes-on, last-answer}
 use Rattle.circuit.proofs.Parts.{entries-in-parts}
 use Rattle.circuit.proofs.checks.check_three_entries.Statement.{statement}
 use Rattle.circuit.proofs.checks.check_three_entries.Tie as tie

@@ -11,7 +11,7 @@ use Rattle.protocol.specs.Circuit.{Circuit}
 use Rattle.protocol.specs.Refusals.{Refusal, first, refuse}
 use Rattle.protocol.specs.Admission.{entryValues}
 use Rattle.circuit.specs.Given.{entryLists}
-use Rattle.protocol.proofs.EarlyReturns.{stops, goes-on, last-answer}
+use Rattle.shared.proofs.EarlyReturns.{stops, goes-on, last-answer}
 use Rattle.circuit.proofs.Parts.{valueTests, values-in-parts}
 use Rattle.circuit.proofs.checks.check_three_values.Statement.{statement}
 use Rattle.circuit.proofs.checks.check_three_values.Tie as tie

@@ -3,7 +3,7 @@ use mathlib.Core.Path.{_≡_, ap}
 use Prim.Native.Nat.{ℕ, _+_, _*_, _<_, _^_}
 use native.Mathlib.Omega.{arith}
 use Rattle.protocol.specs.Circuit.{Sizes}
-use Rattle.protocol.specs.Meanings.{sizes, messageLengths}
+use Rattle.shared.specs.Meanings.{sizes, messageLengths}
 use Rattle.protocol.specs.Messages.{Messages}
 use Rattle.protocol.specs.Record.{sectionBytes}
 use Rattle.figures.proofs.RecordLaws.{rowWords, lineWords, matrixWords, words-add-up, few-bytes}

@@ -11,7 +11,7 @@ use Rattle.field.proofs.Words.{of-results}
 use Rattle.domain.specs.Size.{isSize}
 use Rattle.domain.specs.Polynomial.{Poly, _⊞_}
 use Rattle.protocol.specs.Three.{MatrixName, A, B, C, Three, mapThree}
-use Rattle.protocol.specs.Meanings.{three}
+use Rattle.shared.specs.Meanings.{three}
 use Rattle.matrix_sumcheck.specs.MatrixGiven.{lists}
 use Rattle.poly.proofs.WordLists.{of-zeros}
 use Rattle.matrix_sumcheck.proofs.JoinedForms.{joinedTerm, joined-fits, joined-made}

@@ -5,7 +5,7 @@ use native.Mathlib.Omega.{arith}
 use Rattle.domain.specs.BabyBear.{babyBear}
 use Rattle.protocol.specs.Messages.{Messages, lengths}
 use Rattle.protocol.specs.Session.{Session, Stepped, openStep, alphaStep, etaStep}
-use Rattle.protocol.specs.Meanings.{three, sizes}
+use Rattle.shared.specs.Meanings.{three, sizes}
 use Rattle.report.specs.Stages.{afterSums}
 use borrow.Author.Needs.{needs}
 use Rattle.outcome_text.proofs.conversation.after_sums.Statement.{statement}

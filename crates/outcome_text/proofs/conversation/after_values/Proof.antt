@@ -5,7 +5,7 @@ use native.Mathlib.Omega.{arith}
 use Rattle.domain.specs.BabyBear.{babyBear}
 use Rattle.protocol.specs.Messages.{Messages, lengths}
 use Rattle.protocol.specs.Session.{Session, Stepped, betaStep, deltaStep}
-use Rattle.protocol.specs.Meanings.{three}
+use Rattle.shared.specs.Meanings.{three}
 use Rattle.verifier.specs.Session.{sessionMeaning}
 use Rattle.report.specs.Stages.{afterValues}
 use borrow.Author.Needs.{needs}

@@ -6,7 +6,7 @@ use Rattle.domain.specs.BabyBear.{babyBear}
 use Rattle.protocol.specs.Circuit.{largest}
 use Rattle.protocol.specs.Messages.{Messages, lengths}
 use Rattle.protocol.specs.Session.{Stepped, gammaStep, openingsStep}
-use Rattle.protocol.specs.Meanings.{openings}
+use Rattle.shared.specs.Meanings.{openings}
 use Rattle.verifier.specs.Session.{sessionMeaning}
 use Rattle.report.specs.Stages.{answerAfter}
 use borrow.Author.Needs.{needs}

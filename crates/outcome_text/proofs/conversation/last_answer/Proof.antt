@@ -2,7 +2,7 @@
 use mathlib.Core.Path.{ap, _∙_}
 use Prim.Native.Nat.{ℕ}
 use Rattle.protocol.specs.Messages.{Messages, lengths}
-use Rattle.protocol.specs.Meanings.{three, sizes, openings}
+use Rattle.shared.specs.Meanings.{three, sizes, openings}
 use Rattle.report.specs.Stages.{afterValues, answerAfter}
 use borrow.Author.Needs.{needs}
 use Rattle.outcome_text.proofs.conversation.last_answer.Statement.{statement}

@@ -7,7 +7,7 @@ use lib.ListN.{getD}
 use Rattle.algebra.specs.Lists.{tabulate}
 use Rattle.domain.proofs.SizeLaws.{size-positive, size-bound, size-quotient-positive}
 use Rattle.protocol.specs.Messages.{lengths}
-use Rattle.protocol.specs.Meanings.{three, sizes, openings}
+use Rattle.shared.specs.Meanings.{three, sizes, openings}
 use Rattle.poly.proofs.LentParts.{lent-length, back-holds, back-length, back-is}
 use Rattle.prover.proofs.WitnessLaws.{public-within}
 use Rattle.report.specs.ProofText.{answerText}

@@ -2,7 +2,7 @@
 use mathlib.Core.List.{_++_}
 use native.Mathlib.Omega.{arith}
 use Rattle.protocol.specs.Calls.{ProverInput}
-use Rattle.protocol.specs.Meanings.{three}
+use Rattle.shared.specs.Meanings.{three}
 use Rattle.circuit.specs.Given.{proverInput}
 use Rattle.report.proofs.PrintedLaws.{printed-then, printed-within, printed-as, printed-place, printed-length}
 use Rattle.protocol.specs.Three.{listed}

@@ -5,7 +5,7 @@ use native.Mathlib.Omega.{arith}
 use Rattle.domain.specs.Size.{isSize}
 use Rattle.protocol.specs.Circuit.{Sizes, sizesOf}
 use Rattle.protocol.specs.Calls.{ProverInput, circuitOf}
-use Rattle.protocol.specs.Meanings.{three}
+use Rattle.shared.specs.Meanings.{three}
 use Rattle.circuit.specs.Given.{proverInput}
 use Rattle.circuit.proofs.Fitting.{C-fits, X-fits, X-below}
 use Rattle.report.specs.Stages.{fourthText, fifthText, lastText, restText, openedMeaning}

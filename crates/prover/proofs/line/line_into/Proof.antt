@@ -11,7 +11,7 @@ use Rattle.domain.specs.Polynomial.{Poly, _⊠_, interpolate}
 use Rattle.domain.proofs.SizeLaws.{size-positive, size-bound}
 use Rattle.protocol.specs.Three.{Three, each, mapThree}
 use Rattle.protocol.specs.Checks.{weighted}
-use Rattle.protocol.specs.Meanings.{three}
+use Rattle.shared.specs.Meanings.{three}
 use Rattle.protocol.proofs.ProverForms.{columnSum}
 use Rattle.poly.proofs.LentParts.{part-length, filled-within, filled-length, parts-order, of-filled}
 use Rattle.prover.proofs.WitnessLaws.{plus-made}

@@ -8,7 +8,7 @@ use Rattle.domain.specs.Polynomial.{Poly}
 use Rattle.protocol.specs.Three.{mapThree}
 use Rattle.protocol.specs.Circuit.{Circuit, publicPart}
 use Rattle.protocol.specs.Messages.{assignment, line}
-use Rattle.protocol.specs.Meanings.{three}
+use Rattle.shared.specs.Meanings.{three}
 use Rattle.protocol.specs.Calls.{ProverInput, circuitOf}
 use Rattle.circuit.specs.Given.{given, proverInput}
 use Rattle.poly.proofs.LentParts.{part-length, filled-within, filled-length, of-filled}

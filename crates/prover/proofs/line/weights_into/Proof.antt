@@ -12,7 +12,7 @@ use Rattle.domain.specs.Domain.{root}
 use Rattle.domain.proofs.SizeLaws.{size-bound}
 use Rattle.protocol.specs.Three.{Three, each, mapThree}
 use Rattle.protocol.specs.Checks.{weighted}
-use Rattle.protocol.specs.Meanings.{three}
+use Rattle.shared.specs.Meanings.{three}
 use Rattle.protocol.proofs.ProverForms.{columnSum}
 use Rattle.poly.proofs.LentParts.{part-length, filled-within, filled-length, of-filled, interpolate-part}
 use Rattle.poly.proofs.WordLists.{replicate-at}

@@ -6,7 +6,7 @@ use lib.Seq.{take-all}
 use lib.ListN.{length, take, length-set}
 use borrow.Author.Needs.{needs}
 use Rattle.algebra.specs.Counting.{All}
-use Rattle.protocol.specs.Meanings.{sizes}
+use Rattle.shared.specs.Meanings.{sizes}
 use Rattle.protocol.specs.Record.{startsFrom}
 use Rattle.record.proofs.Starts.{eleven}
 use Rattle.record.proofs.Bounds.{next-bound, bounds-turn}

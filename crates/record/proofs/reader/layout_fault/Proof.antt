@@ -5,9 +5,9 @@ use mathlib.Core.List.{[], _∷_}
 use lib.ListN.{length}
 use borrow.Author.Needs.{needs}
 use borrow.Author.Tests.{not-true, not-false}
-use Rattle.protocol.specs.Meanings.{isFine}
+use Rattle.shared.specs.Meanings.{isFine}
 use Rattle.protocol.specs.Record.{trailerWord, trailerRow}
-use Rattle.protocol.proofs.EarlyReturns.{stops, goes-on, fine-none, last-answer}
+use Rattle.shared.proofs.EarlyReturns.{stops, goes-on, fine-none, last-answer}
 use Rattle.record.specs.Layout.{layoutRefusal}
 use Rattle.record.proofs.Rows.{end-long}
 use Rattle.record.proofs.reader.layout_fault.Statement.{statement}

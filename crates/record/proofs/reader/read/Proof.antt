@@ -3,8 +3,8 @@ use mathlib.Core.List.{[], _∷_}
 use mathlib.Core.Option.{none}
 use mathlib.Core.Path.{_≡_, sym, ap, _∙_}
 use borrow.Author.Needs.{needs}
-use Rattle.protocol.specs.declared.Fault.the-variants as fault
-use Rattle.protocol.specs.Meanings.{faultRefusal}
+use Rattle.shared.specs.declared.Fault.the-variants as fault
+use Rattle.shared.specs.Meanings.{faultRefusal}
 use Rattle.protocol.specs.Refusals.{Done}
 use Rattle.protocol.specs.Record.{wordRow}
 use Rattle.protocol.proofs.Rows.{first-stop, first-pass}

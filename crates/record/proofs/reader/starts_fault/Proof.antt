@@ -11,7 +11,7 @@ use borrow.Author.Needs.{needs}
 use borrow.Author.Tests.{eq-eqb, ne-eqb}
 use Rattle.algebra.specs.Lists.{tabulate}
 use Rattle.algebra.proofs.PolynomialLaws.{length-tabulate, getD-tabulate}
-use Rattle.protocol.specs.Meanings.{sizes}
+use Rattle.shared.specs.Meanings.{sizes}
 use Rattle.protocol.specs.Record.{trailerWord}
 use Rattle.protocol.specs.Refusals.{Refusal, first, refuse, pairs, trailerBytes}
 use Rattle.protocol.proofs.Rows.{Passed, passed-none, passed-turn, passed-stop, passed-end, length-pairs, pairs-at, first-stop, first-pass}

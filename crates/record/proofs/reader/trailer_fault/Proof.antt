@@ -5,10 +5,10 @@ use mathlib.Core.List.{List, [], _∷_}
 use mathlib.Core.Option.{Option}
 use borrow.Author.Needs.{needs}
 use borrow.Author.Tests.{not-true, not-false}
-use Rattle.protocol.specs.Meanings.{faultRefusal, sizes, isFine}
+use Rattle.shared.specs.Meanings.{faultRefusal, sizes, isFine}
 use Rattle.protocol.specs.Record.{sizesRead}
 use Rattle.protocol.specs.Refusals.{Refusal, refuse, sixSizeTests}
-use Rattle.protocol.proofs.EarlyReturns.{stops, goes-on, fine-none, last-answer}
+use Rattle.shared.proofs.EarlyReturns.{stops, goes-on, fine-none, last-answer}
 use Rattle.protocol.proofs.RefusalLaws.{refuse-none}
 use Rattle.record.specs.Layout.{startsRefusal}
 use Rattle.record.proofs.Starts.{trailer-rows}

@@ -6,8 +6,8 @@ use Prim.Native.Nat.{ℕ, _+_, _≤_, _<_}
 use native.Mathlib.Omega.{arith}
 use lib.ListN.{length, getD}
 use borrow.Author.Needs.{needs}
-use Rattle.protocol.specs.declared.Fault.the-variants as fault
-use Rattle.protocol.specs.Meanings.{faultRefusal}
+use Rattle.shared.specs.declared.Fault.the-variants as fault
+use Rattle.shared.specs.Meanings.{faultRefusal}
 use Rattle.protocol.specs.Record.{sectionLengths, sectionBytes, sizesRead}
 use Rattle.protocol.specs.Refusals.{Done}
 use Rattle.record.specs.Layout.{bounds, layoutRefusal}

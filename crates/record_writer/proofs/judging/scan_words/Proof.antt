@@ -5,7 +5,7 @@ use mathlib.Core.Option.{Option}
 use borrow.Author.Needs.{needs}
 use borrow.Author.Tests.{not-true, not-false}
 use Rattle.protocol.specs.Refusals.{Refusal}
-use Rattle.protocol.proofs.EarlyReturns.{stops, goes-on, last-answer}
+use Rattle.shared.proofs.EarlyReturns.{stops, goes-on, last-answer}
 use Rattle.record_writer.specs.Sections.{refuseWords}
 use Rattle.record_writer.proofs.judging.scan_words.Statement.{statement}
 use Rattle.record_writer.proofs.judging.scan_words.Tie as tie

@@ -5,9 +5,9 @@ use mathlib.Core.List.{List, [], _∷_}
 use mathlib.Core.Option.{Option}
 use borrow.Author.Needs.{needs}
 use borrow.Author.Tests.{not-true, not-false}
-use Rattle.protocol.specs.Meanings.{sizes, isFine}
+use Rattle.shared.specs.Meanings.{sizes, isFine}
 use Rattle.protocol.specs.Refusals.{Refusal, sixSizeTests, sizeRefusal}
-use Rattle.protocol.proofs.EarlyReturns.{stops, goes-on, fine-none, last-answer}
+use Rattle.shared.proofs.EarlyReturns.{stops, goes-on, fine-none, last-answer}
 use Rattle.protocol.proofs.RefusalLaws.{refuse-none}
 use Rattle.record_writer.specs.Sections.{lengthRefusals, shapeRefusal}
 use Rattle.record_writer.proofs.judging.shape_fault.Statement.{statement}

@@ -5,7 +5,7 @@ use Prim.Native.Nat.{_≤_}
 use native.Mathlib.Omega.{arith}
 use lib.ListN.{length}
 use borrow.Author.Needs.{needs}
-use Rattle.protocol.specs.Meanings.{sizes}
+use Rattle.shared.specs.Meanings.{sizes}
 use Rattle.protocol.specs.Record.{bytesOf, writeRecord}
 use Rattle.record_writer.proofs.Writing.{record-filled}
 use Rattle.record.proofs.Starts.{eighteen}

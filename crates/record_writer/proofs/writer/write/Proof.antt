@@ -10,9 +10,9 @@ use borrow.Author.Needs.{needs}
 use borrow.Author.Tests.{not-true, not-false}
 use Rattle.field.specs.Prime.{Prime}
 use Rattle.protocol.specs.Circuit.{Sizes}
-use Rattle.protocol.specs.Meanings.{sizes, isFine}
+use Rattle.shared.specs.Meanings.{sizes, isFine}
 use Rattle.protocol.specs.Refusals.{Refusal, wordRefusal}
-use Rattle.protocol.proofs.EarlyReturns.{stops, goes-on, fine-none, last-answer}
+use Rattle.shared.proofs.EarlyReturns.{stops, goes-on, fine-none, last-answer}
 use Rattle.protocol.proofs.Rows.{word-row}
 use Rattle.record_writer.specs.Sections.{joined, eachSection, shapeRefusal}
 use Rattle.record_writer.proofs.Lengths.{Shaped, shaped, few-bytes, room-given, write-refused, write-done}

@@ -3,7 +3,7 @@ use mathlib.Core.Path.{sym, ap, _∙_}
 use mathlib.Core.List.{List}
 use Prim.Native.Nat.{ℕ}
 use Rattle.protocol.specs.Messages.{Messages}
-use Rattle.protocol.specs.Meanings.{messageLengths}
+use Rattle.shared.specs.Meanings.{messageLengths}
 use Rattle.protocol.specs.Calls.{ProverInput}
 use Rattle.circuit.specs.Given.{proverInput}
 use Rattle.poly.proofs.LentParts.{part-order, lent-length, back-holds, back-length, back-is}

@@ -3,7 +3,7 @@ use mathlib.Core.Path.{sym, ap, _∙_}
 use native.Mathlib.Omega.{arith}
 use Rattle.protocol.specs.Checks.{Fails}
 use Rattle.protocol.specs.Session.{Judged}
-use Rattle.protocol.specs.Meanings.{checkOf, verdictMeaning}
+use Rattle.shared.specs.Meanings.{checkOf, verdictMeaning}
 use Rattle.report.specs.ProofText.{answerText}
 use Rattle.report.proofs.PrintedLaws.{printed-as}
 use borrow.Author.Needs.{needs}

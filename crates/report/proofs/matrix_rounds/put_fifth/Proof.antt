@@ -3,7 +3,7 @@ use mathlib.Core.Path.{sym, ap, _∙_}
 use Prim.Native.Nat.{ℕ}
 use native.Mathlib.Omega.{arith}
 use Rattle.protocol.specs.Messages.{Messages}
-use Rattle.protocol.specs.Meanings.{three, messageLengths}
+use Rattle.shared.specs.Meanings.{three, messageLengths}
 use Rattle.protocol.specs.Calls.{ProverInput}
 use Rattle.circuit.specs.Given.{proverInput}
 use Rattle.poly.proofs.LentParts.{lent-length, back-holds, back-length, back-is}

@@ -4,7 +4,7 @@ use mathlib.Core.List.{List}
 use Prim.Native.Nat.{ℕ}
 use Rattle.protocol.specs.Three.{Three}
 use Rattle.protocol.specs.Messages.{Messages}
-use Rattle.protocol.specs.Meanings.{three, messageLengths}
+use Rattle.shared.specs.Meanings.{three, messageLengths}
 use Rattle.protocol.specs.Calls.{ProverInput}
 use Rattle.circuit.specs.Given.{proverInput}
 use Rattle.poly.proofs.LentParts.{part-order, lent-length, back-holds, back-length, back-is}

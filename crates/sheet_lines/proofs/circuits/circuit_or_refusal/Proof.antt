@@ -1,6 +1,6 @@
 -- `sheet_lines::circuits::circuit_or_refusal` meets its contract. Assumes nothing.
 use mathlib.Core.Path.{sym, ap, _∙_}
-use Rattle.protocol.specs.Meanings.{faultRefusal}
+use Rattle.shared.specs.Meanings.{faultRefusal}
 use Rattle.sheet_lines.specs.Lines.{circuitLine}
 use Rattle.sheet_lines.specs.Meanings.{given}
 use borrow.Author.Needs.{needs}

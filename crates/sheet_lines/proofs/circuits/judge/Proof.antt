@@ -5,10 +5,10 @@ use mathlib.Core.Option.{Option}
 use lib.Dec.{leb}
 use borrow.Author.Tests.{not-true, not-false}
 use Rattle.domain.specs.Size.{maxSize}
-use Rattle.protocol.specs.Meanings.{three}
+use Rattle.shared.specs.Meanings.{three}
 use Rattle.protocol.specs.Refusals.{Refusal, listRefusal}
 use Rattle.protocol.specs.Three.{listed}
-use Rattle.protocol.proofs.EarlyReturns.{stops, goes-on, last-answer}
+use Rattle.shared.proofs.EarlyReturns.{stops, goes-on, last-answer}
 use Rattle.sheet_lines.specs.declared.numbers.Request.{Request}
 use Rattle.sheet_lines.specs.Lines.{sheetRefusal}
 use borrow.Author.Needs.{needs}

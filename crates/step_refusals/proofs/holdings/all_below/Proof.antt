@@ -1,5 +1,5 @@
 -- `step_refusals::holdings::all_below` meets its contract. Assumes nothing.
-use Rattle.protocol.proofs.EarlyReturns.{fine-is}
+use Rattle.shared.proofs.EarlyReturns.{fine-is}
 use borrow.Author.Needs.{needs}
 use lib.Dec.{ltb}
 use mathlib.Core.List.{map}

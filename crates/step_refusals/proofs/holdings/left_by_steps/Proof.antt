@@ -5,7 +5,7 @@ use native.Mathlib.Omega.{arith}
 use borrow.Author.Needs.{needs}
 use borrow.Author.Tests.{not-true, not-false}
 use Rattle.domain.proofs.SizeLaws.{size-bound}
-use Rattle.protocol.specs.Meanings.{sizes, transcript}
+use Rattle.shared.specs.Meanings.{sizes, transcript}
 use Rattle.protocol.specs.Session.{transcriptFits, leftBySteps}
 use Rattle.protocol.proofs.AllowedSizes.{allowed}
 use Rattle.step_refusals.proofs.holdings.left_by_steps.Statement.{statement}

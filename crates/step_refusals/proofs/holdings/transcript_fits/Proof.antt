@@ -12,7 +12,7 @@ use Rattle.domain.specs.Size.{isSize}
 use Rattle.domain.specs.Qualifies.{Qualifies}
 use Rattle.protocol.specs.Circuit.{largest}
 use Rattle.protocol.specs.Checks.{listTranscript}
-use Rattle.protocol.specs.Meanings.{sizes, transcript}
+use Rattle.shared.specs.Meanings.{sizes, transcript}
 use Rattle.protocol.specs.Session.{all, allBelow, transcriptFits}
 use Rattle.protocol.proofs.AllowedSizes.{Allowed, allowed, largest-size}
 use Rattle.step_refusals.proofs.holdings.transcript_fits.Statement.{statement}

@@ -3,10 +3,10 @@ use mathlib.Core.Path.{sym, ap, _∙_}
 use mathlib.Core.Bool.{_&&_}
 use borrow.Author.Needs.{needs}
 use borrow.Author.Tests.{eq-eqb, ne-eqb}
-use Rattle.protocol.specs.Meanings.{sizes}
+use Rattle.shared.specs.Meanings.{sizes}
 use Rattle.protocol.specs.Refusals.{sixSizeTests}
 use Rattle.protocol.specs.Session.{all, inTurn}
-use Rattle.protocol.proofs.EarlyReturns.{fine-is}
+use Rattle.shared.proofs.EarlyReturns.{fine-is}
 use Rattle.step_refusals.proofs.refusals.in_turn.Statement.{statement}
 use Rattle.step_refusals.proofs.refusals.in_turn.Tie as tie
 

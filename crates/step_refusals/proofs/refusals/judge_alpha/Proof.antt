@@ -8,11 +8,11 @@ use borrow.Author.Needs.{needs}
 use borrow.Author.Tests.{not-true, not-false}
 use Rattle.field.specs.Prime.{Prime}
 use Rattle.field.specs.Element.{of}
-use Rattle.protocol.specs.Meanings.{sizes, isFine}
+use Rattle.shared.specs.Meanings.{sizes, isFine}
 use Rattle.protocol.specs.Messages.{Messages, lengths}
 use Rattle.protocol.specs.Refusals.{Refusal, first, wordRefusal, challengeRefusal, lengthRefusal}
 use Rattle.protocol.specs.Session.{alphaRefusal}
-use Rattle.protocol.proofs.EarlyReturns.{stops, goes-on}
+use Rattle.shared.proofs.EarlyReturns.{stops, goes-on}
 use Rattle.step_refusals.proofs.Turns.{turn-allowed}
 use Rattle.step_refusals.proofs.refusals.judge_alpha.Statement.{statement}
 use Rattle.step_refusals.proofs.refusals.judge_alpha.Tie as tie

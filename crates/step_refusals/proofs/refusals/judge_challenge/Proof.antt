@@ -10,7 +10,7 @@ use borrow.Author.Tests.{lt-ltb, le-ltb}
 use Rattle.field.specs.Prime.{Prime}
 use Rattle.field.specs.Element.{of}
 use Rattle.protocol.specs.Refusals.{Refusal, wordRefusal, challengeRefusal, lengthRefusal}
-use Rattle.protocol.proofs.EarlyReturns.{fails-first, passes, last-answer}
+use Rattle.shared.proofs.EarlyReturns.{fails-first, passes, last-answer}
 use Rattle.step_refusals.proofs.refusals.judge_challenge.Statement.{statement}
 use Rattle.step_refusals.proofs.refusals.judge_challenge.Tie as tie
 

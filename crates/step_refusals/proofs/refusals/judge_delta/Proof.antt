@@ -6,12 +6,12 @@ use Prim.Native.Nat.{ℕ}
 use borrow.Author.Needs.{needs}
 use borrow.Author.Tests.{not-true, not-false}
 use Rattle.field.specs.Prime.{Prime}
-use Rattle.protocol.specs.Meanings.{sizes, three}
+use Rattle.shared.specs.Meanings.{sizes, three}
 use Rattle.protocol.specs.Messages.{Messages, lengths}
 use Rattle.protocol.specs.Refusals.{Refusal, first, wordRefusal, lengthRefusal}
 use Rattle.protocol.specs.Session.{deltaRefusal}
 use Rattle.protocol.specs.Three.{listed}
-use Rattle.protocol.proofs.EarlyReturns.{stops, goes-on, last-answer}
+use Rattle.shared.proofs.EarlyReturns.{stops, goes-on, last-answer}
 use Rattle.protocol.proofs.Rows.{word-row}
 use Rattle.step_refusals.proofs.refusals.judge_delta.Statement.{statement}
 use Rattle.step_refusals.proofs.refusals.judge_delta.Tie as tie

@@ -6,11 +6,11 @@ use Prim.Native.Nat.{ℕ}
 use borrow.Author.Needs.{needs}
 use borrow.Author.Tests.{not-true, not-false}
 use Rattle.field.specs.Prime.{Prime}
-use Rattle.protocol.specs.Meanings.{three}
+use Rattle.shared.specs.Meanings.{three}
 use Rattle.protocol.specs.Refusals.{Refusal, wordRefusal}
 use Rattle.protocol.specs.Session.{etaRefusal}
 use Rattle.protocol.specs.Three.{listed}
-use Rattle.protocol.proofs.EarlyReturns.{stops, goes-on, last-answer}
+use Rattle.shared.proofs.EarlyReturns.{stops, goes-on, last-answer}
 use Rattle.protocol.proofs.Rows.{word-row}
 use Rattle.step_refusals.proofs.refusals.judge_eta.Statement.{statement}
 use Rattle.step_refusals.proofs.refusals.judge_eta.Tie as tie

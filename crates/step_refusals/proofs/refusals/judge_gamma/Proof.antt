@@ -10,11 +10,11 @@ use Rattle.field.specs.Prime.{Prime}
 use Rattle.field.specs.Element.{of}
 use Rattle.domain.specs.Size.{isSize}
 use Rattle.protocol.specs.Circuit.{largest}
-use Rattle.protocol.specs.Meanings.{sizes, isFine}
+use Rattle.shared.specs.Meanings.{sizes, isFine}
 use Rattle.protocol.specs.Messages.{Messages, lengths}
 use Rattle.protocol.specs.Refusals.{Refusal, first, wordRefusal, challengeRefusal, lengthRefusal}
 use Rattle.protocol.specs.Session.{gammaRefusal}
-use Rattle.protocol.proofs.EarlyReturns.{stops, goes-on}
+use Rattle.shared.proofs.EarlyReturns.{stops, goes-on}
 use Rattle.protocol.proofs.AllowedSizes.{largest-size}
 use Rattle.step_refusals.proofs.Turns.{turn-allowed}
 use Rattle.step_refusals.proofs.refusals.judge_gamma.Statement.{statement}

@@ -7,10 +7,10 @@ use lib.ListN.{length}
 use borrow.Author.Needs.{needs}
 use borrow.Author.Tests.{eq-eqb, ne-eqb, not-true, not-false}
 use Rattle.field.specs.Prime.{Prime}
-use Rattle.protocol.specs.Meanings.{sizes}
+use Rattle.shared.specs.Meanings.{sizes}
 use Rattle.protocol.specs.Refusals.{Refusal, first, sizeRefusal, listRefusal, wordRefusal}
 use Rattle.protocol.specs.Session.{openRefusal}
-use Rattle.protocol.proofs.EarlyReturns.{stops, goes-on, last-answer, fails-first, passes}
+use Rattle.shared.proofs.EarlyReturns.{stops, goes-on, last-answer, fails-first, passes}
 use Rattle.protocol.proofs.Rows.{word-row}
 use Rattle.step_refusals.proofs.refusals.judge_open.Statement.{statement}
 use Rattle.step_refusals.proofs.refusals.judge_open.Tie as tie

@@ -11,10 +11,10 @@ use borrow.Author.Tests.{not-true, not-false}
 use Rattle.field.specs.Prime.{Prime}
 use Rattle.protocol.specs.Checks.{listOpenings}
 use Rattle.protocol.specs.Index.{listIndex}
-use Rattle.protocol.specs.Meanings.{three, indexWords, openings}
+use Rattle.shared.specs.Meanings.{three, indexWords, openings}
 use Rattle.protocol.specs.Refusals.{Refusal, first, refuse, wordRefusal}
 use Rattle.protocol.specs.Three.{listed}
-use Rattle.protocol.proofs.EarlyReturns.{stops, goes-on, last-answer}
+use Rattle.shared.proofs.EarlyReturns.{stops, goes-on, last-answer}
 use Rattle.protocol.proofs.Rows.{first-nested, refuse-append, word-row}
 use Rattle.step_refusals.proofs.refusals.judge_opened.Statement.{statement}
 use Rattle.step_refusals.proofs.refusals.judge_opened.Tie as tie

@@ -7,11 +7,11 @@ use borrow.Author.Needs.{needs}
 use borrow.Author.Tests.{not-true, not-false}
 use Rattle.field.specs.Prime.{Prime}
 use Rattle.protocol.specs.Checks.{listOpenings}
-use Rattle.protocol.specs.Meanings.{sizes, transcript, openings}
+use Rattle.shared.specs.Meanings.{sizes, transcript, openings}
 use Rattle.protocol.specs.Refusals.{Refusal, sixSizeTests, turnRefusal, wordRefusal}
 use Rattle.protocol.specs.Session as steps
 use Rattle.protocol.specs.Session.{inTurn, leftBySteps, openingsRefusal}
-use Rattle.protocol.proofs.EarlyReturns.{fails-first, passes, last-answer}
+use Rattle.shared.proofs.EarlyReturns.{fails-first, passes, last-answer}
 use Rattle.protocol.proofs.Sessions.{in-turn}
 use Rattle.protocol.proofs.RefusalLaws.{all-true}
 use Rattle.step_refusals.proofs.refusals.judge_openings.Statement.{statement}

@@ -7,7 +7,7 @@ use Rattle.domain.specs.BabyBear.{babyBear}
 use Rattle.protocol.specs.Three.{A, B, C, Three}
 use Rattle.protocol.specs.Circuit.{Circuit}
 use Rattle.protocol.specs.Index.{Index}
-use Rattle.protocol.specs.Meanings.{faultRefusal}
+use Rattle.shared.specs.Meanings.{faultRefusal}
 use Rattle.protocol.specs.Calls.{CircuitWords, circuitOf}
 use Rattle.circuit.specs.Given.{given}
 use Rattle.circuit.specs.IndexLists.{twelveLengths}

@@ -7,7 +7,7 @@ use Rattle.domain.specs.BabyBear.{babyBear}
 use Rattle.domain.proofs.Qualification.{babyBear-qualifies, babyBear-modulus}
 use Rattle.protocol.specs.Circuit.{Circuit, sizesOf, largest}
 use Rattle.protocol.specs.Messages.{Messages, lengths}
-use Rattle.protocol.specs.Meanings.{faultRefusal}
+use Rattle.shared.specs.Meanings.{faultRefusal}
 use Rattle.protocol.specs.Calls.{ProverInput, circuitOf, roundRefusal, fifthRoundCall}
 use Rattle.circuit.specs.Given.{given, proverInput}
 use Rattle.varuna.proofs.AnswerLaws.{matched, fill-done}

@@ -9,7 +9,7 @@ use Rattle.domain.proofs.Qualification.{babyBear-qualifies, babyBear-modulus}
 use Rattle.protocol.specs.Three.{A, B, C, each, mapThree}
 use Rattle.protocol.specs.Circuit.{Circuit, sizesOf}
 use Rattle.protocol.specs.Messages.{Messages, lengths, values, matrixRemainder}
-use Rattle.protocol.specs.Meanings.{faultRefusal}
+use Rattle.shared.specs.Meanings.{faultRefusal}
 use Rattle.protocol.specs.Calls.{ProverInput, circuitOf, roundRefusal, fourthRoundCall}
 use Rattle.circuit.specs.Given.{given, proverInput}
 use Rattle.varuna.specs.Inputs.{threeOf}

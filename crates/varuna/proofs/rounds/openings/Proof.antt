@@ -8,7 +8,7 @@ use Rattle.domain.proofs.Qualification.{babyBear-qualifies, babyBear-modulus}
 use Rattle.protocol.specs.Three.{A, B, C}
 use Rattle.protocol.specs.Circuit.{Circuit}
 use Rattle.protocol.specs.Messages.{openings}
-use Rattle.protocol.specs.Meanings.{faultRefusal}
+use Rattle.shared.specs.Meanings.{faultRefusal}
 use Rattle.protocol.specs.Calls.{ProverInput, circuitOf, roundRefusal, openingsCall}
 use Rattle.circuit.specs.Given.{given, proverInput}
 use Rattle.varuna.proofs.AnswerLaws.{matched, done}

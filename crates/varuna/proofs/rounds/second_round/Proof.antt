@@ -9,7 +9,7 @@ use Rattle.domain.proofs.Qualification.{babyBear-qualifies}
 use Rattle.protocol.specs.Three.{A, B, C, mapThree}
 use Rattle.protocol.specs.Circuit.{Circuit}
 use Rattle.protocol.specs.Messages.{sums}
-use Rattle.protocol.specs.Meanings.{faultRefusal}
+use Rattle.shared.specs.Meanings.{faultRefusal}
 use Rattle.protocol.specs.Calls.{ProverInput, circuitOf, roundRefusal, secondRoundCall}
 use Rattle.circuit.specs.Given.{given, proverInput}
 use Rattle.prover.specs.CallGiven.{assignmentIn}

@@ -11,7 +11,7 @@ use Rattle.domain.specs.BabyBear.{babyBear}
 use Rattle.domain.proofs.Qualification.{babyBear-qualifies, babyBear-modulus}
 use Rattle.protocol.specs.Circuit.{Circuit, sizesOf}
 use Rattle.protocol.specs.Messages.{Messages, lengths, lineRemainder, lineQuotient}
-use Rattle.protocol.specs.Meanings.{faultRefusal, three}
+use Rattle.shared.specs.Meanings.{faultRefusal, three}
 use Rattle.protocol.specs.Calls.{ProverInput, circuitOf, roundRefusal, thirdRoundCall}
 use Rattle.circuit.specs.Given.{given, proverInput}
 use Rattle.poly.proofs.LentParts.{part-length, filled-within, filled-length, of-filled}

@@ -1,5 +1,5 @@
 -- `varuna_c::session::varuna_session_eta` meets its contract. Assumes nothing.
-use Rattle.protocol.specs.Meanings.{three}
+use Rattle.shared.specs.Meanings.{three}
 use mathlib.Core.Path.{ap, ap₂, _∙_}
 use Rattle.domain.specs.BabyBear.{babyBear}
 use Rattle.protocol.specs.Three.{Three}

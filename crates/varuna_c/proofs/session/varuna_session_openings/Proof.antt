@@ -4,7 +4,7 @@ use Rattle.domain.specs.BabyBear.{babyBear}
 use Rattle.verifier.specs.Session.{threeAt}
 use Rattle.c_numbers.specs.Answers.{lastAnswered}
 use Rattle.c_numbers.specs.Inputs.{openingsIn}
-use Rattle.protocol.specs.Meanings.{openings}
+use Rattle.shared.specs.Meanings.{openings}
 use Rattle.protocol.specs.Session.{openingsStep}
 use borrow.Author.Needs.{needs}
 use Rattle.varuna_c.proofs.session.varuna_session_openings.Statement.{statement}

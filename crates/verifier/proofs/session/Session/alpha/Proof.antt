@@ -1,7 +1,7 @@
 -- `verifier::session::Session::alpha` meets its contract. Assumes nothing.
 use Rattle.domain.proofs.Qualification.{babyBear-qualifies}
 use Rattle.domain.specs.BabyBear.{babyBear}
-use Rattle.protocol.specs.Meanings.{faultRefusal, sizes}
+use Rattle.shared.specs.Meanings.{faultRefusal, sizes}
 use Rattle.protocol.specs.Session.{alphaRefusal, alphaStep}
 use Rattle.step_refusals.proofs.Turns.{alpha-turn}
 use borrow.Author.Needs.{needs}

@@ -1,6 +1,6 @@
 -- `verifier::session::Session::delta` meets its contract. Assumes nothing.
 use Rattle.domain.specs.BabyBear.{babyBear}
-use Rattle.protocol.specs.Meanings.{faultRefusal, three, sizes}
+use Rattle.shared.specs.Meanings.{faultRefusal, three, sizes}
 use Rattle.protocol.specs.Session.{deltaRefusal, deltaStep}
 use Rattle.step_refusals.proofs.Turns.{delta-turn}
 use borrow.Author.Needs.{needs}

@@ -3,7 +3,7 @@ use mathlib.Core.List.{List}
 use mathlib.Core.Path.{_≡_, ap, ap₂, _∙_}
 use Prim.Native.Nat.{ℕ}
 use Rattle.protocol.specs.Checks.{Transcript}
-use Rattle.protocol.specs.Meanings.{transcript}
+use Rattle.shared.specs.Meanings.{transcript}
 use Rattle.protocol.specs.Session as steps
 use Rattle.protocol.specs.Three.{Three}
 use native.Mathlib.Omega.{arith}

@@ -2,7 +2,7 @@
 use Prim.Native.Nat.{ℕ}
 use Rattle.domain.specs.BabyBear.{babyBear}
 use Rattle.protocol.specs.Checks.{Transcript}
-use Rattle.protocol.specs.Meanings.{faultRefusal, sizes}
+use Rattle.shared.specs.Meanings.{faultRefusal, sizes}
 use Rattle.protocol.specs.Session as steps
 use Rattle.protocol.specs.Session.{Taken, openRefusal, openStep}
 use Rattle.step_refusals.proofs.Turns.{words-fit}

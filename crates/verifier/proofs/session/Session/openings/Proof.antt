@@ -5,7 +5,7 @@ use Rattle.domain.proofs.SizeLaws.{size-bound}
 use Rattle.domain.specs.BabyBear.{babyBear}
 use Rattle.domain.specs.Size.{maxSize}
 use Rattle.protocol.specs.Checks.{Verdict}
-use Rattle.protocol.specs.Meanings.{faultRefusal, sizes, transcript, openings}
+use Rattle.shared.specs.Meanings.{faultRefusal, sizes, transcript, openings}
 use Rattle.protocol.specs.Refusals.{sixSizeTests}
 use Rattle.protocol.specs.Session as steps
 use Rattle.protocol.specs.Session.{Judged, openingsRefusal, openingsStep, verdictOf}

@@ -1,10 +1,10 @@
--- `protocol::six_sizes::largest` meets its contract. Assumes nothing.
+-- `shared::six_sizes::largest` meets its contract. Assumes nothing.
 use borrow.Author.Needs.{needs}
 use mathlib.Core.Path.{ap, _∙_}
 use Prim.Native.Nat.{max}
 use Rattle.protocol.specs.Circuit.{largest}
-use Rattle.protocol.proofs.six_sizes.largest.Statement.{statement}
-use Rattle.protocol.proofs.six_sizes.largest.Tie as tie
+use Rattle.shared.proofs.six_sizes.largest.Statement.{statement}
+use Rattle.shared.proofs.six_sizes.largest.Tie as tie
 
 larger-requires : tie.Need-larger-requires
 larger-requires c κs = search needs

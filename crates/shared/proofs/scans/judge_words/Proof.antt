@@ -1,4 +1,4 @@
--- `protocol::scans::judge_words` meets its contract: the words before i are below p. Assumes nothing.
+-- `shared::scans::judge_words` meets its contract: the words before i are below p. Assumes nothing.
 use borrow.Author.Needs.{needs}
 use borrow.Author.Tests.{lt-ltb, le-ltb}
 use mathlib.Core.Path.{refl, sym, _∙_}
@@ -8,9 +8,9 @@ use Prim.Native.Nat.{ℕ, _-_, _≤_}
 use native.Mathlib.Omega.{arith}
 use lib.Dec.{ltb}
 use lib.ListN.{length, length-map}
 use Rattle.protocol.proofs.Rows.{Passed, passed-none, passed-turn, passed-stop, passed-end, map-at}
-use Rattle.protocol.proofs.scans.judge_words.Statement.{statement}
-use Rattle.protocol.proofs.scans.judge_words.Tie as tie
+use Rattle.shared.proofs.scans.judge_words.Statement.{statement}
+use Rattle.shared.proofs.scans.judge_words.Tie as tie
 
 abbrev tests : ℕ → List ℕ → List Bool
 tests p words = map (λ w. ltb w p) words

@@ -4,23 +4,23 @@ use mathlib.Core.List.{List, []}
 use mathlib.Core.Option.{Option, none, some}
 use Prim.Native.Nat.{ℕ}
 use lib.ListN.{getD}
-use Rattle.protocol.specs.declared.Fault.{Fault}
-use Rattle.protocol.specs.declared.Fault.the-variants as fault
-use Rattle.protocol.specs.declared.Triple.{Triple}
-use Rattle.protocol.specs.declared.Sizes as declared-sizes
-use Rattle.protocol.specs.declared.Transcript as declared-transcript
-use Rattle.protocol.specs.declared.Opened.{Opened}
-use Rattle.protocol.specs.declared.Check as declared-check
-use Rattle.protocol.specs.declared.Check.the-variants as check
-use Rattle.protocol.specs.declared.Verdict as declared-verdict
-use Rattle.protocol.specs.declared.Verdict.the-variants as verdict
-use Rattle.protocol.specs.declared.lengths.Lengths.{Lengths}
+use Rattle.shared.specs.declared.Fault.{Fault}
+use Rattle.shared.specs.declared.Fault.the-variants as fault
+use Rattle.shared.specs.declared.Triple.{Triple}
+use Rattle.shared.specs.declared.Sizes as declared-sizes
+use Rattle.shared.specs.declared.Transcript as declared-transcript
+use Rattle.shared.specs.declared.Opened.{Opened}
+use Rattle.shared.specs.declared.Check as declared-check
+use Rattle.shared.specs.declared.Check.the-variants as check
+use Rattle.shared.specs.declared.Verdict as declared-verdict
+use Rattle.shared.specs.declared.Verdict.the-variants as verdict
+use Rattle.shared.specs.declared.lengths.Lengths.{Lengths}
 use Rattle.protocol.specs.Three.{Three, each}
 use Rattle.protocol.specs.Circuit.{Sizes}
 use Rattle.protocol.specs.Index.{Index}
 use Rattle.protocol.specs.Checks.{Transcript, Openings, Check, Row, Line, Matrix, Verdict, Accept, Fails}
 use Rattle.protocol.specs.Messages.{Messages}
 use Rattle.protocol.specs.Refusals.{Refusal}
 
 abbrev pub faultRefusal : Fault → Option Refusal
 faultRefusal fault.Fine = none

@@ -1,11 +1,11 @@
--- `protocol::six_sizes::judge_sizes` meets its contract. Assumes nothing.
+-- `shared::six_sizes::judge_sizes` meets its contract. Assumes nothing.
 use borrow.Author.Needs.{needs}
 use mathlib.Core.Path.{_≡_, ap, _∙_}
 use mathlib.Core.Bool.{Bool}
 use mathlib.Core.List.{List, [], _∷_}
 use Rattle.protocol.specs.Refusals.{refuse, sizeTests, sixSizeTests}
-use Rattle.protocol.proofs.six_sizes.judge_sizes.Statement.{statement}
-use Rattle.protocol.proofs.six_sizes.judge_sizes.Tie as tie
+use Rattle.shared.proofs.six_sizes.judge_sizes.Statement.{statement}
+use Rattle.shared.proofs.six_sizes.judge_sizes.Tie as tie
 
 -- six tests that are equal one by one
 same-tests : {r c x k l m r′ c′ x′ k′ l′ m′ : Bool} → r ≡ r′ → c ≡ c′ → x ≡ x′ → k ≡ k′ → l ≡ l′ → m ≡ m′

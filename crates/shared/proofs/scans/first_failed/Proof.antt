@@ -1,4 +1,4 @@
--- `protocol::scans::first_failed` meets its contract: the tests before i passed. Assumes nothing.
+-- `shared::scans::first_failed` meets its contract: the tests before i passed. Assumes nothing.
 use borrow.Author.Needs.{needs}
 use borrow.Author.Tests.{not-true, not-false}
 use mathlib.Core.Path.{refl, sym}
@@ -6,9 +6,9 @@ use mathlib.Core.Bool.{false}
 use Prim.Native.Nat.{_-_, _≤_}
 use native.Mathlib.Omega.{arith}
 use lib.ListN.{length}
 use Rattle.protocol.proofs.Rows.{Passed, passed-none, passed-turn, passed-stop, passed-end}
-use Rattle.protocol.proofs.scans.first_failed.Statement.{statement}
-use Rattle.protocol.proofs.scans.first_failed.Tie as tie
+use Rattle.shared.proofs.scans.first_failed.Statement.{statement}
+use Rattle.shared.proofs.scans.first_failed.Tie as tie
 
 abbrev Inv-loop : tie.InvT-loop
 Inv-loop number position tests i₀ i = (i ≤ length tests) × Passed number position tests i

@@ -1,8 +1,8 @@
 // The column "Length" of document 01's table of messages, for any six sizes: the one place of the code where it stands.
 ghost use mathlib.Core.Path.{_≡_};
 ghost use Prim.Native.Nat.{_-_, _<_};
 ghost use Rattle.protocol.specs.Messages.{lengths};
-ghost use Rattle.protocol.specs.Meanings.{sizes, messageLengths};
+ghost use Rattle.shared.specs.Meanings.{sizes, messageLengths};
 use crate::Sizes;
 use crate::six_sizes::largest;
 

@@ -3,8 +3,8 @@ ghost use mathlib.Core.Path.{_≡_};
 ghost use mathlib.Core.List.{map};
 ghost use Prim.Native.Nat.{_<_, _^_};
 ghost use lib.Dec.{ltb};
 ghost use Rattle.protocol.specs.Refusals.{refuse};
-ghost use Rattle.protocol.specs.Meanings.{faultRefusal};
+ghost use Rattle.shared.specs.Meanings.{faultRefusal};
 use crate::Fault;
 
 // The first test that fails.

@@ -1,10 +1,10 @@
--- `protocol::six_sizes::is_public_size` meets its contract. Assumes nothing.
+-- `shared::six_sizes::is_public_size` meets its contract. Assumes nothing.
 use mathlib.Core.Bool.{true, false}
 use mathlib.Core.Path.{_≡_, sym, _∙_}
 use borrow.Author.Needs.{needs}
 use Rattle.domain.specs.Size.{isSize}
-use Rattle.protocol.proofs.six_sizes.is_public_size.Statement.{statement}
-use Rattle.protocol.proofs.six_sizes.is_public_size.Tie as tie
+use Rattle.shared.proofs.six_sizes.is_public_size.Statement.{statement}
+use Rattle.shared.proofs.six_sizes.is_public_size.Tie as tie
 
 is-size-requires : tie.Need-is-size-requires
 is-size-requires c κs = search needs

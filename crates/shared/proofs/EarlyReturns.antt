@@ -6,13 +6,13 @@ use mathlib.Core.List.{List, [], _∷_, _++_}
 use mathlib.Core.Option.{Option, none, some}
 use Prim.Native.Nat.{ℕ, suc}
 use native.Mathlib.Omega.{arith}
-use Rattle.protocol.specs.declared.Fault.{Fault}
-use Rattle.protocol.specs.declared.Fault.the-variants as fault
-use Rattle.protocol.specs.Meanings.{faultRefusal, isFine}
+use Rattle.shared.specs.declared.Fault.{Fault}
+use Rattle.shared.specs.declared.Fault.the-variants as fault
+use Rattle.shared.specs.Meanings.{faultRefusal, isFine}
 use Rattle.protocol.specs.Refusals.{Refusal, first, refuse}
 use Rattle.protocol.specs.Session.{all}
 use Rattle.protocol.proofs.RefusalLaws.{refuse-none, all-true}
 use Rattle.protocol.proofs.Rows.{first-only, first-front}
 
 -- an answer that refuses is the first refusal; after one that does not, the first is among the others
 module _ (f : Fault) {o : Option Refusal} (says : faultRefusal f ≡ o) where

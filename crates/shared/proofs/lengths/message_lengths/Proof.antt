@@ -1,10 +1,10 @@
--- `protocol::lengths::message_lengths` meets its contract: each length by the call that gives it. Assumes nothing.
+-- `shared::lengths::message_lengths` meets its contract: each length by the call that gives it. Assumes nothing.
 use mathlib.Core.Path.{ap, _∙_}
 use Prim.Native.Nat.{_+_, _-_, _*_}
 use borrow.Author.Needs.{needs}
 use Rattle.protocol.specs.Messages.{lengths}
-use Rattle.protocol.proofs.lengths.message_lengths.Statement.{statement}
-use Rattle.protocol.proofs.lengths.message_lengths.Tie as tie
+use Rattle.shared.proofs.lengths.message_lengths.Statement.{statement}
+use Rattle.shared.proofs.lengths.message_lengths.Tie as tie
 
 wide-requires : tie.Need-wide-requires
 wide-requires c κs = search needs
