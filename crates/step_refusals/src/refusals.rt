@@ -2,19 +2,20 @@
 // sizes are allowed.
 ghost use mathlib.Core.Path.{_≡_};
 ghost use mathlib.Core.Bool.{true};
-ghost use mathlib.Core.List.{[], _∷_, map};
+ghost use mathlib.Core.List.{map};
 ghost use Prim.Native.Nat.{_<_};
 ghost use lib.Dec.{ltb};
 ghost use lib.ListN.{length};
 ghost use Rattle.field.specs.Prime.{Prime};
-ghost use Rattle.field.specs.Element.{of};
 ghost use Rattle.domain.specs.Size.{isSize, maxSize};
 ghost use Rattle.domain.specs.Qualifies.{Qualifies};
 ghost use Rattle.protocol.specs.Index.{listIndex};
 ghost use Rattle.protocol.specs.Checks.{listOpenings};
-ghost use Rattle.protocol.specs.Refusals.{first, refuse, turnRefusal, wordRefusal, challengeRefusal, lengthRefusal};
+ghost use Rattle.protocol.specs.Refusals.{refuse, turnRefusal, wordRefusal, lengthRefusal};
+ghost use Rattle.protocol.proofs.AllowedSizes.{Allowed};
 ghost use Rattle.protocol.specs.Session.{inTurn, openRefusal, alphaRefusal, etaRefusal, betaRefusal, deltaRefusal, gammaRefusal, openingsRefusal};
 ghost use Rattle.shared.specs.Meanings.{faultRefusal, three, sizes, transcript, indexWords, openings};
+ghost use Rattle.step_refusals.specs.ChallengeStep.{challengeStep};
 use crate::holdings::left_by_steps;
 use shared::Fault;
 use shared::Opened;
@@ -63,9 +64,13 @@ fn judge_lengths(declared: &[u32], most: &[usize]) -> Fault
     Fault::Fine
 }
 
-// 6, 10 and 11 of a step with a challenge: y is no field word, or lies in the domain of size n; a declared length is above the table's.
+// 1, 6, 10 and 11 of a step with a challenge, the one after the first `taken`: it is out of turn; y is no field word, or lies in the domain
+// of size n; a declared length is above the table's.
 fn judge_challenge(
     p: u32,
+    taken: u32,
+    stage: u32,
+    s: Sizes,
     position: usize,
     n: u32,
     y: u32,
@@ -73,13 +78,15 @@ fn judge_challenge(
     most: &[usize],
 ) -> Fault
     requires { ⌜ 1 < p ⌝ }
-    requires { ⌜ isSize n ≡ true ⌝ }
+    requires { ⌜ (Allowed (sizes s) → isSize n ≡ true) ⌝ }
     requires { ⌜ length (now most) ≡ length (now declared) ⌝ }
     ensures { λ r. ⌜ ((q : Prime) → Qualifies q → q .p ≡ p
-        → faultRefusal r
-        ≡ first (wordRefusal q (y ∷ []) ∷ challengeRefusal {q = q} position (n ∷ []) (of y ∷ [])
-        ∷ lengthRefusal (now (declared .entry)) (now (most .entry)) ∷ [])) ⌝ }
+        → faultRefusal r ≡ challengeStep q taken stage (sizes s) position n y (now (declared .entry)) (now (most .entry))) ⌝ }
 {
+    let turn = judge_turn(taken, stage, s);
+    if !is_fine(turn) {
+        return turn;
+    }
     if p <= y {
         return Fault::Refused(6, 0);
     }
@@ -114,14 +121,10 @@ pub fn judge_alpha(
     requires { ⌜ 1 < p ⌝ }
     ensures { λ r. ⌜ ((q : Prime) → Qualifies q → q .p ≡ p → faultRefusal r ≡ alphaRefusal q stage (sizes s) witness mask quotient alpha) ⌝ }
 {
-    let turn = judge_turn(1, stage, s);
-    if !is_fine(turn) {
-        return turn;
-    }
     let table = message_lengths(s);
     let declared = [witness, mask, quotient];
     let most = [table.witness, table.mask, table.rowQuotient];
-    judge_challenge(p, 0, s.r, alpha, &declared, &most)
+    judge_challenge(p, 1, stage, s, 0, s.r, alpha, &declared, &most)
 }
 
 pub fn judge_eta(p: u32, stage: u32, s: Sizes, sums: Triple, eta: Triple) -> Fault
@@ -139,14 +142,10 @@ pub fn judge_beta(p: u32, stage: u32, s: Sizes, remainder: u32, quotient: u32, b
     requires { ⌜ 1 < p ⌝ }
     ensures { λ r. ⌜ ((q : Prime) → Qualifies q → q .p ≡ p → faultRefusal r ≡ betaRefusal q stage (sizes s) remainder quotient beta) ⌝ }
 {
-    let turn = judge_turn(3, stage, s);
-    if !is_fine(turn) {
-        return turn;
-    }
     let table = message_lengths(s);
     let declared = [remainder, quotient];
     let most = [table.lineRemainder, table.lineQuotient];
-    judge_challenge(p, 1, s.c, beta, &declared, &most)
+    judge_challenge(p, 3, stage, s, 1, s.c, beta, &declared, &most)
 }
 
 pub fn judge_delta(
@@ -178,13 +177,9 @@ pub fn judge_gamma(p: u32, stage: u32, s: Sizes, quotient: u32, gamma: u32) -> F
     requires { ⌜ 1 < p ⌝ }
     ensures { λ r. ⌜ ((q : Prime) → Qualifies q → q .p ≡ p → faultRefusal r ≡ gammaRefusal q stage (sizes s) quotient gamma) ⌝ }
 {
-    let turn = judge_turn(5, stage, s);
-    if !is_fine(turn) {
-        return turn;
-    }
     let declared = [quotient];
     let most = [message_lengths(s).joinedQuotient];
-    judge_challenge(p, 2, largest(s.k), gamma, &declared, &most)
+    judge_challenge(p, 5, stage, s, 2, largest(s.k), gamma, &declared, &most)
 }
 
 // 6, for the four openings of one matrix's index polynomials.

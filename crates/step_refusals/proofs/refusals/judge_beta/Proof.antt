@@ -1,46 +1,12 @@
--- `step_refusals::refusals::judge_beta` meets its contract: the turn, then the challenge and the declared lengths. Assumes nothing.
-use mathlib.Core.Path.{_≡_, refl, sym, ap, _∙_}
-use mathlib.Core.Bool.{true}
-use mathlib.Core.List.{List, [], _∷_}
-use mathlib.Core.Option.{Option}
-use Prim.Native.Nat.{ℕ}
+-- `step_refusals::refusals::judge_beta` meets its contract: the table of lengths, then the rows of a step with a challenge. Assumes nothing.
+use mathlib.Core.Path.{refl, ap, _∙_}
+use mathlib.Core.List.{[], _∷_}
 use borrow.Author.Needs.{needs}
-use borrow.Author.Tests.{not-true, not-false}
-use Rattle.field.specs.Prime.{Prime}
-use Rattle.field.specs.Element.{of}
-use Rattle.shared.specs.Meanings.{sizes, isFine}
-use Rattle.protocol.specs.Messages.{Messages, lengths}
-use Rattle.protocol.specs.Refusals.{Refusal, first, wordRefusal, challengeRefusal, lengthRefusal}
+use Rattle.shared.specs.Meanings.{sizes}
 use Rattle.protocol.specs.Session.{betaRefusal}
-use Rattle.shared.proofs.EarlyReturns.{stops, goes-on}
-use Rattle.step_refusals.proofs.Turns.{turn-allowed}
+use Rattle.step_refusals.specs.ChallengeStep.{challengeStep}
 use Rattle.step_refusals.proofs.refusals.judge_beta.Statement.{statement}
 use Rattle.step_refusals.proofs.refusals.judge_beta.Tie as tie
-
--- the rows after the turn, by the size of the domain and a table of lengths
-module _ (s : tie.Start) where
-  abbrev rowsBy : Prime → ℕ → Messages ℕ ℕ → List (Option Refusal)
-  rowsBy q n l =
-      let a = s .args in
-      wordRefusal q (a .beta ∷ []) ∷ challengeRefusal {q = q} 1 (n ∷ []) (of (a .beta) ∷ []) ∷ lengthRefusal (a .remainder ∷ a .quotient ∷ []) (l .lineRemainder ∷ l .lineQuotient ∷ []) ∷ []
-
-  abbrev rows : Prime → List (Option Refusal)
-  rows q = rowsBy q (s .args .s .c) (lengths (sizes (s .args .s)))
-
-fine : (c : tie.Else1) → isFine (c .before .before .judge-turn .result) ≡ true
-fine c = sym (c .before .is-fine .ensures) ∙ not-false _ (c .if1 .left)
-
-judge-turn-requires : tie.Need-judge-turn-requires
-judge-turn-requires c κs = search needs
-
-is-fine-requires : tie.Need-is-fine-requires
-is-fine-requires c κs = search needs
-
-returns : tie.Need-returns
-unfolding betaRefusal
-returns c q Q e =
-    let j = c .before .before in
-    stops (j .judge-turn .result) (j .judge-turn .ensures) (rows (j .before) q) (sym (c .before .is-fine .ensures) ∙ not-true _ (c .if1 .taken))
 
 message-lengths-requires : tie.Need-message-lengths-requires
 message-lengths-requires c κs = search needs
@@ -52,32 +18,25 @@ slice-aggregate-judge-challenge-2 : tie.Need-slice-aggregate-judge-challenge-2
 slice-aggregate-judge-challenge-2 c = refl
 
 judge-challenge-requires : tie.Need-judge-challenge-requires
-judge-challenge-requires c κs =
-    let d = c .before .before .before in
-    let j = d .before .before in
-    let a = j .before .args in
-    let sized = turn-allowed 3 (a .stage) (sizes (a .s)) (j .judge-turn .result) (j .judge-turn .ensures) (fine d) in
-    (search needs, (sized .C-size, refl))
+judge-challenge-requires c κs = (search needs, ((λ allowed. allowed .C-size), refl))
 
-returns-2 : tie.Need-returns-2
+returns : tie.Need-returns
 unfolding betaRefusal
-returns-2 c q Q e =
-    let l = c .before .before .before in
-    let d = l .before in
-    let j = d .before .before in
-    let s = j .before in
-    goes-on (j .judge-turn .result) (j .judge-turn .ensures) (rows s q) (fine d)
-    (c .judge-challenge .ensures q Q e ∙ ap (λ l. first (rowsBy s q (s .args .s .c) l)) (l .message-lengths .ensures))
+returns c q Q e =
+    let m = c .before .before .before in
+    let a = m .before .args in
+    c .judge-challenge .ensures q Q e
+    ∙ ap
+    (λ l. challengeStep q 3 (a .stage) (sizes (a .s)) 1 (a .s .c) (a .beta) (a .remainder ∷ a .quotient ∷ [])
+    (l .lineRemainder ∷ l .lineQuotient ∷ []))
+    (m .message-lengths .ensures)
 
 pub judge-beta-spec : {M : Type 1} → statement M
 judge-beta-spec =
     tie.close
     (tie.spec
-    judge-turn-requires
-    is-fine-requires
-    returns
     message-lengths-requires
     slice-aggregate-judge-challenge
     slice-aggregate-judge-challenge-2
     judge-challenge-requires
-    returns-2)
+    returns)
