@@ -45,6 +45,7 @@ module _ {q : Prime} (Q : Qualifies q) where
       record {
         public-lagrange =
             lagrange-not-zero (s .|X|) (W .X-size) β (outside-subgroup Q (s .|X|) (s .|C|) (W .X-size) (W .C-size) (W .X-within) β β-outside);
+        X = size-not-zero (s .|X|) (W .X-size);
         C = size-not-zero (s .|C|) (W .C-size);
         K-each = λ M. size-not-zero _ (W .K-size M);
         K-largest = size-not-zero (largest (s .|K|)) K-allowed;
@@ -92,5 +93,6 @@ divisors q Q =
           let allowed-verdict = verdicts-allowed q s o v x-length e in
           verifier-divisors Q (s .sizes) (none-refuse 4 0 (sixSizeTests (s .sizes)) (allowed-verdict .sizes-allowed)) _ _ (allowed-verdict .β-outside) (allowed-verdict .γ-outside);
       prover = prover-divisors Q;
-      index = λ c admitted. rowcol-not-zero Q c (admitted-well-formed q c admitted);
+      indexer = λ c admitted.
+          record { K-each = λ M. size-not-zero _ (K-size c M); rowcol = rowcol-not-zero Q c (admitted-well-formed q c admitted) };
     }

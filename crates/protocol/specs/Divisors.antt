@@ -15,7 +15,7 @@ use Rattle.domain.specs.Polynomial.{eval}
 use Rattle.domain.specs.Qualifies.{Qualifies}
 use Rattle.protocol.specs.Three.{MatrixName, at}
 use Rattle.protocol.specs.Circuit.{Circuit, Sizes, sizesOf, largest}
-use Rattle.protocol.specs.Index as indexer
+use Rattle.protocol.specs.Index.{index}
 use Rattle.protocol.specs.Checks.{Openings, Verdict}
 use Rattle.protocol.specs.Messages.{denominator}
 use Rattle.protocol.specs.Refusals.{Done, Refused, sixSizeTests, sizeRefusal}
@@ -30,7 +30,8 @@ module _ {q : Prime} where
 
   -- the verifier's divisors: six allowed sizes, β outside C and γ outside K
   pub record VerifierDivisors (s : Sizes) (β γ : Elem q) : Type 0 where
-    -- x̂(β) is a sum of L_i(β) over X
+    -- x̂ interpolates on X; its value at β is a sum of L_i(β)
+    pub X : of (s .|X|) ≢ 𝟘 {q = q}
     pub public-lagrange : (i : ℕ) → i < s .|X| → lagrangeDivisor (s .|X|) i β ≢ 𝟘
     -- Line: σ/|C|
     pub C : of (s .|C|) ≢ 𝟘 {q = q}
@@ -40,9 +41,9 @@ module _ {q : Prime} where
     pub vanishing-each : (M : MatrixName) → vanishing (at (s .|K|) M) γ ≢ 𝟘
     pub selector : (M : MatrixName) → of (largest (s .|K|)) ⊗ vanishing (at (s .|K|) M) γ ≢ 𝟘
 
-  -- the prover's and the indexer's: a circuit that is let through, α outside R and β outside C
+  -- the prover's: a circuit that is let through, α outside R and β outside C
   pub record ProverDivisors (c : Circuit) (α β : Elem q) : Type 0 where
-    -- interpolation on R, C, X and the K_M; σ/|C|, ω_M/|K_M| and |K_M|/|K|
+    -- interpolation on R, C, X and the K_M; |K_M|/|K|
     pub R : of (c .|R|) ≢ 𝟘 {q = q}
     pub C : of (c .|C|) ≢ 𝟘 {q = q}
     pub X : of (c .|X|) ≢ 𝟘 {q = q}
@@ -54,6 +55,14 @@ module _ {q : Prime} where
     -- a_M/b_M on K_M
     pub denominators :
         (M : MatrixName) (i : ℕ) → i < at (sizesOf c .|K|) M → eval (denominator c α β M) (element (at (sizesOf c .|K|) M) i) ≢ 𝟘
+
+-- the indexer's, and those of the entries read back: no challenge is drawn yet
+pub record IndexDivisors (q : Prime) (c : Circuit) : Type 0 where
+  -- interpolation on K_M
+  pub K-each : (M : MatrixName) → of (at (sizesOf c .|K|) M) ≢ 𝟘 {q = q}
+  -- an entry's value is rowcolval_M/rowcol_M on K_M
+  pub rowcol :
+      (M : MatrixName) (i : ℕ) → i < at (sizesOf c .|K|) M → eval (index c M .rowcol) (element (at (sizesOf c .|K|) M) i) ≢ 𝟘 {q = q}
 
 -- for an outside caller: 6 for a word of p or more, then 12 for 0, else the word whose product with a is 1
 pub record InverseAnswers (q : Prime) : Type 0 where
@@ -72,10 +81,7 @@ pub record Divisors (q : Prime) : Type 0 where
       (s : Session) (o : Openings ℕ) (v : Verdict) → length (s .x) ≡ maxSize → openingsStep q s o .answer ≡ Judged v
       → VerifierDivisors {q = q} (s .sizes) (of (s .transcript .β)) (of (s .transcript .γ))
   pub prover : (c : Circuit) → Admitted q c → (α β : Elem q) → Outside (c .|R|) α → Outside (c .|C|) β → ProverDivisors c α β
-  -- an entry's value read back from the index polynomials: rowcolval_M/rowcol_M on K_M
-  pub index :
-      (c : Circuit) → Admitted q c → (M : MatrixName) (i : ℕ) → i < at (sizesOf c .|K|) M
-      → eval (indexer.index c M .rowcol) (element (at (sizesOf c .|K|) M) i) ≢ 𝟘 {q = q}
+  pub indexer : (c : Circuit) → Admitted q c → IndexDivisors q c
 
 -- for every prime that qualifies
 abbrev pub DivisorsHold : Type 0
