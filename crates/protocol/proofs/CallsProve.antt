@@ -24,7 +24,7 @@ use Rattle.protocol.specs.Admission.{countTests, assignmentTests, circui
 use Rattle.protocol.specs.Calls.{ProverInput, CircuitWords, entriesOf, circuitOf, entryListTests, roundRefusal}
 use Rattle.protocol.specs.Calls.{firstRoundCall, secondRoundCall, thirdRoundCall, fourthRoundCall, fifthRoundCall, openingsCall}
 use Rattle.protocol.specs.Job.{Job, challengeWords, challengePoints, jobRefusal, proof, trueOpenings, conversation, conversationOn, honestConversation}
-use Rattle.protocol.specs.Demand2.{jobOf, CallsDone, CallsGiveProof, CallsAccepted}
+use Rattle.protocol.specs.Demand2.{inputJob, CallsDone, CallsGiveProof, CallsAccepted}
 use Rattle.protocol.proofs.AdmissionLaws.{job-fits}
 use Rattle.protocol.proofs.Honest.{honest-accepted}
 use Rattle.protocol.proofs.RefusalLaws.{first-none, none-first, refuse-none, none-refuse, and-true}
@@ -77,7 +77,7 @@ counts-pass c h =
 
 module _ (q : Prime) (i : ProverInput) (α : ℕ) (η : Three ℕ) (β : ℕ) (δ : Three ℕ) (γ : ℕ) where
   abbrev j : Job
-  j = jobOf q i α η β δ γ
+  j = inputJob q i α η β δ γ
 
   abbrev c : Circuit
   c = j .circuit
@@ -184,4 +184,4 @@ pub calls-accepted : (q : Prime) → Qualifies q → CallsAccepted q
 unfolding conversationOn honestConversation
 calls-accepted q Q i α η β δ γ sent o D =
     let (none-refused, sent-is, opened-is) = calls-give-proof q i α η β δ γ sent o D in
-    ap₂ (conversation q (jobOf q i α η β δ γ)) sent-is opened-is ∙ honest-accepted q Q (jobOf q i α η β δ γ) none-refused
+    ap₂ (conversation q (inputJob q i α η β δ γ)) sent-is opened-is ∙ honest-accepted q Q (inputJob q i α η β δ γ) none-refused

@@ -90,8 +90,8 @@ module _ (q : Prime) where
       → KeepsRules (j .circuit) (map of (j .z)) (of (j .r)) (map of (j .m)) (of (j .α)) (mapThree of (j .η)) (of (j .β)) (mapThree of (j .δ)) (proof q j)
 
   -- the job of a prover's input and all challenges
-  abbrev pub jobOf : ProverInput → ℕ → Three ℕ → ℕ → Three ℕ → ℕ → Job
-  jobOf i α η β δ γ =
+  abbrev pub inputJob : ProverInput → ℕ → Three ℕ → ℕ → Three ℕ → ℕ → Job
+  inputJob i α η β δ γ =
       record { circuit = circuitOf (i .circuit); z = i .z; r = i .r; m = i .m; α = α; η = η; β = β; δ = δ; γ = γ }
 
   -- the prover's calls are done, and their results are these messages and openings; a lent slice is as long as its result
@@ -110,7 +110,7 @@ module _ (q : Prime) where
   CallsGiveProof =
       (i : ProverInput) (α : ℕ) (η : Three ℕ) (β : ℕ) (δ : Three ℕ) (γ : ℕ) (sent : Messages (List ℕ) ℕ) (o : Openings ℕ)
       → CallsDone i α η β δ γ sent o
-      → let j : Job = jobOf i α η β δ γ in
+      → let j : Job = inputJob i α η β δ γ in
       (jobRefusal q j ≡ none) × (sent ≡ mapMessages words wordOf (proof q j)) × (o ≡ mapOpenings wordOf (trueOpenings q j (proof q j)))
 
   -- "The index polynomials give back the matrices"
@@ -144,7 +144,7 @@ module _ (q : Prime) where
   abbrev pub CallsAccepted : Type 0
   CallsAccepted =
       (i : ProverInput) (α : ℕ) (η : Three ℕ) (β : ℕ) (δ : Three ℕ) (γ : ℕ) (sent : Messages (List ℕ) ℕ) (o : Openings ℕ)
-      → CallsDone i α η β δ γ sent o → conversation q (jobOf i α η β δ γ) sent o ≡ accepted
+      → CallsDone i α η β δ γ sent o → conversation q (inputJob i α η β δ γ) sent o ≡ accepted
 
   -- what each verdict says, of the equations of the checks
   module _ (s : Sizes) (x : List (Elem q)) (t : Transcript (Elem q)) (o : Openings (Elem q)) where

@@ -16,7 +16,7 @@ use Rattle.protocol.specs.Refusals.{Outcome, Done, Refused}
 use Rattle.protocol.specs.Session.{Answer, Session, Stepped, unopened, openStep, alphaStep, etaStep, betaStep, deltaStep, gammaStep, openingsStep}
 use Rattle.protocol.specs.Calls.{ProverInput, roundRefusal}
 use Rattle.protocol.specs.Job.{Job, challengeWords, challengePoints}
-use Rattle.protocol.specs.Demand2.{jobOf}
+use Rattle.protocol.specs.Demand2.{inputJob}
 use Rattle.shared.specs.Meanings.{three, openings}
 use Rattle.shared.specs.declared.Opened.{Opened}
 use Rattle.varuna.specs.declared.answers.IndexesOpened.{IndexesOpened}
@@ -35,7 +35,7 @@ pub record Free (i : ProverInput) (challenges points : List ℕ) : Type 0 where
 
 -- the job of a prover's input and the challenges drawn
 abbrev pub jobDrawn : ProverInput → Challenges → Job
-jobDrawn i d = jobOf babyBear i (d .alpha) (three (d .eta)) (d .beta) (three (d .delta)) (d .gamma)
+jobDrawn i d = inputJob babyBear i (d .alpha) (three (d .eta)) (d .beta) (three (d .delta)) (d .gamma)
 
 -- its openings are not refused
 abbrev pub FreeJob : ProverInput → Challenges → Type 0
