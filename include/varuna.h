@@ -13,15 +13,15 @@
  *         uint32_t session[VARUNA_SESSION_WORDS], verdict = VARUNA_NO_VERDICT;
  *         size_t position;
  *         const uint32_t sizes[VARUNA_SIZES] = {1, 2, 1, 1, 1, 1};
- *         const uint32_t x[1] = {9};
+ *         const uint32_t x[1] = {1};
  *         const uint32_t sigma[3] = {3, 3, 9}, eta[3] = {1, 1, 2};
- *         const uint32_t omega[3] = {VARUNA_MODULUS - 1, VARUNA_MODULUS - 1, 2}, delta[3] = {1, 1, 1};
+ *         const uint32_t omega[3] = {VARUNA_MODULUS - 1, VARUNA_MODULUS - 1, 18}, delta[3] = {1, 1, 1};
  *         const uint32_t g_lengths[3] = {0, 0, 0};
  *         const uint32_t openings[VARUNA_OPENINGS] = {
- *             7, 19, 7, 4, 0, 0, 0, 0, 0,
+ *             3, 19, 7, 28, 0, 0, 0, 0, 0,
  *             1, VARUNA_MODULUS - 1, VARUNA_MODULUS - 1, VARUNA_MODULUS - 1,
  *             1, VARUNA_MODULUS - 1, VARUNA_MODULUS - 1, VARUNA_MODULUS - 1,
- *             1, 1, 1, 1,
+ *             1, 1, 1, 9,
  *         };
  *
  *         varuna_session_new(session);
@@ -53,8 +53,9 @@
  * WORDS. A field word is below VARUNA_MODULUS. A size is a power of two from 1 to VARUNA_MAX_SIZE, and |X| is at most |C|. A polynomial is
  * its coefficients, the constant first, in exactly the length named; zeros at its end stay. An entry list has three words for each entry,
  * row, column, value: at most 1,024 entries, 3,072 words, rising by row and then by column; a row is below |R|, a column below |C|, a
- * value from 1 to p - 1. Column i is public exactly when i is a multiple of |C|/|X|; x has the words of z there, in order. R, C and K are
- * the domains of sizes |R|, |C| and |K|: element i of the domain of size n is g^i with g = 31^((p-1)/n).
+ * value from 1 to p - 1. Column i is public exactly when i is a multiple of |C|/|X|; x has the words of z there, in order. Column 0 is
+ * the constant: z and x begin with 1. R, C and K are the domains of sizes |R|, |C| and |K|: element i of the domain of size n is g^i with
+ * g = 31^((p-1)/n).
  *
  * MEMORY. A slice is a pointer and its length in elements: words, or bytes for a record. That many elements stand at the pointer. An array
  * parameter with a length in brackets has exactly that length. No pointer is null, also where the length is 0. Pointers to words are
@@ -86,8 +87,8 @@ extern "C" {
 /* The version of what this file declares. The first number rises when a program that used the calls as described here has to change, the
  * second when calls or constants are added, the third when only text, speed or stack change. The archive belongs to the file it came with
  * and holds no version of its own. */
-#define VARUNA_VERSION "2.0.0"
-#define VARUNA_VERSION_MAJOR 2
+#define VARUNA_VERSION "3.0.0"
+#define VARUNA_VERSION_MAJOR 3
 #define VARUNA_VERSION_MINOR 0
 #define VARUNA_VERSION_PATCH 0
 
@@ -149,6 +150,7 @@ extern "C" {
 #define VARUNA_REFUSED_CHALLENGE 10 /* a challenge in its forbidden domain: 0 for alpha, 1 for beta, 2 for gamma */
 #define VARUNA_REFUSED_DECLARED 11  /* a declared length above the table of messages: which one of its step */
 #define VARUNA_REFUSED_INVERSE 12   /* the inverse of 0; position 0 */
+#define VARUNA_REFUSED_CONSTANT 13  /* z or x whose first word is not 1; position 0 */
 
 /* Verdicts, and what stands where there is none: a variable that holds 0 is no Accept. A proof that fails several checks fails the first of
  * row, line, matrix. */
@@ -203,41 +205,41 @@ uint32_t varuna_index(uint32_t rows, uint32_t columns, uint32_t publics, const u
  *
  *     rows, columns, publics              sizes 0 to 2
  *     entries_a, entries_b, entries_c     lists 0 to 2: three words for each entry, at most 3,072
- *     z                                   list 3: |C| words, and every row holds: (A z)(B z) = C z
+ *     z                                   list 3: |C| words; z[0] is 1, and every row holds: (A z)(B z) = C z
  *     r                                   the mask word
  *     m                                   list 4: 2|C| words, whose values add to 0 over C: m[0] + m[|C|] is 0 or p
  *
  * The field words, in order, are the values of the entries of A, B and C, then z, r, m, then the challenges as they stand. Refusals are
- * 4, 5, 6, 7, 8, 9 and, where there are challenges, 10: alpha is outside R, beta outside C, gamma outside K.
+ * 4, 5, 6, 7, 8, 13, 9 and, where there are challenges, 10: alpha is outside R, beta outside C, gamma outside K.
  */
 
-/* Round 1 fills w (list 5, |C| - |X| + 1 words) and h0 (list 6, |R| - 1 words). z has |C| words, m 2|C|. Refusals 4 to 9. */
+/* Round 1 fills w (list 5, |C| - |X| + 1 words) and h0 (list 6, |R| - 1 words). z has |C| words, m 2|C|. Refusals 4 to 8, 13, 9. */
 uint32_t varuna_first_round(uint32_t rows, uint32_t columns, uint32_t publics, const uint32_t *entries_a, size_t entries_a_length,
                             const uint32_t *entries_b, size_t entries_b_length, const uint32_t *entries_c, size_t entries_c_length,
                             const uint32_t *z, size_t z_length, uint32_t r, const uint32_t *m, size_t m_length, uint32_t *w,
                             size_t w_length, uint32_t *h0, size_t h0_length, size_t *position);
 
-/* Round 2 sets sigma, the sums of A, B, C at alpha. z has |C| words, m 2|C|. Refusals 4 to 10. */
+/* Round 2 sets sigma, the sums of A, B, C at alpha. z has |C| words, m 2|C|. Refusals 4 to 8, 13, 9, 10. */
 uint32_t varuna_second_round(uint32_t rows, uint32_t columns, uint32_t publics, const uint32_t *entries_a, size_t entries_a_length,
                              const uint32_t *entries_b, size_t entries_b_length, const uint32_t *entries_c, size_t entries_c_length,
                              const uint32_t *z, size_t z_length, uint32_t r, const uint32_t *m, size_t m_length, uint32_t alpha,
                              uint32_t sigma[3], size_t *position);
 
-/* Round 3 fills g1 (list 5, |C| - 1 words) and h1 (list 6, |C| words). z has |C| words, m 2|C|. Refusals 4 to 10. */
+/* Round 3 fills g1 (list 5, |C| - 1 words) and h1 (list 6, |C| words). z has |C| words, m 2|C|. Refusals 4 to 8, 13, 9, 10. */
 uint32_t varuna_third_round(uint32_t rows, uint32_t columns, uint32_t publics, const uint32_t *entries_a, size_t entries_a_length,
                             const uint32_t *entries_b, size_t entries_b_length, const uint32_t *entries_c, size_t entries_c_length,
                             const uint32_t *z, size_t z_length, uint32_t r, const uint32_t *m, size_t m_length, uint32_t alpha,
                             const uint32_t eta[3], uint32_t *g1, size_t g1_length, uint32_t *h1, size_t h1_length, size_t *position);
 
 /* Round 4 fills ga, gb, gc (lists 5 to 7, |K_A| - 1, |K_B| - 1 and |K_C| - 1 words) and sets omega, the values of A, B, C at alpha and
- * beta. z has |C| words, m 2|C|. Refusals 4 to 10. */
+ * beta. z has |C| words, m 2|C|. Refusals 4 to 8, 13, 9, 10. */
 uint32_t varuna_fourth_round(uint32_t rows, uint32_t columns, uint32_t publics, const uint32_t *entries_a, size_t entries_a_length,
                              const uint32_t *entries_b, size_t entries_b_length, const uint32_t *entries_c, size_t entries_c_length,
                              const uint32_t *z, size_t z_length, uint32_t r, const uint32_t *m, size_t m_length, uint32_t alpha,
                              const uint32_t eta[3], uint32_t beta, uint32_t *ga, size_t ga_length, uint32_t *gb, size_t gb_length,
                              uint32_t *gc, size_t gc_length, uint32_t omega[3], size_t *position);
 
-/* Round 5 fills h2 (list 5, |K| - 1 words). z has |C| words, m 2|C|. Refusals 4 to 10. */
+/* Round 5 fills h2 (list 5, |K| - 1 words). z has |C| words, m 2|C|. Refusals 4 to 8, 13, 9, 10. */
 uint32_t varuna_fifth_round(uint32_t rows, uint32_t columns, uint32_t publics, const uint32_t *entries_a, size_t entries_a_length,
                             const uint32_t *entries_b, size_t entries_b_length, const uint32_t *entries_c, size_t entries_c_length,
                             const uint32_t *z, size_t z_length, uint32_t r, const uint32_t *m, size_t m_length, uint32_t alpha,
@@ -245,7 +247,7 @@ uint32_t varuna_fifth_round(uint32_t rows, uint32_t columns, uint32_t publics, c
                             size_t *position);
 
 /* Sets the 21 openings of the proof and of the index polynomials, in the order that stands at VARUNA_OPENINGS. z has |C| words, m 2|C|.
- * Refusals 4 to 10. */
+ * Refusals 4 to 8, 13, 9, 10. */
 uint32_t varuna_openings(uint32_t rows, uint32_t columns, uint32_t publics, const uint32_t *entries_a, size_t entries_a_length,
                          const uint32_t *entries_b, size_t entries_b_length, const uint32_t *entries_c, size_t entries_c_length,
                          const uint32_t *z, size_t z_length, uint32_t r, const uint32_t *m, size_t m_length, uint32_t alpha,
@@ -257,7 +259,7 @@ uint32_t varuna_openings(uint32_t rows, uint32_t columns, uint32_t publics, cons
  *
  *     0             the stage: how many of the seven steps were taken
  *     1 to 6        the six sizes
- *     7 to 1030     x: the |X| public words, and zeros after them
+ *     7 to 1030     x: the |X| public words, of which the first is 1, and zeros after them
  *     1031 to 1045  the transcript: alpha, three sigma, three eta, beta, three omega, three delta, gamma
  *
  * In a new session all words are 0. Opening leaves stage 1, the sizes, x with zeros after it, and a transcript of zeros, whatever the words
@@ -267,8 +269,8 @@ uint32_t varuna_openings(uint32_t rows, uint32_t columns, uint32_t publics, cons
  *
  * Words that no step made are judged by what they hold. Every step but opening is out of turn (1) unless the stage is the number of the
  * steps before it and the sizes are allowed. The last step is out of turn, too, unless the words are such as steps leave: the public words
- * and the transcript below p, the words of x after the public ones 0, alpha outside R, beta outside C and gamma outside K. So a verdict is
- * given only for sessions that steps can make.
+ * and the transcript below p, the first word of x 1, those after the public ones 0, alpha outside R, beta outside C and gamma outside K.
+ * So a verdict is given only for sessions that steps can make.
  *
  * A declared length is how many words the prover's polynomial has, as its commitment says: at most the length in the table of sections.
  */
@@ -276,7 +278,7 @@ uint32_t varuna_openings(uint32_t rows, uint32_t columns, uint32_t publics, cons
 /* A session before it is opened. Opening needs none: it takes any words. */
 void varuna_session_new(uint32_t session[VARUNA_SESSION_WORDS]);
 
-/* Step 1, the six sizes and the public words x (list 0, |X| words). Refusals 4, 5, 6. */
+/* Step 1, the six sizes and the public words x (list 0, |X| words, the first of which is 1). Refusals 4, 5, 6, 13. */
 uint32_t varuna_session_open(uint32_t session[VARUNA_SESSION_WORDS], const uint32_t sizes[VARUNA_SIZES], const uint32_t *x,
                              size_t x_length, size_t *position);
 

@@ -12,6 +12,9 @@ pub enum Side {
     Second,
 }
 
+/// The numbers of refusals are below this.
+pub const REFUSAL_NUMBERS: usize = 14;
+
 /// The calls that take a circuit.
 #[derive(Clone, Copy, Debug, PartialEq, Eq)]
 pub enum CircuitCall {

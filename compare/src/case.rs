@@ -30,11 +30,13 @@ pub fn lengths(sizes: [u32; 6]) -> [usize; 11] {
     [c - x + 1, 2 * c, r - 1, 3, c - 1, c, 3, a - 1, b - 1, d - 1, k - 1]
 }
 
-/// A case with |K_A| = 1 and other domains of a size or twice it, and the sizes of R, C and K. The assignment is 0, so that
-/// entries are free.
+/// A case with |K_A| = 1 and other domains of a size or twice it, and the sizes of R, C and K. The assignment is 0 after its
+/// first word, and no entry is in column 0, so that entries are free.
 pub fn uneven_case(size: u32) -> (Case, [u32; 3]) {
-    let diagonal = (0..size).flat_map(|row| [row, row, 1]).collect();
-    let mut case = Case::new([size, 2 * size, 1], [Vec::new(), vec![0, 1, 7], diagonal], vec![0; 2 * size as usize]);
+    let diagonal = (0..size).flat_map(|row| [row, size + row, 1]).collect();
+    let mut assignment = vec![0; 2 * size as usize];
+    assignment[0] = 1;
+    let mut case = Case::new([size, 2 * size, 1], [Vec::new(), vec![0, 1, 7], diagonal], assignment);
     case.challenges = [5, 1, 1, 1, 5, 1, 1, 1, 5];
     (case, [size, 2 * size, size])
 }
@@ -52,8 +54,8 @@ impl Case {
 
     /// Document 01's square case.
     pub fn square() -> Case {
-        let entries = [vec![0, 1, 1], vec![0, 1, 1], vec![0, 0, 1]];
-        let mut case = Case::new([1, 2, 1], entries, vec![9, 3]);
+        let entries = [vec![0, 1, 1], vec![0, 1, 1], vec![0, 0, 9]];
+        let mut case = Case::new([1, 2, 1], entries, vec![1, 3]);
         case.mask_word = 1;
         case.mask = vec![1, 0, 2_013_265_920, 1];
         case.challenges = [2, 1, 1, 2, 3, 1, 1, 1, 5];

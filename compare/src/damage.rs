@@ -1,8 +1,9 @@
 //! What can be put wrong in a case: each size, each word of each list, the order of entries, each list's length, each challenge
-//! and the length of each lent slice.
+//! and the length of each lent slice; and faults in every combination.
 
 use crate::case::Case;
 use crate::random::{Random, BOUNDARY_WORDS, NO_SIZES};
+use second::Refusal;
 
 /// One change of a case.
 #[derive(Clone, Copy, Debug)]
@@ -117,6 +118,25 @@ impl Case {
 /// None, one less and one more than a length.
 fn near_lengths(length: usize) -> [usize; 3] {
     [0, length.saturating_sub(1), length + 1]
+}
+
+/// A change, and how an input with it alone is refused.
+pub type Fault<Input> = (Refusal, fn(&mut Input));
+
+/// A good input with every choice of faults, which stand in the order of the table of refusals: the first one made must win.
+pub fn combined<Input: Clone>(good: &Input, faults: &[Fault<Input>]) -> Vec<(Input, Option<Refusal>)> {
+    let with = |chosen: usize| {
+        let mut input = good.clone();
+        let mut first = None;
+        for (place, (refusal, make)) in faults.iter().enumerate() {
+            if chosen >> place & 1 == 1 {
+                make(&mut input);
+                first = first.or(Some(*refusal));
+            }
+        }
+        (input, first)
+    };
+    (0..1 << faults.len()).map(with).collect()
 }
 
 impl Random {

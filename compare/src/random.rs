@@ -103,6 +103,11 @@ impl Random {
         (0..length).map(|_| self.word()).collect()
     }
 
+    /// Public words that an opening takes: the constant 1, then any.
+    pub fn public_words(&mut self, length: usize) -> Vec<u32> {
+        after_constant(length as u32, |_| self.word())
+    }
+
     pub fn three(&mut self) -> [u32; 3] {
         [self.word(), self.word(), self.word()]
     }
@@ -174,7 +179,7 @@ impl Random {
 
     /// An assignment of words, with zeros here and there.
     fn assignment(&mut self, columns: u32) -> Vec<u32> {
-        (0..columns).map(|_| if self.one_in(8) { 0 } else { self.word() }).collect()
+        after_constant(columns, |_| if self.one_in(8) { 0 } else { self.word() })
     }
 
     /// A matrix C with which the assignment satisfies every row: one entry in a row that needs any, or two where there is place,
@@ -234,8 +239,7 @@ impl Random {
     /// that no row needs, so its number must be at least that of the rows with entries of both A and B.
     pub fn case_of_counts(&mut self, sizes: [u32; 3], counts: [usize; 3]) -> Case {
         let [rows, columns, _] = sizes;
-        let assignment: Vec<u32> =
-            (0..columns).map(|column| if column % 4 == 1 { 0 } else { self.nonzero() }).collect();
+        let assignment = after_constant(columns, |column| if column % 4 == 1 { 0 } else { self.nonzero() });
         let [a, b] = [0, 1].map(|matrix| self.matrix(rows, columns, counts[matrix]));
         let [left, right] = [&a, &b].map(|list| row_sums(list, rows, &assignment));
         assert!(counts[2] <= (rows * (columns / 4)) as usize, "too many entries of C for its rows and columns");
@@ -258,7 +262,7 @@ impl Random {
 
     /// A satisfied case with |R| = |C| = size, as many entries in each matrix, and |X| a quarter of it.
     pub fn full_case(&mut self, size: u32) -> Case {
-        let assignment: Vec<u32> = (0..size).map(|_| self.nonzero()).collect();
+        let assignment = after_constant(size, |_| self.nonzero());
         let [a, b] = [(); 2].map(|()| {
             let rows = 0..size;
             rows.flat_map(|row| [row, self.below(u64::from(size)) as u32, self.nonzero()]).collect::<Vec<u32>>()
@@ -289,6 +293,11 @@ impl Random {
         case.challenges = [alpha, eta[0], eta[1], eta[2], beta, delta[0], delta[1], delta[2], gamma];
         case
     }
+}
+
+/// An assignment or its public words: the constant 1 in column 0, then a word for each place after it.
+fn after_constant(length: u32, word: impl FnMut(u32) -> u32) -> Vec<u32> {
+    [1].into_iter().chain((1..length).map(word)).collect()
 }
 
 /// The elements of the domain of a size, in order.

@@ -1,7 +1,7 @@
 //! The steps of a verifier's session, and both sessions side by side: every answer and the whole session, all its words, are
 //! compared after every step.
 
-use crate::calls::{Input, Proof};
+use crate::calls::{Input, Proof, REFUSAL_NUMBERS};
 use crate::case::Case;
 use crate::library;
 use second::{Refusal, Verdict, SESSION_WORDS};
@@ -92,7 +92,7 @@ impl Step {
 #[derive(Debug, Default)]
 pub struct Answers {
     verdicts: [u64; 4],
-    refusals: [u64; 12],
+    refusals: [u64; REFUSAL_NUMBERS],
 }
 
 impl Answers {

@@ -133,7 +133,7 @@ impl<'a> Job<'a> {
         Ok(format!("{text}verdict {verdict}\n"))
     }
 
-    /// The openings, with the checks 6 to 10 over the whole job.
+    /// The openings, with the checks 6 to 8, 13, 9 and 10 over the whole job.
     fn openings(&self) -> Result<[u32; 21], Refusal> {
         prover::openings(
             self.sizes,

@@ -1,4 +1,5 @@
-//! A second implementation of document 01's proof system, made from the document alone.
+//! A second implementation of document 01's proof system, with the requests of document 02, made from
+//! the documents alone.
 //!
 //! Every public call takes its inputs in the order of docs/CALLS.md and gives a complete result or the
 //! first refusal that applies. A lent slice is filled only on success. Groups of a fixed number of

@@ -1,5 +1,5 @@
-//! Refusals: a number and a position. Each row of document 01's table is one function, which gives the
-//! first place at fault.
+//! Refusals: a number and a position. Each row of document 01's table, with the rows that document 02
+//! adds, is one function, which gives the first place at fault.
 
 use crate::circuit::Circuit;
 use crate::domain::{self, Domain};
@@ -100,6 +100,11 @@ pub(crate) fn mask(mask: &[Element], columns: &Domain) -> Result<(), Refusal> {
     let points = columns.elements().iter();
     let total: Element = points.map(|&point| polynomial::value_at(mask, point)).sum();
     refuse_unless(8, total == Element::ZERO)
+}
+
+/// 13, after the mask: a z or x that does not begin with 1, the constant of column 0.
+pub(crate) fn constant(words: &[u32]) -> Result<(), Refusal> {
+    refuse_unless(13, words.first() == Some(&1))
 }
 
 /// 9: an assignment that fails a row.

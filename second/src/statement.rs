@@ -1,5 +1,5 @@
 //! What every prover call begins with: circuit, assignment, mask word and mask polynomial, with
-//! the checks 4 to 10.
+//! the checks 4 to 8, 13, 9 and 10.
 
 use crate::circuit::{self, Circuit};
 use crate::domain::Domain;
@@ -29,7 +29,7 @@ pub(crate) struct Statement {
 }
 
 impl Given<'_> {
-    /// Makes the checks 4 to 10, with the challenges so far and each lent slice's section and length.
+    /// Makes the checks, with the challenges so far and each lent slice's section and length.
     pub fn admit(&self, challenges: &[u32], lent: &[(usize, usize)]) -> Result<Statement, Refusal> {
         refusal::sizes(&self.sizes)?;
         self.check_lists(lent)?;
@@ -43,6 +43,7 @@ impl Given<'_> {
         };
         let circuit = &statement.circuit;
         refusal::mask(&statement.mask, &circuit.columns)?;
+        refusal::constant(self.assignment)?;
         refusal::assignment(circuit, &statement.assignment)?;
         check_points(circuit, challenges)?;
         Ok(statement)

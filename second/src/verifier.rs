@@ -35,6 +35,7 @@ pub fn open(sizes: [u32; 6], public_words: &[u32]) -> Result<Session, Refusal> {
     refusal::sizes(&sizes)?;
     refusal::lists(&[public_words.len() == sizes[2] as usize])?;
     refusal::words(public_words.iter().copied())?;
+    refusal::constant(public_words)?;
     let mut x = [0; X_WORDS];
     x[..public_words.len()].copy_from_slice(public_words);
     Ok(Session { stage: 1, sizes: Sizes(sizes), x, transcript: Transcript::new([0; TRANSCRIPT_WORDS]) })
@@ -115,10 +116,12 @@ impl Session {
     }
 
     /// Whether x and the transcript are such as steps leave, with allowed sizes: the public words and the
-    /// transcript are below p, zeros come after the public words, α is outside R, β outside C, γ outside K.
+    /// transcript are below p, x begins with 1, zeros come after the public words, α is outside R, β outside
+    /// C, γ outside K.
     fn left_by_steps(&self) -> bool {
         let (public_words, rest) = self.public_words();
         let below = refusal::words([public_words, &self.transcript.words()].concat()).is_ok();
+        let constant = refusal::constant(public_words).is_ok();
         let padded = rest.iter().all(|&word| word == 0);
         let Transcript { alpha, beta, gamma, .. } = self.transcript.elements();
         let inside = [
@@ -126,7 +129,7 @@ impl Session {
             self.sizes.columns().contains(beta),
             self.sizes.largest_places().contains(gamma),
         ];
-        below && padded && inside == [false; 3]
+        below && constant && padded && inside == [false; 3]
     }
 
     /// The verdict on what steps leave.

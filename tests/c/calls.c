@@ -51,14 +51,14 @@ static void test_constants(void)
     static const uint32_t refusals[] = {
         VARUNA_DONE,           VARUNA_REFUSED_TURN, VARUNA_REFUSED_END,   VARUNA_REFUSED_TRAILER, VARUNA_REFUSED_SIZE,
         VARUNA_REFUSED_LENGTH, VARUNA_REFUSED_WORD, VARUNA_REFUSED_ENTRY, VARUNA_REFUSED_MASK,    VARUNA_REFUSED_ASSIGNMENT,
-        VARUNA_REFUSED_CHALLENGE, VARUNA_REFUSED_DECLARED, VARUNA_REFUSED_INVERSE,
+        VARUNA_REFUSED_CHALLENGE, VARUNA_REFUSED_DECLARED, VARUNA_REFUSED_INVERSE, VARUNA_REFUSED_CONSTANT,
     };
     static const uint32_t sections[VARUNA_SECTIONS] = {
         VARUNA_SECTION_W, VARUNA_SECTION_M,  VARUNA_SECTION_H0, VARUNA_SECTION_S,  VARUNA_SECTION_G1, VARUNA_SECTION_H1,
         VARUNA_SECTION_O, VARUNA_SECTION_GA, VARUNA_SECTION_GB, VARUNA_SECTION_GC, VARUNA_SECTION_H2,
     };
     char version[20];
-    int in_order = COUNT(refusals) == 13;
+    int in_order = COUNT(refusals) == 14;
     for (uint32_t i = 0; i < COUNT(refusals); i++)
         in_order = in_order && refusals[i] == i;
     test("the numbers of refusals", in_order);
@@ -188,9 +188,9 @@ static const struct job square = {
     .publics = 1,
     .ea = {0, 1, 1},
     .eb = {0, 1, 1},
-    .ec = {0, 0, 1},
+    .ec = {0, 0, 9},
     .ea_length = 3,
-    .z = {9, 3},
+    .z = {1, 3},
     .r = 1,
     .m = {1, 0, P - 1, 1},
     .alpha = 2,
@@ -285,12 +285,29 @@ static void test_job_refusals(enum call call)
     test_job_refusal(call, "a mask", &j, VARUNA_REFUSED_MASK, 0);
     j = square;
     j.z[1] = 4;
-    test_job_refusal(call, "z = 9 4", &j, VARUNA_REFUSED_ASSIGNMENT, 0);
+    test_job_refusal(call, "z = 1 4", &j, VARUNA_REFUSED_ASSIGNMENT, 0);
     if (call == FIRST)
         return;
     j = square;
     j.alpha = 1;
     test_job_refusal(call, "alpha = 1", &j, VARUNA_REFUSED_CHALLENGE, 0);
+}
+
+/* A z that does not begin with 1. The row holds where it is 0 0 or 4 6: 0 times 0 is 9 times 0, and 6 times 6 is 9 times 4. */
+static void test_column_0(enum call call)
+{
+    struct job j = square;
+    j.z[0] = j.z[1] = 0;
+    test_job_refusal(call, "z = 0 0", &j, VARUNA_REFUSED_CONSTANT, 0);
+    j.z[0] = 4;
+    j.z[1] = 6;
+    test_job_refusal(call, "z = 4 6", &j, VARUNA_REFUSED_CONSTANT, 0);
+    j.m[0] = 2;
+    test_job_refusal(call, "a mask before z = 4 6", &j, VARUNA_REFUSED_MASK, 0);
+    j = square;
+    j.z[0] = 4;
+    j.alpha = j.beta = j.gamma = 1;
+    test_job_refusal(call, "z = 4 3 before its row and challenges", &j, VARUNA_REFUSED_CONSTANT, 0);
 }
 
 static void test_later_challenges(void)
@@ -305,7 +322,7 @@ static void test_later_challenges(void)
     test_job_refusal(OPENINGS, "gamma = 1", &j, VARUNA_REFUSED_CHALLENGE, 2);
 }
 
-static const uint32_t expected_openings[VARUNA_OPENINGS] = {7, 19, 7, 4, 0, 0, 0, 0, 0, 1, P - 1, P - 1, P - 1, 1, P - 1, P - 1, P - 1, 1, 1, 1, 1};
+static const uint32_t expected_openings[VARUNA_OPENINGS] = {3, 19, 7, 28, 0, 0, 0, 0, 0, 1, P - 1, P - 1, P - 1, 1, P - 1, P - 1, P - 1, 1, 1, 1, 9};
 
 static void test_jobs(void)
 {
@@ -313,17 +330,19 @@ static void test_jobs(void)
     memset(&found, 0xAB, sizeof found);
     memset(&expected, 0xAB, sizeof expected);
     memcpy(expected.index, expected_openings + 9, sizeof expected.index);
-    memcpy(expected.witness, (uint32_t[]){4, 1}, sizeof expected.witness);
+    memcpy(expected.witness, (uint32_t[]){0, 1}, sizeof expected.witness);
     memcpy(expected.sums, (uint32_t[]){3, 3, 9}, sizeof expected.sums);
     memcpy(expected.line_remainder, (uint32_t[]){7}, sizeof expected.line_remainder);
-    memcpy(expected.line_quotient, (uint32_t[]){1, 1}, sizeof expected.line_quotient);
-    memcpy(expected.values, (uint32_t[]){P - 1, P - 1, 2}, sizeof expected.values);
+    memcpy(expected.line_quotient, (uint32_t[]){1, 9}, sizeof expected.line_quotient);
+    memcpy(expected.values, (uint32_t[]){P - 1, P - 1, 18}, sizeof expected.values);
     memcpy(expected.openings, expected_openings, sizeof expected.openings);
     for (enum call call = INDEX; call < CALLS; call++) {
         size_t position = NOWHERE;
         uint32_t number = run(call, &square, &found, &position);
         test(call_names[call], is_done(number, position));
         test_job_refusals(call);
+        if (call != INDEX)
+            test_column_0(call);
     }
     test("the words of index, rounds and openings", memcmp(&found, &expected, sizeof found) == 0);
     test_later_challenges();
@@ -332,7 +351,7 @@ static void test_jobs(void)
 /* The session. */
 
 static const uint32_t square_sizes[VARUNA_SIZES] = {1, 2, 1, 1, 1, 1};
-static const uint32_t square_x[1] = {9};
+static const uint32_t square_x[1] = {1};
 
 /* What the prover says, step by step, and the challenges; a test changes one word. */
 struct conversation {
@@ -341,7 +360,7 @@ struct conversation {
 
 static struct conversation honest(void)
 {
-    struct conversation t = {2, {3, 3, 9}, {1, 1, 2}, 3, {P - 1, P - 1, 2}, {0, 0, 0}, {1, 1, 1}, 5, {0}};
+    struct conversation t = {2, {3, 3, 9}, {1, 1, 2}, 3, {P - 1, P - 1, 18}, {0, 0, 0}, {1, 1, 1}, 5, {0}};
     memcpy(t.openings, expected_openings, sizeof t.openings);
     return t;
 }
@@ -469,11 +488,12 @@ static void test_opening(void)
 {
     const uint32_t wrong_sizes[VARUNA_SIZES] = {1, 2, 4, 1, 1, 1};
     const uint32_t wrong_x[2] = {P, 0};
+    const uint32_t not_one[] = {0, 2};
     uint32_t session[VARUNA_SESSION_WORDS], kept[VARUNA_SESSION_WORDS];
     size_t position = NOWHERE;
     int reached = reach(GAMMA, session);
     memcpy(kept, session, sizeof kept);
-    uint32_t number = varuna_session_open(session, wrong_sizes, square_x, 1, &position);
+    uint32_t number = varuna_session_open(session, wrong_sizes, not_one, 1, &position);
     test("session open refuses |X| above |C|", reached && is_refused(number, position, VARUNA_REFUSED_SIZE, 2) &&
              same(session, kept, VARUNA_SESSION_WORDS));
     number = varuna_session_open(session, square_sizes, wrong_x, 2, &position);
@@ -481,6 +501,13 @@ static void test_opening(void)
              same(session, kept, VARUNA_SESSION_WORDS));
     number = varuna_session_open(session, square_sizes, wrong_x, 1, &position);
     test("session open refuses word p", is_refused(number, position, VARUNA_REFUSED_WORD, 0) && same(session, kept, VARUNA_SESSION_WORDS));
+    for (size_t i = 0; i < COUNT(not_one); i++) {
+        char name[80];
+        position = NOWHERE;
+        number = varuna_session_open(session, square_sizes, not_one + i, 1, &position);
+        snprintf(name, sizeof name, "session open refuses x = %u", (unsigned)not_one[i]);
+        test(name, is_refused(number, position, VARUNA_REFUSED_CONSTANT, 0) && same(session, kept, VARUNA_SESSION_WORDS));
+    }
 }
 
 static void test_declared_lengths(void)
@@ -510,9 +537,9 @@ enum { X = 7, TRANSCRIPT = 1031 };
 /* A session's words: the stage, the sizes, x with zeros after it, and the transcript. */
 static void test_session_words(void)
 {
-    static const uint32_t transcript[15] = {2, 3, 3, 9, 1, 1, 2, 3, P - 1, P - 1, 2, 1, 1, 1, 5};
+    static const uint32_t transcript[15] = {2, 3, 3, 9, 1, 1, 2, 3, P - 1, P - 1, 18, 1, 1, 1, 5};
     static const uint32_t zeros[VARUNA_SESSION_WORDS];
-    uint32_t session[VARUNA_SESSION_WORDS], opened[VARUNA_SESSION_WORDS] = {1, 1, 2, 1, 1, 1, 1, 9};
+    uint32_t session[VARUNA_SESSION_WORDS], opened[VARUNA_SESSION_WORDS] = {1, 1, 2, 1, 1, 1, 1, 1};
     size_t position = NOWHERE;
     memset(session, 0xAB, sizeof session);
     uint32_t number = varuna_session_open(session, square_sizes, square_x, 1, &position);
@@ -538,6 +565,8 @@ static void test_forged_sessions(void)
         {"alpha inside R", TRANSCRIPT, 1},
         {"a sum of p", TRANSCRIPT + 3, P},
         {"a public word of p", X, P},
+        {"a first public word of 0", X, 0},
+        {"a first public word of 2", X, 2},
         {"a word after the public ones", X + 1, 1},
         {"a last word of x", TRANSCRIPT - 1, 1},
         {"a size", 4, 3},
@@ -562,7 +591,7 @@ static void test_forged_sessions(void)
 
 #define RECORD_BYTES 132
 
-static const uint32_t w[2] = {4, 1}, m[4] = {1, 0, P - 1, 1}, sums[3] = {3, 3, 9}, g1[1] = {7}, h1[2] = {1, 1}, values[3] = {P - 1, P - 1, 2};
+static const uint32_t w[2] = {0, 1}, m[4] = {1, 0, P - 1, 1}, sums[3] = {3, 3, 9}, g1[1] = {7}, h1[2] = {1, 9}, values[3] = {P - 1, P - 1, 18};
 
 static uint32_t write(const uint32_t *sizes, const uint32_t *first, uint8_t *bytes, size_t length, size_t *position)
 {
@@ -588,10 +617,10 @@ static uint32_t word_of(const uint8_t *bytes, size_t i)
 
 static void test_writing(uint8_t *bytes)
 {
-    static const uint32_t expected[RECORD_BYTES / 4] = {4,  1,  1,  0,  P - 1, 1, 3, 3, 9, 7, 1, 1, P - 1, P - 1, 2, 0, 8,
+    static const uint32_t expected[RECORD_BYTES / 4] = {0,  1,  1,  0,  P - 1, 1, 3, 3, 9, 7, 1, 9, P - 1, P - 1, 18, 0, 8,
                                                         24, 24, 36, 40, 48,    60, 60, 60, 60, 1, 2, 1, 1,     1,     1, 60};
     const uint32_t wrong_sizes[VARUNA_SIZES] = {1, 2, 1, 1, 3, 1};
-    const uint32_t wrong_w[2] = {4, P};
+    const uint32_t wrong_w[2] = {0, P};
     size_t position = NOWHERE;
     test("write_record refuses a size", refuses_write(wrong_sizes, w, RECORD_BYTES, VARUNA_REFUSED_SIZE, 4));
     test("write_record refuses a length", refuses_write(square_sizes, w, RECORD_BYTES - 4, VARUNA_REFUSED_LENGTH, 11));

@@ -10,15 +10,15 @@ static int accepts()
     uint32_t session[VARUNA_SESSION_WORDS], verdict = VARUNA_NO_VERDICT;
     size_t position;
     const uint32_t sizes[VARUNA_SIZES] = {1, 2, 1, 1, 1, 1};
-    const uint32_t x[1] = {9};
+    const uint32_t x[1] = {1};
     const uint32_t sigma[3] = {3, 3, 9}, eta[3] = {1, 1, 2};
-    const uint32_t omega[3] = {VARUNA_MODULUS - 1, VARUNA_MODULUS - 1, 2}, delta[3] = {1, 1, 1};
+    const uint32_t omega[3] = {VARUNA_MODULUS - 1, VARUNA_MODULUS - 1, 18}, delta[3] = {1, 1, 1};
     const uint32_t g_lengths[3] = {0, 0, 0};
     const uint32_t openings[VARUNA_OPENINGS] = {
-        7, 19, 7, 4, 0, 0, 0, 0, 0,
+        3, 19, 7, 28, 0, 0, 0, 0, 0,
         1, VARUNA_MODULUS - 1, VARUNA_MODULUS - 1, VARUNA_MODULUS - 1,
         1, VARUNA_MODULUS - 1, VARUNA_MODULUS - 1, VARUNA_MODULUS - 1,
-        1, 1, 1, 1,
+        1, 1, 1, 9,
     };
 
     varuna_session_new(session);

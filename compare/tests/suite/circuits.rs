@@ -1,7 +1,8 @@
 //! The indexer, the five rounds and the openings on seeded circuits, good and damaged.
 
-use compare::calls::{compare_circuit, proof_of, Outcome};
+use compare::calls::{compare_circuit, proof_of, Outcome, REFUSAL_NUMBERS};
 use compare::case::{uneven_case, Case, ALPHA, BETA, GAMMA};
+use compare::damage::{combined, Fault};
 use compare::random::{count, elements, Compared, Random, SIZES};
 use compare::steps::{Answers, Pair, Step};
 use second::{Refusal, Verdict};
@@ -123,15 +124,12 @@ fn empty_and_uneven_matrices() {
         compare_good(&random.case_of(sizes, 0));
     }
     for empty in 0..3 {
-        let [mut a, mut b] = [vec![0, 1, 5, 1, 2, 7, 2, 3, 9], vec![0, 0, 3, 3, 3, 2]];
-        let assignment = if empty == 2 { vec![0; 4] } else { random.words(4) };
-        match empty {
-            0 => a.clear(),
-            1 => b.clear(),
-            _ => (),
-        }
         let mut case = random.case_of([4, 4, 2], 16);
-        (case.entries, case.assignment) = ([a, b, Vec::new()], assignment);
+        case.entries = [vec![0, 1, 5, 1, 2, 7, 2, 3, 9], vec![0, 0, 3, 3, 3, 2], Vec::new()];
+        match empty {
+            2 => case.assignment[1] = 0, // A's column in row 0, the only row with entries of both A and B
+            _ => case.entries[empty].clear(),
+        }
         case.lend_again();
         compare_good(&case);
     }
@@ -175,7 +173,7 @@ fn damaged_everywhere() {
 #[test]
 fn damaged_in_several_places() {
     let mut random = Random::new(16);
-    let mut seen = [0; 12];
+    let mut seen = [0; REFUSAL_NUMBERS];
     for _ in 0..count(4_000) {
         let case = random.case(3);
         let outcomes = compare_circuit(&random.damaged_case(&case));
@@ -183,7 +181,38 @@ fn damaged_in_several_places() {
             seen[number as usize] += 1;
         }
     }
-    assert!((4..=10).all(|number| seen[number] > 50), "too few refusals of some number: {seen:?}");
+    assert!((4..=10).chain([13]).all(|number| seen[number] > 50), "too few refusals of some number: {seen:?}");
+}
+
+/// The mask, the first word of z, a row and a challenge at fault, in every combination: the first down the table must win.
+#[test]
+fn faults_around_the_constant() {
+    let refusal = |number| Refusal { number, position: 0 };
+    let faults: [Fault<Case>; 4] = [
+        (refusal(8), |case| case.mask[0] = 2),
+        (refusal(13), |case| case.assignment = vec![4, 6]), // the row holds: 6 times 6 is 9 times 4
+        (refusal(9), |case| case.assignment[1] = 5),
+        (refusal(10), |case| case.challenges[ALPHA] = 1),
+    ];
+    for (case, first) in combined(&Case::square(), &faults) {
+        let before_alpha = first.filter(|refusal| refusal.number != 10);
+        let answers = compare_circuit(&case).map(|outcome| outcome.answer.err());
+        assert_eq!(answers, [None, before_alpha, first, first, first, first, first], "{case}");
+    }
+}
+
+/// An assignment of zeros satisfies every row of every circuit, and no round takes it.
+#[test]
+fn zeros() {
+    let mut random = Random::new(21);
+    let mut compared = Compared::default();
+    for _ in 0..count(200) {
+        let mut case = random.case(4);
+        case.assignment.fill(0);
+        let [index, rounds @ ..] = refusals(&compare_circuit(&case));
+        assert_eq!((index, rounds), (None, [Some((13, 0)); 6]), "{case}");
+        compared.one();
+    }
 }
 
 #[test]
@@ -206,14 +235,14 @@ fn damaged_large_circuits() {
 #[test]
 fn entry_limit() {
     let mut random = Random::new(18);
-    let full: Vec<u32> = (0..1024).flat_map(|place| [place / 32, place % 32, 1 + place]).collect();
+    let full: Vec<u32> = (0..1024).flat_map(|place| [place / 32, 32 + place % 32, 1 + place]).collect();
     for matrix in 0..3 {
-        let mut case = random.case_of([32, 32, 8], 0);
+        let mut case = random.case_of([32, 64, 8], 0);
         case.entries[matrix] = full.clone();
-        case.assignment.fill(0);
+        case.assignment[32..].fill(0);
         case.lend_again();
         compare_good(&case);
-        case.entries[matrix].extend([31, 31, 1]);
+        case.entries[matrix].extend([31, 63, 1]);
         let refused = Some((5, matrix));
         assert_eq!(refusals(&compare_circuit(&case)), [refused; 7]);
     }

@@ -22,7 +22,7 @@ fn examples() -> Vec<(String, String, String)> {
 #[test]
 fn examples_print_what_stands_beside_them() {
     let examples = examples();
-    assert!(examples.len() >= 6, "{} examples", examples.len());
+    assert!(examples.len() >= 7, "{} examples", examples.len());
     for (name, text, expected) in examples {
         let packed = jobtext::pack(&text).unwrap_or_else(|error| panic!("{name}: {error}"));
         assert_eq!(second::prove(&packed), expected, "{name}, the second implementation");
@@ -74,7 +74,7 @@ fn records_of_accepted_examples_are_read() {
 fn record_of_the_square_example() {
     let text = fs::read_to_string(folder().join("square.txt")).expect("there is the square case");
     let packed = jobtext::pack(&text).expect("the square case is a job");
-    let sections = [4, 1, 1, 0, second::MODULUS - 1, 1, 3, 3, 9, 7, 1, 1, second::MODULUS - 1, second::MODULUS - 1, 2];
+    let sections = [0, 1, 1, 0, second::MODULUS - 1, 1, 3, 3, 9, 7, 1, 9, second::MODULUS - 1, second::MODULUS - 1, 18];
     let trailer = [0, 8, 24, 24, 36, 40, 48, 60, 60, 60, 60, 1, 2, 1, 1, 1, 1, 60];
     let expected = jobtext::bytes(&[&sections[..], &trailer].concat());
     assert_eq!(expected.len(), 132);

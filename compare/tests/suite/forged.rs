@@ -57,8 +57,8 @@ fn sessions_of_any_words() {
     assert!(taken > 50, "{taken}");
 }
 
-/// One word forged: public words and words of the transcript of p or more, words after x that are not 0, challenges inside their
-/// domains and elements of the next larger ones, other field words, other sizes, and other stages.
+/// One word forged: public words and words of the transcript of p or more, a first public word that is not 1, words after x that
+/// are not 0, challenges inside their domains and elements of the next larger ones, other field words, other sizes, and other stages.
 fn forgeries(random: &mut Random, good: &Words) -> Vec<Words> {
     let [rows, columns, public, a, b, c] = [1, 2, 3, 4, 5, 6].map(|place| good[place]);
     let public_end = PUBLIC_START + public as usize;
@@ -66,6 +66,7 @@ fn forgeries(random: &mut Random, good: &Words) -> Vec<Words> {
     for place in (PUBLIC_START..public_end).chain(TRANSCRIPT_START..SESSION_WORDS) {
         changes.extend([MODULUS, MODULUS + good[place], u32::MAX, random.word()].map(|word| (place, word)));
     }
+    changes.extend([0, 2].map(|word| (PUBLIC_START, word)));
     for place in [public_end, public_end + 1, TRANSCRIPT_START - 1] {
         changes.extend([1, MODULUS, u32::MAX].map(|word| (place, word)));
     }
@@ -99,6 +100,7 @@ fn good_and_bad(good: &[Step; 7]) -> Vec<Step> {
     }
     if let Step::Open(sizes, x) = &good[0] {
         steps.push(Step::Open(*sizes, [&x[..], &[1]].concat()));
+        steps.push(Step::Open(*sizes, [&[2], &x[1..]].concat()));
     }
     steps
 }
@@ -121,7 +123,7 @@ fn small_sessions() {
             }
         }
     }
-    answers.expect(20, &[1, 4, 5, 6, 10, 11]);
+    answers.expect(20, &[1, 4, 5, 6, 10, 11, 13]);
 }
 
 /// A session before its last step, and that step.
@@ -157,6 +159,7 @@ fn forged_at(size: u32, test: u64) {
         let words = *Pair::after(&steps[..6]).ours.words();
         let mut last = Last { words, step: steps[6].clone(), answers };
         let public_end = PUBLIC_START + public as usize;
+        last.expect_out_of_turn([PUBLIC_START].into_iter(), &[0, 2, MODULUS - 1]);
         last.expect_out_of_turn(public_end..TRANSCRIPT_START, &[1, MODULUS]);
         last.expect_out_of_turn(
             (PUBLIC_START..public_end).chain(TRANSCRIPT_START..SESSION_WORDS),
@@ -184,7 +187,8 @@ fn judged(random: &mut Random, last: &mut Last, steps: &[Step; 7], public: usize
     let sums = (SUMS..SUMS + 3).map(|place| (place, row));
     let others = (ETA..ETA + 3).chain(VALUES..VALUES + 3).map(|place| (place, line));
     let deltas = (DELTA..DELTA + 3).map(|place| (place, matrix));
-    let public_words = [0, public / 2, public - 1].map(|place| (PUBLIC_START + place, line));
+    let after_constant = [public / 2, public - 1].into_iter().filter(|&place| place > 0);
+    let public_words = after_constant.map(|place| (PUBLIC_START + place, line));
     for (place, expected) in sums.chain(others).chain(deltas).chain(public_words) {
         let word = random.outside(1024);
         last.expect(&[(place, word)], expected);

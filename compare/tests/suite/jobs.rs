@@ -1,7 +1,7 @@
 //! Jobs through the program `prove` and through the second implementation: the printed text must be the same.
 
 use crate::program;
-use compare::calls::Input;
+use compare::calls::{Input, REFUSAL_NUMBERS};
 use compare::case::{uneven_case, Case};
 use compare::random::{count, elements, Compared, Random, BOUNDARY_WORDS, NO_SIZES};
 use second::MODULUS;
@@ -47,7 +47,7 @@ fn with_words(changes: &[(usize, u32)]) -> String {
 /// Document 01's square case, whole.
 #[test]
 fn square() {
-    let text = "w 4 1\nm 1 0 2013265920 1\nh0\ns 3 3 9\ng1 7\nh1 1 1\no 2013265920 2013265920 2\nga\ngb\ngc\nh2\nverdict accept\n";
+    let text = "w 0 1\nm 1 0 2013265920 1\nh0\ns 3 3 9\ng1 7\nh1 1 9\no 2013265920 2013265920 18\nga\ngb\ngc\nh2\nverdict accept\n";
     assert_eq!(compare_job(&Case::square().job()), text);
 }
 
@@ -66,9 +66,13 @@ fn run_only() {
     let last = |word: u32| with_words(&[(M_START + 3, word)]);
     assert!(accepted(last(MODULUS - 1)));
     assert_eq!(last(MODULUS), "refused 6 9\n");
-    let mut empty = Case::new([1, 1, 1], [Vec::new(), Vec::new(), Vec::new()], vec![7]);
-    empty.challenges = [2, 1, 1, 1, 3, 1, 1, 1, 5];
-    assert!(accepted(compare_job(&empty.job())), "empty matrices of size 1");
+    let empty = |word: u32| {
+        let mut empty = Case::new([1, 1, 1], [Vec::new(), Vec::new(), Vec::new()], vec![word]);
+        empty.challenges = [2, 1, 1, 1, 3, 1, 1, 1, 5];
+        compare_job(&empty.job())
+    };
+    assert!(accepted(empty(1)), "empty matrices of size 1");
+    assert_eq!([empty(0), empty(2)], ["refused 13 0\n"; 2]);
 }
 
 /// Each refusal that a job can have, and each before the ones after it.
@@ -79,6 +83,7 @@ fn refusals_in_order() {
         (BETA, 1, "refused 10 1\n"),
         (ALPHA, 1, "refused 10 0\n"),
         (Z_START + 1, 4, "refused 9 0\n"),
+        (Z_START, 2, "refused 13 0\n"),
         (M_START, 2, "refused 8 0\n"),
         (12, 9, "refused 7 2\n"),
         (9, 9, "refused 7 1\n"),
@@ -147,7 +152,7 @@ fn cut_and_lengthened() {
 
 /// A satisfied case whose job has as many bytes as any.
 fn longest_case() -> Case {
-    let mut case = Case::new([1024, 1, 1], [Vec::new(), Vec::new(), Vec::new()], vec![0]);
+    let mut case = Case::new([1024, 1, 1], [Vec::new(), Vec::new(), Vec::new()], vec![1]);
     case.entries[0] = (0..335).flat_map(|row| [row, 0, row + 1]).collect();
     case.mask = vec![MODULUS - 1, 1];
     case.challenges = [5, 1, 1, 1, 3, 1, 1, 1, 5];
@@ -195,12 +200,17 @@ fn seeded() {
 #[test]
 fn seeded_and_damaged() {
     let mut random = Random::new(52);
-    let mut seen = [0; 12];
+    let mut seen = [0; REFUSAL_NUMBERS];
     for _ in 0..count(2_000) {
         let case = random.case(3);
         let mut words = case.job_words();
+        let z_start = 6 + case.entries.concat().len();
         for _ in 0..=random.below(3) {
-            let place = if random.one_in(3) { random.place(words.len()) } else { words.len() - 1 - random.place(12) };
+            let place = match random.below(12) {
+                0 => z_start,
+                1..=4 => random.place(words.len()),
+                _ => words.len() - 1 - random.place(12),
+            };
             words[place] = random.damaged();
         }
         let mut bytes = jobtext::bytes(&words);
@@ -212,7 +222,7 @@ fn seeded_and_damaged() {
             seen[number.expect("a refusal has a number")] += 1;
         }
     }
-    assert!((4..=10).all(|number| seen[number] > 3), "too few refusals of some number: {seen:?}");
+    assert!((4..=10).chain([13]).all(|number| seen[number] > 3), "too few refusals of some number: {seen:?}");
 }
 
 /// The program's text for a job fed in pieces of these lengths, over and over; it must be that of both sides for the whole job.

@@ -96,7 +96,7 @@ fn entries() {
     }
 }
 
-/// 9 at rows: the value of the entry of C that closes a row is replaced.
+/// 9 at rows: the value of the entry of C that closes a row is replaced. Where z does not begin with 1 either, 13 comes first.
 #[test]
 fn rows() {
     let case = Random::new(93).full_case(1024);
@@ -105,6 +105,8 @@ fn rows() {
         let value = &mut bad.entries[2][3 * row + 2];
         *value = if *value == 1 { 2 } else { 1 };
         expect_refused(&CIRCUIT_CALLS[1..], &bad, 9, row);
+        bad.assignment[0] = 0;
+        expect_refused(&CIRCUIT_CALLS[1..], &bad, 13, 0);
     }
 }
 
@@ -140,7 +142,7 @@ fn challenges_and_lengths_of_sessions() {
         let sizes = [size, size, size / 4, size / 2, 1, size];
         let limits = lengths(sizes).map(|length| length as u32);
         let good = [
-            Step::Open(sizes, random.words(size as usize / 4)),
+            Step::Open(sizes, random.public_words(size as usize / 4)),
             Step::Alpha([limits[0], limits[1], limits[2]], random.outside(size)),
             Step::Eta(random.three(), random.three()),
             Step::Beta([limits[4], limits[5]], random.outside(size)),

@@ -1,10 +1,11 @@
 //! The verifier's session beside the second implementation's: random orders of steps, good and bad words.
 
-use compare::calls::proved;
-use compare::case::lengths;
+use compare::calls::{proved, REFUSAL_NUMBERS};
+use compare::case::{lengths, Case};
+use compare::damage::{combined, Fault};
 use compare::random::{count, elements, Compared, Random, BOUNDARY_WORDS};
 use compare::steps::{Answers, Pair, Step, OUT_OF_TURN};
-use second::{Check, Verdict, MODULUS};
+use second::{Check, Refusal, Verdict, MODULUS};
 
 /// Replaces some words of a step, or gives it another number of public words.
 fn damage(random: &mut Random, step: &mut Step) {
@@ -52,7 +53,7 @@ fn largest_run() {
     let mut pair = Pair::unopened();
     let length = lengths(sizes).map(|length| length as u32);
     let steps = [
-        Step::Open(sizes, random.words(1024)),
+        Step::Open(sizes, random.public_words(1024)),
         Step::Alpha([length[0], length[1], length[2]], random.outside(1024)),
         Step::Eta(random.three(), random.three()),
         Step::Beta([length[4], length[5]], random.outside(1024)),
@@ -68,7 +69,7 @@ fn largest_run() {
 #[test]
 fn damaged_at_every_word() {
     let mut random = Random::new(45);
-    let mut refusals = [0; 12];
+    let mut refusals = [0; REFUSAL_NUMBERS];
     for _ in 0..count(12) {
         let (case, proof) = proved(random.case(3));
         let mut pair = Pair::unopened();
@@ -81,7 +82,31 @@ fn damaged_at_every_word() {
             assert!(pair.take(&step).is_ok());
         }
     }
-    assert!([4, 6, 10, 11].iter().all(|&number| refusals[number] > 20), "{refusals:?}");
+    assert!([4, 6, 10, 11, 13].iter().all(|&number| refusals[number] > 20), "{refusals:?}");
+}
+
+/// A size, the length of x, its second word and its first at fault, in every combination and at every stage: the first down the table
+/// must win, and the session of before stays.
+#[test]
+fn faults_around_the_constant() {
+    type Opening = ([u32; 6], Vec<u32>);
+    let refusal = |number, position| Refusal { number, position };
+    let faults: [Fault<Opening>; 4] = [
+        (refusal(4, 5), |(sizes, _)| sizes[5] = 3),
+        (refusal(5, 0), |(_, x)| x.push(1)),
+        (refusal(6, 1), |(_, x)| x[1] = MODULUS),
+        (refusal(13, 0), |(_, x)| x[0] = 0),
+    ];
+    let (case, proof) = proved(Case::square());
+    let steps = Step::of_proof(&case, &proof);
+    for taken in 0..=7 {
+        for ((sizes, x), first) in combined(&([4, 8, 2, 1, 2, 4], vec![1, 0]), &faults) {
+            let mut pair = Pair::after(&steps[..taken]);
+            let before = *pair.ours.words();
+            assert_eq!(pair.take(&Step::Open(sizes, x)).err(), first);
+            assert_eq!(first.is_some(), *pair.ours.words() == before);
+        }
+    }
 }
 
 /// A step with one word or two replaced, in every way that may matter.
@@ -126,5 +151,5 @@ fn random_orders() {
             answers.add(&pair.take(&step));
         }
     }
-    answers.expect(20, &[1, 4, 5, 6, 10, 11]);
+    answers.expect(20, &[1, 4, 5, 6, 10, 11, 13]);
 }

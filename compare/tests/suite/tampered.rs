@@ -6,7 +6,7 @@ use compare::case::{Case, ALPHA, BETA, GAMMA};
 use compare::library;
 use compare::random::{count, Random};
 use compare::steps::{Answer, Answers, Pair, Step};
-use second::{Check, Verdict};
+use second::{Check, Refusal, Verdict};
 
 /// The entries of A, B and C, for |X| = 1, n/4 and n: every |K_M| from 128 to 1,024, no two alike in a circuit.
 const COUNTS: [[usize; 3]; 3] = [[100, 500, 200], [512, 128, 256], [1024, 150, 300]];
@@ -182,10 +182,14 @@ fn false_words(random: &mut Random, good: &mut Good) {
     good.expect_words(4, &kept, FAILS_MATRIX);
 }
 
-/// Public words replaced: the first, the last and random ones.
+/// Public words replaced: the second, the last and random ones. The first is the constant, and an opening with another is refused.
 fn false_public_words(random: &mut Random, good: &mut Good, public: usize) {
+    let mut opening = good.steps[0].clone();
+    *opening.words()[6] = other(random, 1);
+    assert_eq!(Pair::unopened().take(&opening), Err(Refusal { number: 13, position: 0 }));
     let random_places: Vec<usize> = (0..count(6)).map(|_| random.place(public)).collect();
-    for place in [0, public - 1].into_iter().chain(random_places) {
+    let places = [1, public - 1].into_iter().chain(random_places);
+    for place in places.filter(|place| (1..public).contains(place)) {
         let word = other(random, good.word(0, 6 + place));
         good.expect_words(0, &[(6 + place, word)], FAILS_LINE);
     }

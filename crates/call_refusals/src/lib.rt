@@ -14,6 +14,7 @@ ghost use Rattle.circuit.specs.Judgement.{indexShapeRefusal, shapeRefusal, inde
 use circuit::checks;
 use circuit::matrices;
 use shared::Fault;
+use shared::constant::judge_constant;
 use shared::is_fine;
 
 // 4 and 5 of a circuit: its sizes and its entry lists.
@@ -61,7 +62,8 @@ fn judge_index_contents(p: u32, r: u32, c: u32, ea: &[u32], eb: &[u32], ec: &[u3
     checks::check_three_entries(r, c, ea, eb, ec)
 }
 
-// 6 to 10 of a prover call whose shape is fine. The challenges are all its challenge words, the points those of α, β, γ that it has.
+// 6, 7, 8, 13, 9 and 10 of a prover call whose shape is fine. The challenges are all its challenge words, the points those of α, β, γ that
+// it has.
 fn judge_contents(
     p: u32,
     r: u32,
@@ -93,6 +95,10 @@ fn judge_contents(
     let in_mask = checks::check_mask(p, c, m);
     if !is_fine(in_mask) {
         return in_mask;
+    }
+    let in_constant = judge_constant(z);
+    if !is_fine(in_constant) {
+        return in_constant;
     }
     let in_rows = checks::check_assignment(p, r, ea, eb, ec, z);
     if !is_fine(in_rows) {
@@ -137,7 +143,7 @@ pub fn judge_index(
     judge_index_contents(p, r, c, ea, eb, ec)
 }
 
-// 4 to 10 of a prover call. The challenges are all its challenge words, the points those of α, β, γ that it has.
+// 4 to 8, 13, 9 and 10 of a prover call. The challenges are all its challenge words, the points those of α, β, γ that it has.
 pub fn judge_round(
     p: u32,
     r: u32,

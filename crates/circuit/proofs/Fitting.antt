@@ -18,8 +18,8 @@ use Rattle.protocol.specs.Three.{Three}
 use Rattle.protocol.specs.Circuit.{Circuit, sizesOf, largest}
 use Rattle.protocol.specs.Index.{Index}
 use Rattle.protocol.specs.Refusals.{refuse, pairs, sizeTests}
-use Rattle.protocol.specs.Refusals.{sizeRefusal, listRefusal, wordRefusal, entryRefusal, maskRefusal, assignmentRefusal, challengeRefusal}
-use Rattle.protocol.specs.Admission.{Admitted, assignmentTests, countTests, entryValues, circuitRefusals}
+use Rattle.protocol.specs.Refusals.{sizeRefusal, listRefusal, wordRefusal, entryRefusal, challengeRefusal}
+use Rattle.protocol.specs.Admission.{Admitted, assignmentTests, countTests, entryValues, circuitRefusals, refusalsAfterCircuit}
 use Rattle.protocol.specs.Calls.{CircuitWords, entriesOf, circuitOf, entryListTests, roundRefusal}
 use Rattle.protocol.proofs.RefusalLaws.{first-none, none-first, refuse-none, none-refuse, wordRefusal-none, none-wordRefusal}
 use Rattle.protocol.proofs.AdmissionLaws.{admitted-well-formed}
@@ -108,8 +108,7 @@ module _ (r c x : ℕ) (ea eb ec : List ℕ) where
         let shape : Shaped r c ea eb ec z m = shape-fits r c x ea eb ec z m (parts .0) in
         let contents =
         first-none
-        (wordRefusal q (entryValues k ++ (z ++ (mask ∷ (m ++ challenges)))) ∷ entryRefusal k ∷ maskRefusal {q = q} k (map of m)
-        ∷ assignmentRefusal {q = q} k (map of z) ∷ challengeRefusal {q = q} 0 (k .|R| ∷ k .|C| ∷ largest (sizesOf k .|K|) ∷ []) (map of points) ∷ [])
+        (wordRefusal q (entryValues k ++ (z ++ (mask ∷ (m ++ challenges)))) ∷ entryRefusal k ∷ refusalsAfterCircuit q k z m points)
         (parts .1 .1 .0) in
         record {
           fits =
@@ -124,7 +123,7 @@ module _ (r c x : ℕ) (ea eb ec : List ℕ) where
               };
           lent-fit = refuse-none 5 5 (pairs eqb lent due) (parts .1 .0);
           outside =
-              refuse-none 10 0 (pointTests q points) (contents .1 .1 .1 .1 .0);
+              refuse-none 10 0 (pointTests q points) (contents .1 .1 .1 .1 .1 .0);
         }
 
   -- what an indexer's call that is let through brings, where t are its lent slices

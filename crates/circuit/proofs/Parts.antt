@@ -12,13 +12,12 @@ use borrow.Author.Tests.{eqb-true, ltb-true, leb-true}
 use Rattle.algebra.specs.Counting.{All}
 use Rattle.algebra.proofs.Counting.{append-all}
 use Rattle.field.specs.Prime.{Prime}
-use Rattle.field.specs.Element.{of}
 use Rattle.domain.specs.Size.{maxSize, isSize, sizeFor}
 use Rattle.domain.proofs.SizeLaws.{sizeFor-is-size, largest-is-size}
 use Rattle.protocol.specs.Circuit.{Entry, Circuit, sizesOf, largest}
 use Rattle.protocol.specs.Refusals.{Refusal, first, refuse, sizeTests, fits, rises, entryTestsAfter, entryTests}
-use Rattle.protocol.specs.Refusals.{sizeRefusal, listRefusal, wordRefusal, entryRefusal, maskRefusal, assignmentRefusal, challengeRefusal}
-use Rattle.protocol.specs.Admission.{entryValues, assignmentTests, circuitRefusals, proverRefusal}
+use Rattle.protocol.specs.Refusals.{sizeRefusal, listRefusal, wordRefusal, entryRefusal}
+use Rattle.protocol.specs.Admission.{entryValues, assignmentTests, circuitRefusals, refusalsAfterCircuit, proverRefusal}
 use Rattle.protocol.specs.Calls.{CircuitWords, entriesOf, circuitOf, entryListTests}
 use Rattle.protocol.proofs.RefusalLaws.{refuse-none, first-none, and-true}
 use Rattle.protocol.proofs.Rows.{first-only, first-nested, first-before-last, refuse-append, refuse-map-append, refuse-three}
@@ -229,6 +228,5 @@ module _ (q : Prime) (c : CircuitWords) (lent : List Bool) where
       let size : Option Refusal = sizeRefusal (sizeTests (c .|R|) (c .|C|) (c .|X|) []) in
       let lists : List Bool = entryListTests c ++ assignmentTests k z m in
       let rest : List (Option Refusal) =
-      wordRefusal q (entryValues k ++ (z ++ (mask ∷ (m ++ challenges)))) ∷ entryRefusal k ∷ maskRefusal {q = q} k (map of m)
-      ∷ assignmentRefusal {q = q} k (map of z) ∷ challengeRefusal {q = q} 0 (k .|R| ∷ k .|C| ∷ largest (sizesOf k .|K|) ∷ []) (map of points) ∷ [] in
+      wordRefusal q (entryValues k ++ (z ++ (mask ∷ (m ++ challenges)))) ∷ entryRefusal k ∷ refusalsAfterCircuit q k z m points in
       ap (λ (o : Option Refusal). first (size ∷ o ∷ rest)) (refuse-append 5 0 lists lent) ∙ regroup size (refuse 5 0 lists) (refuse 5 5 lent) rest

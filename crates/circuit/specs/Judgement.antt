@@ -1,19 +1,18 @@
 -- The rows of the table of refusals that calls share, in two parts: 4 and 5 for what a call begins with, 6 and after for its
 -- contents. A call judges its lent slices between the two. Assumes nothing.
 use mathlib.Core.Bool.{Bool, _&&_}
-use mathlib.Core.List.{List, [], _∷_, _++_, map, foldr}
+use mathlib.Core.List.{List, [], _∷_, _++_, foldr}
 use mathlib.Core.Option.{Option}
 use Prim.Native.Nat.{ℕ, _*_, _%_}
 use lib.Dec.{eqb, leb}
 use lib.ListN.{length}
 use Rattle.field.specs.Prime.{Prime}
-use Rattle.field.specs.Element.{of}
 use Rattle.domain.specs.Size.{maxSize, sizeFor}
 use Rattle.protocol.specs.Three.{Three, listed, mapThree}
-use Rattle.protocol.specs.Circuit.{Entry, Circuit, sizesOf, largest}
+use Rattle.protocol.specs.Circuit.{Entry, Circuit}
 use Rattle.protocol.specs.Refusals.{Refusal, first, pairs, sizeTests}
-use Rattle.protocol.specs.Refusals.{sizeRefusal, listRefusal, wordRefusal, entryRefusal, maskRefusal, assignmentRefusal, challengeRefusal}
-use Rattle.protocol.specs.Admission.{circuitRefusals, entryValues, assignmentTests}
+use Rattle.protocol.specs.Refusals.{sizeRefusal, listRefusal, wordRefusal, entryRefusal}
+use Rattle.protocol.specs.Admission.{circuitRefusals, refusalsAfterCircuit, entryValues, assignmentTests}
 use Rattle.protocol.specs.Calls.{CircuitWords, circuitOf, entryListTests}
 
 -- the test of an entry list, by its length
@@ -42,13 +41,7 @@ module _ (q : Prime) (c : Circuit) where
   unfoldable pub indexContentsRefusal : Option Refusal
   indexContentsRefusal = first (wordRefusal q (entryValues c ++ []) ∷ entryRefusal c ∷ [])
 
-  -- 6 to 10 of a prover call: z, the mask word, m, all challenge words, and those of α, β, γ that the call has
+  -- 6, 7, 8, 13, 9 and 10 of a prover call: z, the mask word, m, all challenge words, and those of α, β, γ that the call has
   unfoldable pub contentsRefusal : List ℕ → ℕ → List ℕ → List ℕ → List ℕ → Option Refusal
   contentsRefusal z mask m challenges points =
-      first
-      (wordRefusal q (entryValues c ++ (z ++ (mask ∷ (m ++ challenges))))
-      ∷ entryRefusal c
-      ∷ maskRefusal {q = q} c (map of m)
-      ∷ assignmentRefusal {q = q} c (map of z)
-      ∷ challengeRefusal {q = q} 0 (c .|R| ∷ c .|C| ∷ largest (sizesOf c .|K|) ∷ []) (map of points)
-      ∷ [])
+      first (wordRefusal q (entryValues c ++ (z ++ (mask ∷ (m ++ challenges)))) ∷ entryRefusal c ∷ refusalsAfterCircuit q c z m points)

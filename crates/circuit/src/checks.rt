@@ -1,4 +1,5 @@
-// The rows 4 to 10 of document 01's table of refusals, a function for each and one for each part of a row that is made by itself.
+// The rows 4 to 10 of document 01's table of refusals, a function for each and one for each part of a row that is made by itself. (13 is
+// `shared::constant`, since the session's opening has it too.)
 ghost use mathlib.Core.Path.{_≡_};
 ghost use mathlib.Core.Bool.{true, not, _&&_};
 ghost use mathlib.Core.List.{[], _∷_, _++_, map};

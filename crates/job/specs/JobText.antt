@@ -91,7 +91,8 @@ module _ (ws : List ℕ) where
 
 module _ (q : Prime) where
   -- "A job over 4,096 bytes prints `job too long`, one that ends before its sizes and counts `job too short`; then sizes and counts are
-  -- judged (4, 5); then bytes left over print `job too long`, an unfinished job `job too short`"; then 6 to 10
+  -- judged (4, 5); then bytes left over print `job too long`, an unfinished job `job too short`"; then the
+  -- rows from 6 on
   unfoldable pub jobText : List ℕ → List ℕ
   jobText bytes =
       let ws : List ℕ = wordsIn bytes in

@@ -1,5 +1,5 @@
 -- What is known of a circuit, and of a job, that the table of refusals lets through. Assumes nothing.
-use mathlib.Core.Path.{_≡_, refl}
+use mathlib.Core.Path.{_≡_, refl, subst}
 use mathlib.Core.Bool.{Bool, true, false, not, _&&_, _||_}
 use mathlib.Core.Logic.{_⊎_, inl, inr}
 use mathlib.Core.List.{List, [], _∷_, _++_, map}
@@ -14,16 +14,18 @@ use Rattle.algebra.specs.Lists.{tabulate}
 use Rattle.algebra.proofs.Counting.{append-all}
 use Rattle.field.specs.Prime.{Prime}
 use Rattle.field.specs.Element.{Elem, of, 𝟘, _⊗_, equal}
-use Rattle.field.proofs.Field.{equal-true}
+use Rattle.field.proofs.Field.{equal-true, true-equal}
+use Rattle.field.proofs.Words.{words-back}
 use Rattle.domain.specs.Size.{maxSize, isSize}
 use Rattle.domain.specs.Domain.{Outside, inside, sumOver}
 use Rattle.domain.specs.Polynomial.{eval}
 use Rattle.protocol.specs.Three.{MatrixName, A, B, C, at}
 use Rattle.protocol.specs.Circuit.{Entry, Circuit, sizesOf, largest, rowSum, Satisfied}
-use Rattle.protocol.specs.Refusals.{pairs, sizeTests, sizeRefusal, listRefusal, rises, fits, entryTestsAfter, entryTests, entryRefusal, maskRefusal, assignmentRefusal, challengeRefusal}
-use Rattle.protocol.specs.Admission.{Admitted, entryValues, countTests, assignmentTests, circuitRefusals, proverRefusal}
-use Rattle.protocol.specs.Job.{Job, challengeWords, jobRefusal}
-use Rattle.protocol.proofs.RefusalLaws.{first-none, refuse-none, and-true, wordRefusal-none}
+use Rattle.protocol.specs.Refusals.{pairs, beginsWithOne, sizeTests, sizeRefusal, listRefusal, rises, fits, entryTestsAfter, entryTests, entryRefusal, maskRefusal, constantRefusal, assignmentRefusal, challengeRefusal}
+use Rattle.protocol.specs.Admission.{Admitted, entryValues, countTests, assignmentTests, circuitRefusals, refusalsAfterCircuit, proverRefusal}
+use Rattle.protocol.specs.Job.{Job, challengeWords, challengePoints, jobRefusal}
+use Rattle.protocol.proofs.RefusalLaws.{first-none, refuse-none, none-refuse, and-true, wordRefusal-none, constantRefusal-none, none-constantRefusal}
+use Rattle.protocol.proofs.FirstWord.{first-element, first-word}
 
 -- an entry stands within its matrix, and its value is a field word other than 0
 pub record EntryFits (p : ℕ) (c : Circuit) (e : Entry) : Type 0 where
@@ -144,7 +146,7 @@ module _ (q : Prime) (c : Circuit) where
       well-formed (rows .0) (refuse-none 5 0 (countTests c) (rows .1 .0))
       (append-all (λ w. w < q .p) (entryValues c) [] (wordRefusal-none q (entryValues c ++ []) (rows .1 .1 .0)) .0) (rows .1 .1 .1 .0)
 
--- a job that is let through: its circuit, the lengths of its lists, its words, its mask, its rows and its challenges
+-- a job that is let through: its circuit, the lengths of its lists, its words, its mask, its assignment and its challenges
 pub record JobFits (q : Prime) (j : Job) : Type 0 where
   pub circuit-fits : WellFormed (q .p) (j .circuit)
   pub z-length : length (j .z) ≡ j .circuit .|C|
@@ -156,39 +158,60 @@ pub record JobFits (q : Prime) (j : Job) : Type 0 where
   pub β-outside : Outside {q = q} (j .circuit .|C|) (of (j .β))
   pub γ-outside : Outside {q = q} (largest (sizesOf (j .circuit) .|K|)) (of (j .γ))
 
--- a test that holds below n, at one number
+-- a test that holds below n, at one number, and the other way round
 tabulate-true : (n : ℕ) (test : ℕ → Bool) → All (λ t. t ≡ true) (tabulate n test) → (i : ℕ) → i < n → test i ≡ true
 tabulate-true zero test h i l = absurd (omega arith)
 tabulate-true (suc n) test h zero l = h .0
 tabulate-true (suc n) test h (suc i) l = tabulate-true n (λ k. test (suc k)) (h .1) i (omega arith)
 
+true-tabulate : (n : ℕ) (test : ℕ → Bool) → ((i : ℕ) → i < n → test i ≡ true) → All (λ t. t ≡ true) (tabulate n test)
+true-tabulate zero test h = tt
+true-tabulate (suc n) test h = (h 0 (omega arith), true-tabulate n (λ k. test (suc k)) (λ i l. h (suc i) (omega arith)))
+
+-- what 13 and 9 let through satisfies the circuit, and what satisfies it is let through by both
+module _ (q : Prime) (c : Circuit) (ws : List ℕ) where
+  abbrev z : List (Elem q)
+  z = map of ws
+
+  abbrev rowTest : ℕ → Bool
+  rowTest i = equal (rowSum c A z i ⊗ rowSum c B z i) (rowSum c C z i)
+
+  pub rows-satisfied : constantRefusal ws ≡ none → assignmentRefusal c z ≡ none → Satisfied c z
+  unfolding assignmentRefusal
+  rows-satisfied constant rows =
+      record {
+        constant = first-element q ws (constantRefusal-none ws constant);
+        rows = λ i l. equal-true _ _ (tabulate-true (c .|R|) rowTest (refuse-none 9 0 (tabulate (c .|R|) rowTest) rows) i l);
+      }
+
+  pub satisfied-rows : All (λ w. w < q .p) ws → Satisfied c z → (constantRefusal ws ≡ none) × (assignmentRefusal c z ≡ none)
+  unfolding assignmentRefusal
+  satisfied-rows below satisfied = (
+    none-constantRefusal ws (subst (λ l. beginsWithOne l ≡ true) (words-back q ws below) (first-word q z (satisfied .constant))),
+    none-refuse 9 0 (tabulate (c .|R|) rowTest) (true-tabulate (c .|R|) rowTest (λ i l. true-equal _ _ (satisfied .rows i l))),
+  )
+
 pub job-fits : (q : Prime) (j : Job) → jobRefusal q j ≡ none → JobFits q j
-unfolding jobRefusal proverRefusal circuitRefusals listRefusal assignmentTests maskRefusal assignmentRefusal challengeRefusal
+unfolding jobRefusal proverRefusal circuitRefusals listRefusal assignmentTests maskRefusal challengeRefusal
 job-fits q j free =
     let c : Circuit = j .circuit in
-    let z : List (Elem q) = map of (j .z) in
     let lists : List Bool = countTests c ++ assignmentTests c (j .z) (j .m) in
     let words : List ℕ = j .z ++ (j .r ∷ (j .m ++ challengeWords j)) in
     let domains : List ℕ = c .|R| ∷ c .|C| ∷ largest (sizesOf c .|K|) ∷ [] in
     let challenges : List (Elem q) = of (j .α) ∷ of (j .β) ∷ of (j .γ) ∷ [] in
     let rows =
-    first-none
-    (circuitRefusals q c lists words
-    ++ (maskRefusal {q = q} c (map of (j .m)) ∷ assignmentRefusal c z ∷ challengeRefusal 0 domains challenges ∷ []))
-    free in
+    first-none (circuitRefusals q c lists words ++ refusalsAfterCircuit q c (j .z) (j .m) (challengePoints j)) free in
     let listed = append-all (λ t. t ≡ true) (countTests c) (assignmentTests c (j .z) (j .m)) (refuse-none 5 0 lists (rows .1 .0)) in
     let below = append-all (λ w. w < q .p) (entryValues c) words (wordRefusal-none q (entryValues c ++ words) (rows .1 .1 .0)) in
     let mask = refuse-none 8 0 (equal {q = q} (sumOver (c .|C|) (eval (map of (j .m)))) 𝟘 ∷ []) (rows .1 .1 .1 .1 .0) in
-    let test : ℕ → Bool = λ i. equal (rowSum c A z i ⊗ rowSum c B z i) (rowSum c C z i) in
-    let holds = refuse-none 9 0 (tabulate (c .|R|) test) (rows .1 .1 .1 .1 .1 .0) in
-    let outside = refuse-none 10 0 (pairs (λ n y. not (inside n y)) domains challenges) (rows .1 .1 .1 .1 .1 .1 .0) in
+    let outside = refuse-none 10 0 (pairs (λ n y. not (inside n y)) domains challenges) (rows .1 .1 .1 .1 .1 .1 .1 .0) in
     record {
       circuit-fits = well-formed q c (rows .0) (listed .0) (below .0) (rows .1 .1 .1 .0);
       z-length = eqb-true (length (j .z)) (c .|C|) (listed .1 .0);
       m-length = eqb-true (length (j .m)) (2 * c .|C|) (listed .1 .1 .0);
       words-fit = below .1;
       mask-sum = equal-true (sumOver (c .|C|) (eval (map of (j .m)))) 𝟘 (mask .0);
-      satisfied = λ i l. equal-true (rowSum c A z i ⊗ rowSum c B z i) (rowSum c C z i) (tabulate-true (c .|R|) test holds i l);
+      satisfied = rows-satisfied q c (j .z) (rows .1 .1 .1 .1 .1 .0) (rows .1 .1 .1 .1 .1 .1 .0);
       α-outside = not-true (inside {q = q} (c .|R|) (of (j .α))) (outside .0);
       β-outside = not-true (inside {q = q} (c .|C|) (of (j .β))) (outside .1 .0);
       γ-outside = not-true (inside {q = q} (largest (sizesOf c .|K|)) (of (j .γ))) (outside .1 .1 .0);

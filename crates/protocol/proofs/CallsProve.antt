@@ -16,11 +16,11 @@ use Rattle.field.proofs.Words.{words-back}
 use Rattle.domain.specs.Size.{maxSize}
 use Rattle.domain.specs.Qualifies.{Qualifies}
 use Rattle.protocol.specs.Three.{Three, listed, mapThree}
-use Rattle.protocol.specs.Circuit.{Circuit, sizesOf, largest}
+use Rattle.protocol.specs.Circuit.{Circuit, sizesOf}
 use Rattle.protocol.specs.Checks.{Openings, mapOpenings, listOpenings}
 use Rattle.protocol.specs.Messages.{Messages, mapMessages, lengths, messages}
-use Rattle.protocol.specs.Refusals.{Refusal, Done, judged, listRefusal, maskRefusal, assignmentRefusal, challengeRefusal}
-use Rattle.protocol.specs.Admission.{countTests, assignmentTests, circuitRefusals, proverRefusal}
+use Rattle.protocol.specs.Refusals.{Refusal, Done, judged, listRefusal}
+use Rattle.protocol.specs.Admission.{countTests, assignmentTests, circuitRefusals, refusalsAfterCircuit, proverRefusal}
 use Rattle.protocol.specs.Calls.{ProverInput, CircuitWords, entriesOf, circuitOf, entryListTests, roundRefusal}
 use Rattle.protocol.specs.Calls.{firstRoundCall, secondRoundCall, thirdRoundCall, fourthRoundCall, fifthRoundCall, openingsCall}
 use Rattle.protocol.specs.Job.{Job, challengeWords, challengePoints, jobRefusal, proof, trueOpenings, conversation, conversationOn, honestConversation}
@@ -85,11 +85,7 @@ module _ (q : Prime) (i : ProverInput) (α : ℕ) (η : Three ℕ) (β : ℕ) (�
   -- the rows of a job, and of a call with other lists
   abbrev rows : List Bool → List (Option Refusal)
   rows lists =
-      circuitRefusals q c lists (i .z ++ (i .r ∷ (i .m ++ challengeWords j)))
-      ++ (maskRefusal {q = q} c (map of (i .m))
-      ∷ assignmentRefusal {q = q} c (map of (i .z))
-      ∷ challengeRefusal {q = q} 0 (c .|R| ∷ c .|C| ∷ largest (sizesOf c .|K|) ∷ []) (map of (challengePoints j))
-      ∷ [])
+      circuitRefusals q c lists (i .z ++ (i .r ∷ (i .m ++ challengeWords j))) ++ refusalsAfterCircuit q c (i .z) (i .m) (challengePoints j)
 
   -- what lets the openings through lets the job through
   job-free : roundRefusal q i [] [] (challengeWords j) (challengePoints j) ≡ none → jobRefusal q j ≡ none

@@ -24,7 +24,9 @@ use Rattle.protocol.specs.Session.{Taken, Judged, unopened, verdictOf}
 use Rattle.protocol.specs.Job.{Job, challengeWords, publicWords, conversation, conversationOn}
 use Rattle.protocol.proofs.AdmissionLaws.{WellFormed, JobFits}
 use Rattle.protocol.proofs.IndexPolynomials.{K-size}
-use Rattle.protocol.proofs.TakenSteps.{Heard, Short, state, public-words}
+use Rattle.protocol.proofs.PublicColumns.{public-first}
+use Rattle.protocol.proofs.FirstWord.{first-word}
+use Rattle.protocol.proofs.TakenSteps.{Heard, Short, PublicWords, state, public-words}
 use Rattle.protocol.proofs.TakenSteps.{open-taken, alpha-taken, eta-taken, beta-taken, delta-taken, gamma-taken, openings-judged}
 
 -- words of elements
@@ -124,19 +126,25 @@ module _ (q : Prime) (j : Job) (F : JobFits q j) (sent : Messages (Poly q) (Elem
         γ-outside = F .γ-outside;
       }
 
-  length-x : length (words x) ≡ s .|X|
+  -- z's public words begin with 1, as z does
+  public : PublicWords q s (words x)
   unfolding publicPart sizesOf
-  length-x = length-map x _ ∙ length-tabulate (c .|X|) _
+  public =
+      record {
+        x-length = length-map x _ ∙ length-tabulate (c .|X|) _;
+        x-below = words-below x;
+        x-begins = first-word q x (public-first c (F .circuit-fits) (map of (j .z)) ∙ F .satisfied .constant);
+      }
 
   module _ (short : Short s declared) (o : Openings (Elem q)) where
     -- the verdict, from words and from elements
     verdict-back :
-        verdictOf q (state q s (six-sizes q c (F .circuit-fits)) (words x) length-x (words-below x) heardWords heard declared short 6 heardWords) (mapOpenings wordOf o)
+        verdictOf q (state q s (six-sizes q c (F .circuit-fits)) (words x) public heardWords heard declared short 6 heardWords) (mapOpenings wordOf o)
         ≡ verdict s x transcript o
     unfolding verdictOf
     verdict-back =
         ap (λ l. verdict {q = q} s (map of l) (mapTranscript of heardWords) (mapOpenings of (mapOpenings wordOf o)))
-        (public-words q s (six-sizes q c (F .circuit-fits)) (words x) length-x (words-below x) heardWords heard declared short)
+        (public-words q s (six-sizes q c (F .circuit-fits)) (words x) public heardWords heard declared short)
         ∙ ap (λ x. verdict s x (mapTranscript of heardWords) (mapOpenings of (mapOpenings wordOf o))) (of-words x)
         ∙ ap₂ (λ t o. verdict s x t o) transcript-back (openings-back o)
 
@@ -144,14 +152,13 @@ module _ (q : Prime) (j : Job) (F : JobFits q j) (sent : Messages (Poly q) (Elem
     unfolding conversationOn conversation publicWords
     conversation-judged =
         let sized = six-sizes q c (F .circuit-fits) in
-        let below = words-below x in
         rw (
-          open-taken q s sized (words x) length-x below heardWords heard declared short unopened,
-          alpha-taken q s sized (words x) length-x below heardWords heard declared short,
-          eta-taken q s sized (words x) length-x below heardWords heard declared short,
-          beta-taken q s sized (words x) length-x below heardWords heard declared short,
-          delta-taken q s sized (words x) length-x below heardWords heard declared short,
-          gamma-taken q s sized (words x) length-x below heardWords heard declared short,
-          openings-judged q s sized (words x) length-x below heardWords heard declared short (mapOpenings wordOf o) (words-below (listOpenings o)),
+          open-taken q s sized (words x) public heardWords heard declared short unopened,
+          alpha-taken q s sized (words x) public heardWords heard declared short,
+          eta-taken q s sized (words x) public heardWords heard declared short,
+          beta-taken q s sized (words x) public heardWords heard declared short,
+          delta-taken q s sized (words x) public heardWords heard declared short,
+          gamma-taken q s sized (words x) public heardWords heard declared short,
+          openings-judged q s sized (words x) public heardWords heard declared short (mapOpenings wordOf o) (words-below (listOpenings o)),
           verdict-back,
         ) refl

@@ -1,4 +1,5 @@
 pub mod RefusalLaws
+pub mod FirstWord
 pub mod AllowedSizes
 pub mod Rows
 pub mod VerdictLaws
@@ -7,6 +8,7 @@ pub mod Extension
 pub mod Words
 pub mod RecordLaws
 pub mod MessagePolynomials
+pub mod PublicColumns
 pub mod IndexPolynomials
 pub mod RowCheck
 pub mod LinearCounting
@@ -27,5 +29,6 @@ pub mod JoinedCheck
 pub mod Honest
 pub mod CallsProve
 pub mod Divisors
+pub mod ConstantColumn
 pub mod Demands
 pub mod ProverForms

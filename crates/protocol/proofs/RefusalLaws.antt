@@ -9,7 +9,7 @@ use native.Mathlib.Omega.{arith}
 use borrow.Author.Tests.{ltb-true, lt-ltb, le-leb}
 use Rattle.algebra.specs.Counting.{All}
 use Rattle.field.specs.Prime.{Prime}
-use Rattle.protocol.specs.Refusals.{Refusal, first, refuse, pairs, wordRefusal, lengthRefusal}
+use Rattle.protocol.specs.Refusals.{Refusal, first, refuse, pairs, beginsWithOne, wordRefusal, constantRefusal, lengthRefusal}
 use Rattle.protocol.specs.Session.{all}
 
 some-not-none : {T : Type 0} {x : T} → some x ≡ none → ⊥
@@ -65,6 +65,15 @@ wordRefusal-none q ws e = words-below q ws (refuse-none 6 0 (map (λ w. ltb w (q
 pub none-wordRefusal : (q : Prime) (ws : List ℕ) → All (λ w. w < q .p) ws → wordRefusal q ws ≡ none
 unfolding wordRefusal
 none-wordRefusal q ws h = none-refuse 6 0 (map (λ w. ltb w (q .p)) ws) (below-words q ws h)
+
+-- 13: the first word is 1
+pub constantRefusal-none : (ws : List ℕ) → constantRefusal ws ≡ none → beginsWithOne ws ≡ true
+unfolding constantRefusal
+constantRefusal-none ws e = refuse-none 13 0 (beginsWithOne ws ∷ []) e .0
+
+pub none-constantRefusal : (ws : List ℕ) → beginsWithOne ws ≡ true → constantRefusal ws ≡ none
+unfolding constantRefusal
+none-constantRefusal ws begins = none-refuse 13 0 (beginsWithOne ws ∷ []) (begins, tt)
 
 -- 11: no declared length is above the table's
 abbrev pub Within : List ℕ → List ℕ → Type 0

@@ -1,5 +1,5 @@
 -- What Row means: h0 of length |R| - 1 makes its sides equal at more than 2|R| - 2 points outside R exactly when ẑ satisfies every
--- row (document 01, "The claims behind them"). Assumes nothing.
+-- row (document 01, "The claims behind them"); column 0 holds 1 since x begins with it. Assumes nothing.
 use mathlib.Core.Path.{_≡_, sym, ap, ap₂, _∙_}
 use Prim.Native.Nat.{ℕ, _+_, _-_, _*_, _<_}
 use lib.ListN.{length}
@@ -20,13 +20,14 @@ use Rattle.domain.proofs.DomainLaws.{outside-many}
 use Rattle.domain.proofs.Division.{vanishing-divides}
 use Rattle.domain.proofs.ExactDivision.{vanishing-on, quotient-recovers}
 use Rattle.protocol.specs.Three.{A, B, C}
-use Rattle.protocol.specs.Circuit.{Circuit, sizesOf, rowSum, Satisfied}
+use Rattle.protocol.specs.Circuit.{Circuit, sizesOf, rowSum, BeginsWithOne, Satisfied}
 use Rattle.protocol.specs.Checks.{Transcript, Openings, rowLeft, rowRight}
 use Rattle.protocol.specs.Messages.{lengths, assignment, rowQuotient, sums}
 use Rattle.protocol.specs.Demand3.{Setting, RowMeans}
 use Rattle.protocol.proofs.AdmissionLaws.{WellFormed, admitted-well-formed}
 use Rattle.protocol.proofs.Extension.{image-on-rows}
 use Rattle.protocol.proofs.MessagePolynomials.{rowPoly, length-rowPoly, eval-rowPoly}
+use Rattle.protocol.proofs.PublicColumns.{column-zero}
 
 module _ {q : Prime} (Q : Qualifies q) (c : Circuit) (W : WellFormed (q .p) c) (ẑ : Poly q) where
   abbrev f : Poly q
@@ -49,7 +50,7 @@ module _ {q : Prime} (Q : Qualifies q) (c : Circuit) (W : WellFormed (q .p) c) (
   unfolding rowRight rowQuotient sizesOf
   row-rule satisfied y =
       sym (eval-rowPoly Q c W ẑ y)
-      ∙ vanishing-divides Q (c .|R|) (W .R-size) f (λ i l. left-on-rows i l ∙ eq→sub-zero (primeRing q) _ _ (satisfied i l)) y
+      ∙ vanishing-divides Q (c .|R|) (W .R-size) f (λ i l. left-on-rows i l ∙ eq→sub-zero (primeRing q) _ _ (satisfied .rows i l)) y
 
   pub length-rowQuotient : length (rowQuotient c ẑ) ≡ lengths (sizesOf c) .rowQuotient
   unfolding rowQuotient lengths sizesOf
@@ -69,14 +70,21 @@ module _ {q : Prime} (Q : Qualifies q) (c : Circuit) (W : WellFormed (q .p) c) (
       (2 * c .|R| - 2) (omega (arith, length-rowPoly Q c W ẑ, R-positive))
       (l, distinct, all-map (λ y e. (e .0, eval-rowPoly Q c W ẑ y ∙ e .1)) l equal, more)
 
-  divided-satisfied : (h0 : Poly q) → ((y : Elem q) → eval f y ≡ eval h0 y ⊗ vanishing (c .|R|) y) → Satisfied c (valuesOn (c .|C|) ẑ)
-  divided-satisfied h0 divided i l =
-      sub-zero→eq (primeRing q) _ _
-      (sym (left-on-rows i l) ∙ divided (element (c .|R|) i)
-      ∙ ap (λ v. eval h0 (element (c .|R|) i) ⊗ v) (vanishing-on Q (c .|R|) (W .R-size) i l) ∙ mul-zero (primeRing q) _)
+  divided-satisfied :
+      BeginsWithOne (valuesOn (c .|C|) ẑ) → (h0 : Poly q) → ((y : Elem q) → eval f y ≡ eval h0 y ⊗ vanishing (c .|R|) y)
+      → Satisfied c (valuesOn (c .|C|) ẑ)
+  divided-satisfied begins h0 divided =
+      record {
+        constant = begins;
+        rows = λ i l.
+            sub-zero→eq (primeRing q) _ _
+            (sym (left-on-rows i l) ∙ divided (element (c .|R|) i)
+            ∙ ap (λ v. eval h0 (element (c .|R|) i) ⊗ v) (vanishing-on Q (c .|R|) (W .R-size) i l) ∙ mul-zero (primeRing q) _);
+      }
 
-pub row-means : {q : Prime} → Qualifies q → (S : Setting q) (t : Transcript (Elem q)) (o : Openings (Elem q)) → RowMeans q S t o
-row-means {q} Q S t o =
+pub row-means :
+    {q : Prime} → Qualifies q → (S : Setting q) → BeginsWithOne (S .x) → (t : Transcript (Elem q)) (o : Openings (Elem q)) → RowMeans q S t o
+row-means {q} Q S x-begins t o =
     record {
       complete = λ satisfied. (
         rowQuotient c ẑ,
@@ -84,11 +92,11 @@ row-means {q} Q S t o =
         (let (l, distinct, outside, more) = outside-many Q (c .|R|) (W .R-size) (2 * c .|R| - 2) room in
             (l, distinct, all-map (λ y allowed. (allowed, row-rule Q c W ẑ satisfied y)) l outside, more)),
       );
-      sound = λ h0 fits many. divided-satisfied Q c W ẑ h0 (recovered Q c W ẑ h0 fits many .1);
+      sound = λ h0 fits many. divided-satisfied Q c W ẑ begins h0 (recovered Q c W ẑ h0 fits many .1);
       unique = λ h0 k0 fits fits′ many many′. sym (recovered Q c W ẑ h0 fits many .0) ∙ recovered Q c W ẑ k0 fits′ many′ .0;
       everywhere = λ h0 fits many y outside.
           (let r = recovered Q c W ẑ h0 fits many in
-          row-rule Q c W ẑ (divided-satisfied Q c W ẑ h0 (r .1)) y
+          row-rule Q c W ẑ (divided-satisfied Q c W ẑ begins h0 (r .1)) y
           ∙ ap (λ h. rowRight (sizesOf c) y (eval h y)) (r .0));
     }
   where
@@ -100,6 +108,9 @@ row-means {q} Q S t o =
 
     ẑ : Poly q
     ẑ = assignment c (S .x) (S .w)
+
+    begins : BeginsWithOne (valuesOn (c .|C|) ẑ)
+    begins = column-zero Q c W (S .x) (S .w) ∙ x-begins
 
     room : 2 * c .|R| - 2 + c .|R| < q .p
     room = omega (arith, large-enough q Q, size-bound (c .|R|) (W .R-size))

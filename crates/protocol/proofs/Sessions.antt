@@ -1,12 +1,12 @@
 -- Sessions and what steps leave in them: the proofs of specs/Verdicts. Assumes nothing.
 use mathlib.Core.Path.{_≡_, refl, sym, ap, ap₂, _∙_}
-use mathlib.Core.Bool.{true, not, _&&_}
+use mathlib.Core.Bool.{Bool, true, not, _&&_}
 use mathlib.Core.List.{List, [], _∷_, _++_, map}
 use mathlib.Core.Option.{Option, none, some}
-use Prim.Native.Nat.{ℕ, _-_, _<_, _≤_}
+use Prim.Native.Nat.{ℕ, _-_, _<_}
 use lib.Dec.{eqb, ltb, leb}
 use lib.ListN.{length, take, drop, replicate, take-append-drop, length-drop}
-use lib.Seq.{take-at, drop-at, length-take-le}
+use lib.Seq.{length-take-le}
 use native.Mathlib.Omega.{arith}
 use borrow.Author.Tests.{eqb-true, not-true}
 use Rattle.algebra.specs.Counting.{All}
@@ -15,23 +15,25 @@ use Rattle.field.specs.Prime.{Prime}
 use Rattle.field.specs.Element.{of}
 use Rattle.domain.specs.Size.{maxSize, isSize}
 use Rattle.domain.specs.Domain.{inside, Outside}
-use Rattle.domain.proofs.SizeLaws.{size-bound}
+use Rattle.domain.proofs.SizeLaws.{size-positive, size-bound}
 use Rattle.protocol.specs.Three.{A, B, C, Three, each, listed}
 use Rattle.protocol.specs.Circuit.{Sizes, largest}
 use Rattle.protocol.specs.Checks.{Transcript, Openings, Verdict, listTranscript, listOpenings}
 use Rattle.protocol.specs.Messages.{Messages, lengths}
-use Rattle.protocol.specs.Refusals.{Refusal, first, sizeTests, sixSizeTests, turnRefusal, sizeRefusal, listRefusal, wordRefusal, challengeRefusal, lengthRefusal}
+use Rattle.protocol.specs.Refusals.{Refusal, beginsWithOne, sizeTests, sixSizeTests, turnRefusal, sizeRefusal, listRefusal, wordRefusal, challengeRefusal, lengthRefusal}
 use Rattle.protocol.specs.Session.{Session, Stepped, Step, Open, Alpha, Eta, Beta, Delta, Gamma, Last, Judged, unopened, unless, all, inTurn}
 use Rattle.protocol.specs.Session.{allBelow, publicFits, transcriptFits, leftBySteps, stepped, after}
-use Rattle.protocol.specs.Session.{openRefusal, alphaRefusal, etaRefusal, betaRefusal, deltaRefusal, gammaRefusal, openingsRefusal}
+use Rattle.protocol.specs.Session.{openRefusals, openRefusal, alphaRefusal, etaRefusal, betaRefusal, deltaRefusal, gammaRefusal, openingsRefusal}
 use Rattle.protocol.specs.Session.{openStep, alphaStep, etaStep, betaStep, deltaStep, gammaStep, openingsStep}
 use Rattle.protocol.specs.Verdicts.{VerdictsAllowed, StepsPass, OnlyStepsPass}
-use Rattle.protocol.proofs.RefusalLaws.{first-none, refuse-none, and-true, all-true, true-all, words-below, wordRefusal-none}
-use Rattle.protocol.proofs.TakenSteps.{Heard, Short, all-below, zeros-pass}
+use Rattle.protocol.proofs.RefusalLaws.{first-none, refuse-none, and-true, true-all, words-below, wordRefusal-none, constantRefusal-none}
+use Rattle.protocol.proofs.FirstWord.{first-element, begins-part}
+use Rattle.protocol.proofs.TakenSteps.{Heard, Short, PublicWords, all-below, public-fits}
 use Rattle.protocol.proofs.TakenSteps.{open-taken, alpha-taken, eta-taken, beta-taken, delta-taken, gamma-taken}
 
 -- what the last step's test says of a session
 pub record LeftBySteps (q : Prime) (s : Session) : Type 0 where
+  pub public-begins : beginsWithOne (s .x) ≡ true
   pub public-below : All (λ w. w < q .p) (take (s .sizes .|X|) (s .x))
   pub zeros-after : All (λ t. t ≡ true) (map (λ w. eqb w 0) (drop (s .sizes .|X|) (s .x)))
   pub heard : Heard q (s .sizes) (s .transcript)
@@ -46,11 +48,13 @@ left-by-steps q s e =
     let t : Transcript ℕ = s .transcript in
     let zeros : List ℕ = drop (n .|X|) (s .x) in
     let (public, transcript) = and-true (publicFits q (n .|X|) (s .x)) (transcriptFits q n t) e in
-    let (below, rest) = and-true (allBelow q (take (n .|X|) (s .x))) (all (map (λ w. eqb w 0) zeros)) public in
+    let (begins, fits) = and-true (beginsWithOne (s .x)) (allBelow q (take (n .|X|) (s .x)) && all (map (λ w. eqb w 0) zeros)) public in
+    let (below, rest) = and-true (allBelow q (take (n .|X|) (s .x))) (all (map (λ w. eqb w 0) zeros)) fits in
     let (heard, outside) = and-true (allBelow q (listTranscript t)) _ transcript in
     let (α, β-γ) = and-true (not (inside {q = q} (n .|R|) (of (t .α)))) _ outside in
     let (β, γ) = and-true (not (inside {q = q} (n .|C|) (of (t .β)))) _ β-γ in
     record {
+      public-begins = begins;
       public-below = below-all q (take (n .|X|) (s .x)) below;
       zeros-after = true-all (map (λ w. eqb w 0) zeros) rest;
       heard =
@@ -81,29 +85,62 @@ challenge-outside : (q : Prime) (position n y : ℕ) → challengeRefusal {q = q
 unfolding challengeRefusal
 challenge-outside q position n y e = not-true _ (refuse-none 10 position (not (inside {q = q} n (of y)) ∷ []) e .0)
 
--- |X| is at most 1,024
-public-size : (s : Sizes) → All (λ t. t ≡ true) (sixSizeTests s) → s .|X| ≤ maxSize
+-- |X| is a size
+public-size : (s : Sizes) → All (λ t. t ≡ true) (sixSizeTests s) → isSize (s .|X|) ≡ true
 unfolding sixSizeTests sizeTests
-public-size s sized = size-bound (s .|X|) (and-true (isSize (s .|X|)) (leb (s .|X|) (s .|C|)) (sized .1 .1 .0) .0)
+public-size s sized = and-true (isSize (s .|X|)) (leb (s .|X|) (s .|C|)) (sized .1 .1 .0) .0
+
+-- the public words of a session that steps left
+left-public : (q : Prime) (s : Session) → length (s .x) ≡ maxSize → All (λ t. t ≡ true) (sixSizeTests (s .sizes)) → LeftBySteps q s
+    → PublicWords q (s .sizes) (take (s .sizes .|X|) (s .x))
+left-public q s x-length sized left =
+    let size = public-size (s .sizes) sized in
+    record {
+      x-length = length-take-le (s .sizes .|X|) (s .x) (omega (arith, size-bound (s .sizes .|X|) size));
+      x-below = left .public-below;
+      x-begins = begins-part (s .sizes .|X|) (s .x) (size-positive (s .sizes .|X|) size) (left .public-begins);
+    }
+
+-- what an opening that is not refused takes
+pub open-takes : (q : Prime) (n : Sizes) (x : List ℕ) → openRefusal q n x ≡ none → All (λ t. t ≡ true) (sixSizeTests n) × PublicWords q n x
+unfolding openRefusal sizeRefusal listRefusal
+open-takes q n x free =
+    let rows = first-none (openRefusals q n x) free in (
+      refuse-none 4 0 (sixSizeTests n) (rows .0),
+      record {
+        x-length = eqb-true _ _ (refuse-none 5 0 (eqb (length x) (n .|X|) ∷ []) (rows .1 .0) .0);
+        x-below = wordRefusal-none q x (rows .1 .1 .0);
+        x-begins = constantRefusal-none x (rows .1 .1 .1 .0);
+      },
+    )
+
+-- the last step, whose turn has one test more: what the session holds is what steps could have left
+pub openings-turn : (q : Prime) (s : Session) (o : Openings ℕ) → openingsRefusal q s o ≡ none → InTurn 6 (s .stage) (s .sizes) × LeftBySteps q s
+unfolding openingsRefusal turnRefusal
+openings-turn q s o e =
+    let test : Bool = inTurn 6 (s .stage) (s .sizes) && leftBySteps q s in
+    let passed : test ≡ true = refuse-none 1 0 (test ∷ []) (first-none (turnRefusal test ∷ wordRefusal q (listOpenings o) ∷ []) e .0) .0 in
+    let (turn, left) = and-true (inTurn 6 (s .stage) (s .sizes)) (leftBySteps q s) passed in
+    (in-turn 6 (s .stage) (s .sizes) turn, left-by-steps q s left)
 
 -- a step that answers a verdict was not refused
-judged : (o : Option Refusal) (s : Session) (next : Stepped) (v : Verdict) → unless o s next .answer ≡ Judged v → (o ≡ none) × (next .answer ≡ Judged v)
+pub judged : (o : Option Refusal) (s : Session) (next : Stepped) (v : Verdict) → unless o s next .answer ≡ Judged v → (o ≡ none) × (next .answer ≡ Judged v)
 judged none s next v e = (refl, e)
 judged (some r) s next v e = let z : _≡_ {A = ℕ} 0 1 = cc in absurd (omega arith)
 
 pub verdicts-allowed : (q : Prime) → VerdictsAllowed q
-unfolding openingsStep openingsRefusal turnRefusal
+unfolding openingsStep openingsRefusal
 verdicts-allowed q s o v x-length e =
-    let turn = inTurn 6 (s .stage) (s .sizes) && leftBySteps q s in
     let (free, answer) = judged (openingsRefusal q s o) s _ v e in
-    let rows = first-none (turnRefusal turn ∷ wordRefusal q (listOpenings o) ∷ []) free in
-    let (first, second) = and-true (inTurn 6 (s .stage) (s .sizes)) (leftBySteps q s) (refuse-none 1 0 (turn ∷ []) (rows .0) .0) in
-    let sized = in-turn 6 (s .stage) (s .sizes) first .sizes-allowed in
-    let left = left-by-steps q s second in
+    let rows = first-none (turnRefusal (inTurn 6 (s .stage) (s .sizes) && leftBySteps q s) ∷ wordRefusal q (listOpenings o) ∷ []) free in
+    let (turn, left) = openings-turn q s o free in
+    let sized = turn .sizes-allowed in
+    let public = left-public q s x-length sized left in
     let Low : ℕ → Type 0 = λ w. w < q .p in
     record {
       sizes-allowed = sized;
-      public-length = length-take-le (s .sizes .|X|) (s .x) (omega (arith, public-size (s .sizes) sized));
+      public-length = public .x-length;
+      public-constant = first-element q (take (s .sizes .|X|) (s .x)) (public .x-begins);
       words-below =
           all-append Low (take (s .sizes .|X|) (s .x)) (listTranscript (s .transcript) ++ listOpenings o) (left .public-below)
           (all-append Low (listTranscript (s .transcript)) (listOpenings o) (left .heard .words-below) (wordRefusal-none q (listOpenings o) (rows .1 .0)));
@@ -140,21 +177,12 @@ module _ (q : Prime) where
   kept-unless none s next K f = f refl
   kept-unless (some r) s next K f = K
 
-  public-fits : (n : ℕ) (x : List ℕ) → length x ≡ n → All (λ w. w < q .p) x → publicFits q n (x ++ replicate (maxSize - length x) 0) ≡ true
-  unfolding publicFits
-  public-fits n x x-length below =
-      let zeros : List ℕ = replicate (maxSize - length x) 0 in
-      ap₂ _&&_ (ap (allBelow q) (take-at x zeros n x-length) ∙ all-below q x below)
-      (ap (λ l. all (map (λ w. eqb w 0) l)) (drop-at x zeros n x-length) ∙ all-true (map (λ w. eqb w 0) zeros) (zeros-pass (maxSize - length x)))
-
   kept-open : (s : Session) (n : Sizes) (x : List ℕ) → Kept q s → Kept q (openStep q s n x .session)
-  unfolding openStep openRefusal listRefusal
+  unfolding openStep
   kept-open s n x K =
       kept-unless (openRefusal q n x) s _ K (λ free.
-      let rows = first-none (sizeRefusal (sixSizeTests n) ∷ listRefusal (eqb (length x) (n .|X|) ∷ []) ∷ wordRefusal q x ∷ []) free in
       record {
-        opened = λ l.
-            public-fits (n .|X|) x (eqb-true _ _ (refuse-none 5 0 (eqb (length x) (n .|X|) ∷ []) (rows .1 .0) .0)) (wordRefusal-none q x (rows .1 .1 .0));
+        opened = λ l. public-fits q n x (open-takes q n x free .1);
         α-heard = λ l. absurd (omega arith);
         η-heard = λ l. absurd (omega arith);
         β-heard = λ l. absurd (omega arith);
@@ -251,12 +279,10 @@ module _ (q : Prime) where
 
     -- the last step changes the stage alone
     kept-last : (o : Openings ℕ) → Kept q (openingsStep q s o .session)
-    unfolding openingsStep openingsRefusal turnRefusal
+    unfolding openingsStep
     kept-last o =
         kept-unless (openingsRefusal q s o) s _ K (λ free.
-        let test = inTurn 6 (s .stage) n && leftBySteps q s in
-        let rows = first-none (turnRefusal test ∷ wordRefusal q (listOpenings o) ∷ []) free in
-        let turn = in-turn 6 (s .stage) n (and-true (inTurn 6 (s .stage) n) (leftBySteps q s) (refuse-none 1 0 (test ∷ []) (rows .0) .0) .0) in
+        let turn = openings-turn q s o free .0 in
         record {
           opened = λ l. K .opened (omega arith);
           α-heard = λ l. K .α-heard (omega arith);
@@ -335,12 +361,12 @@ nothing-short s =
 pub only-steps-pass : (q : Prime) → OnlyStepsPass q
 only-steps-pass q s x-length turn passes = (
   Open n x ∷ Alpha 0 0 0 (t .α) ∷ Eta (t .sums) (t .η) ∷ Beta 0 0 (t .β) ∷ Delta (t .values) (each (λ M. 0)) (t .δ) ∷ Gamma 0 (t .γ) ∷ [],
-  ap (λ (r : Stepped). gamma (delta (beta (eta (alpha (r .session)))))) (open-taken q n sized x length-x below t heard nothing short unopened)
-      ∙ ap (λ (r : Stepped). gamma (delta (beta (eta (r .session))))) (alpha-taken q n sized x length-x below t heard nothing short)
-      ∙ ap (λ (r : Stepped). gamma (delta (beta (r .session)))) (eta-taken q n sized x length-x below t heard nothing short)
-      ∙ ap (λ (r : Stepped). gamma (delta (r .session))) (beta-taken q n sized x length-x below t heard nothing short)
-      ∙ ap (λ (r : Stepped). gamma (r .session)) (delta-taken q n sized x length-x below t heard nothing short)
-      ∙ ap (λ (r : Stepped). r .session) (gamma-taken q n sized x length-x below t heard nothing short)
+  ap (λ (r : Stepped). gamma (delta (beta (eta (alpha (r .session)))))) (open-taken q n sized x public t heard nothing short unopened)
+      ∙ ap (λ (r : Stepped). gamma (delta (beta (eta (r .session))))) (alpha-taken q n sized x public t heard nothing short)
+      ∙ ap (λ (r : Stepped). gamma (delta (beta (r .session)))) (eta-taken q n sized x public t heard nothing short)
+      ∙ ap (λ (r : Stepped). gamma (delta (r .session))) (beta-taken q n sized x public t heard nothing short)
+      ∙ ap (λ (r : Stepped). gamma (r .session)) (delta-taken q n sized x public t heard nothing short)
+      ∙ ap (λ (r : Stepped). r .session) (gamma-taken q n sized x public t heard nothing short)
       ∙ (λ i. record { stage = sym (in-turn 6 (s .stage) n turn .stage-is) i; sizes = n; x = whole i; transcript = t }),
 )
   where
@@ -377,11 +403,8 @@ only-steps-pass q s x-length turn passes = (
     heard : Heard q n t
     heard = left .heard
 
-    below : All (λ w. w < q .p) x
-    below = left .public-below
-
-    length-x : length x ≡ n .|X|
-    length-x = length-take-le (n .|X|) (s .x) (omega (arith, public-size n sized))
+    public : PublicWords q n x
+    public = left-public q s x-length sized left
 
     short : Short n nothing
     short = nothing-short n
@@ -389,5 +412,5 @@ only-steps-pass q s x-length turn passes = (
     whole : x ++ replicate (maxSize - length x) 0 ≡ s .x
     whole =
         let rest : List ℕ = drop (n .|X|) (s .x) in
-        let size : maxSize - length x ≡ length rest = omega (arith, length-drop (n .|X|) (s .x), length-x) in
+        let size : maxSize - length x ≡ length rest = omega (arith, length-drop (n .|X|) (s .x), public .x-length) in
         ap (λ zeros. x ++ zeros) (ap (λ k. replicate k 0) size ∙ sym (zeros-are rest (left .zeros-after))) ∙ take-append-drop (n .|X|) (s .x)

@@ -6,7 +6,7 @@ use mathlib.Core.List.{List, [], _∷_, _++_, map}
 use mathlib.Core.Option.{Option, none}
 use Prim.Native.Nat.{ℕ, zero, suc, _-_, _<_, _≤_}
 use lib.Dec.{eqb, ltb}
-use lib.ListN.{length, take, drop, replicate}
+use lib.ListN.{length, take, replicate}
 use lib.Seq.{take-at, drop-at}
 use borrow.Author.Tests.{eq-eqb}
 use Rattle.algebra.specs.Counting.{All}
@@ -19,11 +19,12 @@ use Rattle.protocol.specs.Three.{MatrixName, A, B, C, at, listed}
 use Rattle.protocol.specs.Circuit.{Sizes, largest}
 use Rattle.protocol.specs.Checks.{Transcript, Openings, listTranscript, listOpenings, withα, withη, withβ, withδ}
 use Rattle.protocol.specs.Messages.{Messages, lengths}
-use Rattle.protocol.specs.Refusals.{Refusal, sixSizeTests, turnRefusal, sizeRefusal, listRefusal, wordRefusal, challengeRefusal, lengthRefusal}
+use Rattle.protocol.specs.Refusals.{Refusal, beginsWithOne, sixSizeTests, turnRefusal, sizeRefusal, listRefusal, wordRefusal, challengeRefusal, lengthRefusal}
 use Rattle.protocol.specs.Session.{Session, Stepped, Taken, Judged, blank, unless, onward, all, inTurn, allBelow, publicFits, transcriptFits, leftBySteps}
-use Rattle.protocol.specs.Session.{openRefusal, alphaRefusal, etaRefusal, betaRefusal, deltaRefusal, gammaRefusal, openingsRefusal}
+use Rattle.protocol.specs.Session.{openRefusals, openRefusal, alphaRefusal, etaRefusal, betaRefusal, deltaRefusal, gammaRefusal, openingsRefusal}
 use Rattle.protocol.specs.Session.{openStep, alphaStep, etaStep, betaStep, deltaStep, gammaStep, openingsStep, verdictOf}
-use Rattle.protocol.proofs.RefusalLaws.{none-first, none-refuse, all-true, below-words, none-wordRefusal, none-lengthRefusal}
+use Rattle.protocol.proofs.RefusalLaws.{none-first, none-refuse, all-true, below-words, none-wordRefusal, none-constantRefusal, none-lengthRefusal}
+use Rattle.protocol.proofs.FirstWord.{begins-front}
 
 unless-none : (o : Option Refusal) (s : Session) (next : Stepped) → o ≡ none → unless o s next ≡ next
 unless-none o s next e = ap (λ o. unless o s next) e
@@ -68,8 +69,23 @@ pub record Short (s : Sizes) (declared : Messages ℕ ℕ) : Type 0 where
   pub matrixRemainder-short : (M : MatrixName) → at (declared .matrixRemainders) M ≤ at (lengths s .matrixRemainders) M
   pub joinedQuotient-short : declared .joinedQuotient ≤ lengths s .joinedQuotient
 
-module _ (q : Prime) (s : Sizes) (sized : All (λ t. t ≡ true) (sixSizeTests s)) (x : List ℕ) (x-length : length x ≡ s .|X|)
-    (x-below : All (λ w. w < q .p) x) (t : Transcript ℕ) (heard : Heard q s t) (declared : Messages ℕ ℕ) (short : Short s declared) where
+-- public words as an opening takes them
+pub record PublicWords (q : Prime) (s : Sizes) (x : List ℕ) : Type 0 where
+  pub x-length : length x ≡ s .|X|
+  pub x-below : All (λ w. w < q .p) x
+  pub x-begins : beginsWithOne x ≡ true
+
+-- they are what steps leave in x, with the zeros that follow them
+pub public-fits : (q : Prime) (s : Sizes) (x : List ℕ) → PublicWords q s x → publicFits q (s .|X|) (x ++ replicate (maxSize - length x) 0) ≡ true
+unfolding publicFits
+public-fits q s x public =
+    let zeros : List ℕ = replicate (maxSize - length x) 0 in
+    ap₂ _&&_ (begins-front x zeros (public .x-begins))
+    (ap₂ _&&_ (ap (allBelow q) (take-at x zeros (s .|X|) (public .x-length)) ∙ all-below q x (public .x-below))
+    (ap (λ l. all (map (λ w. eqb w 0) l)) (drop-at x zeros (s .|X|) (public .x-length)) ∙ all-true (map (λ w. eqb w 0) zeros) (zeros-pass (maxSize - length x))))
+
+module _ (q : Prime) (s : Sizes) (sized : All (λ t. t ≡ true) (sixSizeTests s)) (x : List ℕ) (public : PublicWords q s x)
+    (t : Transcript ℕ) (heard : Heard q s t) (declared : Messages ℕ ℕ) (short : Short s declared) where
   -- the session after n steps, with the transcript so far
   abbrev pub state : ℕ → Transcript ℕ → Session
   state n u = record { stage = n; sizes = s; x = x ++ replicate (maxSize - length x) 0; transcript = u }
@@ -112,9 +128,12 @@ module _ (q : Prime) (s : Sizes) (sized : All (λ t. t ≡ true) (sixSizeTests s
   unfolding openStep openRefusal sizeRefusal listRefusal
   open-taken before =
       unless-none _ before (taken 1 blank)
-      (none-first (sizeRefusal (sixSizeTests s) ∷ listRefusal (eqb (length x) (s .|X|) ∷ []) ∷ wordRefusal q x ∷ []) (
+      (none-first (openRefusals q s x) (
         none-refuse 4 0 (sixSizeTests s) sized,
-        (none-refuse 5 0 (eqb (length x) (s .|X|) ∷ []) (eq-eqb _ _ x-length, tt), (none-wordRefusal q x x-below, tt)),
+        (
+          none-refuse 5 0 (eqb (length x) (s .|X|) ∷ []) (eq-eqb _ _ (public .x-length), tt),
+          (none-wordRefusal q x (public .x-below), (none-constantRefusal x (public .x-begins), tt)),
+        ),
       ))
 
   pub alpha-taken : alphaStep q (state 1 blank) (declared .witness) (declared .mask) (declared .rowQuotient) (t .α) ≡ taken 2 afterα
@@ -189,22 +208,14 @@ module _ (q : Prime) (s : Sizes) (sized : All (λ t. t ≡ true) (sixSizeTests s
         ),
       ))
 
-  -- what stands in x
-  abbrev zeros : List ℕ
-  zeros = replicate (maxSize - length x) 0
-
-  pub public-words : take (s .|X|) (x ++ zeros) ≡ x
-  public-words = take-at x zeros (s .|X|) x-length
-
-  after-public : drop (s .|X|) (x ++ zeros) ≡ zeros
-  after-public = drop-at x zeros (s .|X|) x-length
+  -- the public words of x
+  pub public-words : take (s .|X|) (x ++ replicate (maxSize - length x) 0) ≡ x
+  public-words = take-at x (replicate (maxSize - length x) 0) (s .|X|) (public .x-length)
 
   left : leftBySteps q (state 6 t) ≡ true
-  unfolding leftBySteps publicFits transcriptFits
+  unfolding leftBySteps transcriptFits
   left =
-      ap₂ _&&_
-      (ap₂ _&&_ (ap (allBelow q) public-words ∙ all-below q x x-below)
-      (ap (λ l. all (map (λ w. eqb w 0) l)) after-public ∙ all-true (map (λ w. eqb w 0) zeros) (zeros-pass (maxSize - length x))))
+      ap₂ _&&_ (public-fits q s x public)
       (ap₂ _&&_ (all-below q (listTranscript t) (heard .words-below))
       (ap₂ _&&_ (ap not (heard .α-outside)) (ap₂ _&&_ (ap not (heard .β-outside)) (ap₂ _&&_ (ap not (heard .γ-outside)) refl))))
 

@@ -4,7 +4,6 @@ use mathlib.Core.List.{List, [], _∷_}
 use Prim.Native.Nat.{ℕ, _*_, _/_, _<_}
 use lib.ListN.{length, getD}
 use native.Mathlib.Omega.{arith}
-use native.Mathlib.Nat.{mul-le-mul-right, suc-mul}
 use Rattle.algebra.specs.Ring.{CommRing}
 use Rattle.algebra.proofs.Division.{length-quotient}
 use Rattle.algebra.proofs.PolynomialLaws.{eval-add, eval-scale, length-add, length-scale, getD-tabulate}
@@ -17,7 +16,6 @@ use Rattle.domain.specs.Domain.{element, vanishing}
 use Rattle.domain.specs.Polynomial.{Poly, eval, _⊟_, _·_, quotient, interpolate, valuesOn}
 use Rattle.domain.specs.Qualifies.{Qualifies}
 use Rattle.domain.proofs.ListLaws.{equal-entries}
-use Rattle.domain.proofs.SizeLaws.{size-positive, size-divides, size-quotient-positive}
 use Rattle.domain.proofs.DomainLaws.{inside-element, vanishing-inside, subgroup-element}
 use Rattle.domain.proofs.Interpolation.{eval-interpolate, length-interpolate, getD-valuesOn, length-valuesOn}
 use Rattle.domain.proofs.Division.{vanishing-divides, length-vanishingRatio, eval-vanishingRatio, vanishingRatio}
@@ -26,6 +24,7 @@ use Rattle.protocol.specs.Checks.{assignmentValue}
 use Rattle.protocol.specs.Messages.{lengths, publicPoly, witness, assignment}
 use Rattle.protocol.proofs.AdmissionLaws.{WellFormed}
 use Rattle.protocol.proofs.MessagePolynomials.{eval-minus, length-minus, eval-assignment}
+use Rattle.protocol.proofs.PublicColumns.{X-positive, column-below}
 
 module _ {q : Prime} (Q : Qualifies q) (c : Circuit) (W : WellFormed (q .p) c) (z : List (Elem q)) (r : Elem q) where
   abbrev R : CommRing (Elem q)
@@ -37,21 +36,6 @@ module _ {q : Prime} (Q : Qualifies q) (c : Circuit) (W : WellFormed (q .p) c) (
   abbrev xPoly : Poly q
   xPoly = interpolate (c .|X|) (publicPart c z)
 
-  X-positive : 0 < c .|X|
-  X-positive = size-positive (c .|X|) (W .X-size)
-
-  -- a public column
-  column-below : (i : ℕ) → i < c .|X| → i * (c .|C| / c .|X|) < c .|C|
-  column-below i l =
-      let k : ℕ = c .|C| / c .|X| in
-      let whole : c .|C| ≡ c .|X| * k = size-divides (c .|X|) (c .|C|) (W .X-size) (W .C-size) (W .X-within) in
-      omega (
-        arith,
-        suc-mul i k,
-        mul-le-mul-right k l,
-        size-quotient-positive (c .|X|) (c .|C|) (W .X-size) (W .C-size) (W .X-within),
-      )
-
   -- z(Y) - x̂(Y) is 0 on X
   difference-on-X : (i : ℕ) → i < c .|X| → eval (zPoly ⊟ xPoly) (element (c .|X|) i) ≡ 𝟘
   unfolding publicPart
@@ -59,7 +43,7 @@ module _ {q : Prime} (Q : Qualifies q) (c : Circuit) (W : WellFormed (q .p) c) (
       eval-minus zPoly xPoly (element (c .|X|) i)
       ∙ eq→sub-zero R _ _
       (ap (eval zPoly) (subgroup-element Q (c .|X|) (c .|C|) (W .X-size) (W .C-size) (W .X-within) i)
-      ∙ eval-interpolate Q (c .|C|) (W .C-size) z (i * (c .|C| / c .|X|)) (column-below i l)
+      ∙ eval-interpolate Q (c .|C|) (W .C-size) z (i * (c .|C| / c .|X|)) (column-below c W i l)
       ∙ sym (eval-interpolate Q (c .|X|) (W .X-size) (publicPart c z) i l ∙ getD-tabulate (c .|X|) i (λ i. getD z (i * (c .|C| / c .|X|)) 𝟘) 𝟘 l))
 
   pub length-witness : length (witness c z r) ≡ lengths (sizesOf c) .witness
@@ -67,7 +51,7 @@ module _ {q : Prime} (Q : Qualifies q) (c : Circuit) (W : WellFormed (q .p) c) (
   length-witness = omega (
     arith,
     length-add R (quotient (c .|X|) (zPoly ⊟ xPoly)) (r · vanishingRatio (c .|X|) (c .|C|)),
-    length-quotient R (c .|X|) (zPoly ⊟ xPoly) X-positive,
+    length-quotient R (c .|X|) (zPoly ⊟ xPoly) (X-positive c W),
     length-minus zPoly xPoly (omega (arith, length-interpolate (c .|C|) z, length-interpolate (c .|X|) (publicPart c z), W .X-within)),
     length-interpolate (c .|C|) z,
     length-scale R r (vanishingRatio {q = q} (c .|X|) (c .|C|)),
@@ -83,7 +67,7 @@ module _ {q : Prime} (Q : Qualifies q) (c : Circuit) (W : WellFormed (q .p) c) (
   eval-ẑ y =
       let high : Poly q = quotient (c .|X|) (zPoly ⊟ xPoly) in
       let ratio : Poly q = vanishingRatio (c .|X|) (c .|C|) in
-      eval-assignment c X-positive (publicPart c z) (witness c z r) y
+      eval-assignment c (X-positive c W) (publicPart c z) (witness c z r) y
       ∙ ap (λ w. w ⊗ vanishing (c .|X|) y ⊕ eval xPoly y) (eval-add R high (r · ratio) y ∙ ap (λ v. eval high y ⊕ v) (eval-scale R r ratio y))
       ∙ ring-by R (eval high y ∷ r ∷ eval ratio y ∷ vanishing (c .|X|) y ∷ eval zPoly y ∷ eval xPoly y ∷ vanishing (c .|C|) y ∷ [])
       (λ h r s v z x w. (h :+ r :* s) :* v :+ x := z :+ r :* w from ((:- :1) ⊙ (z :- x := h :* v)) ∷ (r ⊙ (s :* v := w)) ∷ []) (
@@ -97,7 +81,7 @@ module _ {q : Prime} (Q : Qualifies q) (c : Circuit) (W : WellFormed (q .p) c) (
   witness-rule y =
       ring-by R (eval (witness c z r) y ∷ vanishing (c .|X|) y ∷ eval zPoly y ∷ eval xPoly y ∷ r ∷ vanishing (c .|C|) y ∷ [])
       (λ w v z x r u. w :* v := z :- x :+ r :* u from (:1 ⊙ (w :* v :+ x := z :+ r :* u)) ∷ [])
-      (sym (eval-assignment c X-positive (publicPart c z) (witness c z r) y) ∙ eval-ẑ y, tt) tt
+      (sym (eval-assignment c (X-positive c W) (publicPart c z) (witness c z r) y) ∙ eval-ẑ y, tt) tt
 
   pub assignment-values : length z ≡ c .|C| → valuesOn (c .|C|) ẑ ≡ z
   assignment-values z-length =

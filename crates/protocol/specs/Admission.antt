@@ -12,7 +12,7 @@ use Rattle.field.specs.Element.{of}
 use Rattle.domain.specs.Size.{maxSize}
 use Rattle.protocol.specs.Three.{listed, mapThree}
 use Rattle.protocol.specs.Circuit.{Entry, Circuit, sizesOf, largest}
-use Rattle.protocol.specs.Refusals.{Refusal, first, sizeTests, sizeRefusal, listRefusal, wordRefusal, entryRefusal, maskRefusal, assignmentRefusal, challengeRefusal}
+use Rattle.protocol.specs.Refusals.{Refusal, first, sizeTests, sizeRefusal, listRefusal, wordRefusal, entryRefusal, maskRefusal, constantRefusal, assignmentRefusal, challengeRefusal}
 
 -- the field words of a circuit: "entry values included; sizes, counts, rows and columns not"
 unfoldable pub entryValues : Circuit → List ℕ
@@ -36,13 +36,16 @@ module _ (q : Prime) where
   abbrev pub Admitted : Circuit → Type 0
   Admitted c = first (circuitRefusals c (countTests c) []) ≡ none
 
-  -- 4 to 10 of a call or a job with the tests of its lists: z, r and m, all its challenge words in order, and those of α, β, γ among
-  -- them
+  -- 8, 13, 9 and 10, with z, m and the challenge words of α, β, γ that the call has
+  abbrev pub refusalsAfterCircuit : Circuit → List ℕ → List ℕ → List ℕ → List (Option Refusal)
+  refusalsAfterCircuit c z m points =
+      maskRefusal {q = q} c (map of m)
+      ∷ constantRefusal z ∷ assignmentRefusal {q = q} c (map of z)
+      ∷ challengeRefusal {q = q} 0 (c .|R| ∷ c .|C| ∷ largest (sizesOf c .|K|) ∷ []) (map of points)
+      ∷ []
+
+  -- 4 to 8, 13, 9 and 10 of a call or a job with the tests of its lists: z, r and m, all its challenge words in order, and those of α, β, γ
+  -- among them
   unfoldable pub proverRefusal : Circuit → List Bool → List ℕ → ℕ → List ℕ → List ℕ → List ℕ → Option Refusal
   proverRefusal c lists z r m challenges points =
-      first
-      (circuitRefusals c lists (z ++ (r ∷ (m ++ challenges)))
-      ++ (maskRefusal {q = q} c (map of m)
-      ∷ assignmentRefusal {q = q} c (map of z)
-      ∷ challengeRefusal {q = q} 0 (c .|R| ∷ c .|C| ∷ largest (sizesOf c .|K|) ∷ []) (map of points)
-      ∷ []))
+      first (circuitRefusals c lists (z ++ (r ∷ (m ++ challenges))) ++ refusalsAfterCircuit c z m points)

@@ -1,4 +1,4 @@
--- The proved cases P1 to P12, one table and one fact (document 01, "The square case"). Assumes nothing.
+-- The proved cases P1 to P12, one table and one fact (document 01, "The square case", as document 02, request 2, has it). Assumes nothing.
 use mathlib.Core.Path.{_≡_, refl}
 use mathlib.Core.List.{List, [], _∷_, map, Option·toList}
 use mathlib.Core.Option.{Option, some}
@@ -27,11 +27,11 @@ triple a b c = record { a = a; b = b; c = c }
 abbrev entry : ℕ → ℕ → ℕ → List Entry
 entry i k v = record { row = i; column = k; value = v } ∷ []
 
--- "The job 1 2 1, 1 1 1, 0 1 1, 0 1 1, 0 0 1, 9 3, 1, 1 0 2013265920 1, 2, 1 1 2, 3, 1 1 1, 5", with another z for P12
+-- the job 1 2 1, 1 1 1, 0 1 1, 0 1 1, 0 0 9, 1 3, 1, 1 0 2013265920 1, 2, 1 1 2, 3, 1 1 1, 5, with another z for P12
 abbrev square : List ℕ → Job
 square z =
     record {
-      circuit = record { |R| = 1; |C| = 2; |X| = 1; matrices = record { a = entry 0 1 1; b = entry 0 1 1; c = entry 0 0 1 } };
+      circuit = record { |R| = 1; |C| = 2; |X| = 1; matrices = record { a = entry 0 1 1; b = entry 0 1 1; c = entry 0 0 9 } };
       z = z;
       r = 1;
       m = 1 ∷ 0 ∷ minusOne ∷ 1 ∷ [];
@@ -43,7 +43,7 @@ square z =
     }
 
 abbrev job : Job
-job = square (9 ∷ 3 ∷ [])
+job = square (1 ∷ 3 ∷ [])
 
 abbrev honest : Messages (Poly babyBear) (Elem babyBear)
 honest = proof babyBear job
@@ -112,15 +112,15 @@ table =
     (list (words (of {q = babyBear} minusOne ⊗ of minusOne ∷ [])) is list (1 ∷ []))
     ∷ (list (words (Option·toList (inverse {q = babyBear} (of 2)))) is list (1006632961 ∷ []))
     ∷ (list (words (domain {q = babyBear} 2)) is list (1 ∷ minusOne ∷ []))
-    ∷ (list (words (honest .witness)) is list (4 ∷ 1 ∷ []))
+    ∷ (list (words (honest .witness)) is list (0 ∷ 1 ∷ []))
     ∷ (list (words (listed (honest .sums))) is list (3 ∷ 3 ∷ 9 ∷ []))
-    ∷ (lists (words (honest .lineRemainder) ∷ words (honest .lineQuotient) ∷ []) is lists ((7 ∷ []) ∷ (1 ∷ 1 ∷ []) ∷ []))
-    ∷ (list (words (listed (honest .values))) is list (minusOne ∷ minusOne ∷ 2 ∷ []))
+    ∷ (lists (words (honest .lineRemainder) ∷ words (honest .lineQuotient) ∷ []) is lists ((7 ∷ []) ∷ (1 ∷ 9 ∷ []) ∷ []))
+    ∷ (list (words (listed (honest .values))) is list (minusOne ∷ minusOne ∷ 18 ∷ []))
     ∷ (answers (honestConversation babyBear job) is answers (endingIn Accept))
     ∷ (answers (conversationOn babyBear job (claiming (mapThree of (triple 3 3 8)) (honest .values)) opened) is answers (endingIn (Fails Row)))
     ∷ (answers (conversationOn babyBear job (claiming (honest .sums) (mapThree of (triple minusOne minusOne 3))) opened) is answers (endingIn (Fails Line)))
     ∷ (answersOn (opened .index .a .rowcolval) (conversationOn babyBear job honest (misread (of 1))) is answersOn (of minusOne) (endingIn (Fails Matrix)))
-    ∷ (refusal (jobRefusal babyBear (square (9 ∷ 4 ∷ []))) is refusal (some (record { number = 9; position = 0 })))
+    ∷ (refusal (jobRefusal babyBear (square (1 ∷ 4 ∷ []))) is refusal (some (record { number = 9; position = 0 })))
     ∷ []
 
 -- every computed value is the stated one: the two lists are the same by computation

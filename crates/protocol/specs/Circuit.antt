@@ -7,7 +7,7 @@ use lib.ListN.{getD, length}
 use Rattle.algebra.specs.Lists.{pick, tabulate}
 use Rattle.algebra.specs.Sum.{sumList}
 use Rattle.field.specs.Prime.{Prime}
-use Rattle.field.specs.Element.{Elem, of, 𝟘, _⊗_}
+use Rattle.field.specs.Element.{Elem, of, 𝟘, 𝟙, _⊗_}
 use Rattle.field.proofs.ElementLaws.{primeRing}
 use Rattle.domain.specs.Size.{sizeFor}
 use Rattle.domain.specs.Domain.{element, lagrange}
@@ -41,6 +41,10 @@ sizesOf c = record { |R| = c .|R|; |C| = c .|C|; |X| = c .|X|; |K| = each (λ M.
 unfoldable pub largest : Three ℕ → ℕ
 largest k = max (k .a) (max (k .b) (k .c))
 
+-- "Column 0 must hold 1, in z and in x" (document 02, request 2): the public 1 variable of source 000
+abbrev pub BeginsWithOne : {q : Prime} → List (Elem q) → Type 0
+BeginsWithOne l = getD l 0 𝟘 ≡ 𝟙
+
 module _ {q : Prime} (c : Circuit) where
   -- M̂(y,z): "the sum over entries of value × L_row(Y) × L_col(Z), over R and C"
   unfoldable pub extension : MatrixName → Elem q → Elem q → Elem q
@@ -53,10 +57,12 @@ module _ {q : Prime} (c : Circuit) where
   unfoldable pub rowSum : MatrixName → List (Elem q) → ℕ → Elem q
   rowSum M z i = sumList (primeRing q) (λ e. pick (eqb (e .row) i) (of (e .value) ⊗ getD z (e .column) 𝟘) 𝟘) (at (c .matrices) M)
 
-  -- "A row is satisfied when the sum of A's values in it, each times z at its column, times the same sum for B, is the same sum
-  -- for C": every row is
-  abbrev pub Satisfied : List (Elem q) → Type 0
-  Satisfied z = (i : ℕ) → i < c .|R| → rowSum A z i ⊗ rowSum B z i ≡ rowSum C z i
+  -- z satisfies the circuit: column 0 holds 1, and every row is satisfied
+  pub record Satisfied (z : List (Elem q)) : Type 0 where
+    pub constant : BeginsWithOne z
+    -- "A row is satisfied when the sum of A's values in it, each times z at its column, times the same sum for B, is the same sum
+    -- for C"
+    pub rows : (i : ℕ) → i < c .|R| → rowSum A z i ⊗ rowSum B z i ≡ rowSum C z i
 
   -- the public part of z: "column i is public exactly when i is a multiple of |C|/|X|"
   unfoldable pub publicPart : List (Elem q) → List (Elem q)

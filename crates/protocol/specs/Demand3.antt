@@ -12,7 +12,7 @@ use Rattle.domain.specs.Domain.{Outside, sumOver}
 use Rattle.domain.specs.Polynomial.{Poly, eval, valuesOn}
 use Rattle.domain.specs.Qualifies.{Qualifies}
 use Rattle.protocol.specs.Three.{MatrixName, Three, at, each, mapThree}
-use Rattle.protocol.specs.Circuit.{Circuit, Sizes, sizesOf, largest, Satisfied, extension}
+use Rattle.protocol.specs.Circuit.{Circuit, Sizes, sizesOf, largest, BeginsWithOne, Satisfied, extension}
 use Rattle.protocol.specs.Index.{indexAt, index}
 use Rattle.protocol.specs.Checks.{Transcript, Openings, Row, Line, Matrix, Holds, weighted, lineLeft, matrixLeft, matrixRight}
 use Rattle.protocol.specs.Checks.{withα, withη, withβ, withδ, withγ, openedRow, openedLine, openedMatrix}
@@ -40,7 +40,7 @@ module _ (q : Prime) where
     abbrev ẑ : Poly q
     ẑ = assignment c (S .x) (S .w)
 
-    -- Row: "with σ_M read as ẑ_M(α), that ẑ's values on C satisfy every row"; sought: h0
+    -- Row: "with σ_M read as ẑ_M(α), that ẑ's values on C satisfy every row", and that column 0 holds 1; sought: h0
     abbrev pub RowMeans : Transcript (Elem q) → Openings (Elem q) → Type 0
     RowMeans t o =
         CheckMeans {q = q} {Choice = Poly q}
@@ -97,7 +97,8 @@ module _ (q : Prime) where
     -- all of it: for "all other messages of the lengths above, honest or not (m need not add to 0), every α outside R and β
     -- outside C, and any η and δ": t has the σ, the ω and the challenges, o the openings that the check does not read
     pub record Demand3 : Type 0 where
-      pub row : (t : Transcript (Elem q)) (o : Openings (Elem q)) → RowMeans t o
+      -- "the row claim is about an x that begins with 1" (document 02, request 2)
+      pub row : BeginsWithOne (S .x) → (t : Transcript (Elem q)) (o : Openings (Elem q)) → RowMeans t o
       pub line :
           (m : Poly q) → length m ≡ lengths s .mask → (t : Transcript (Elem q)) → Outside (c .|R|) (t .α) → (o : Openings (Elem q)) → LineMeans m t o
       pub matrix : (M : MatrixName) (t : Transcript (Elem q)) → Outside (c .|R|) (t .α) → Outside (c .|C|) (t .β) → MatrixMeans M t

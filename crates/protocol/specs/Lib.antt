@@ -16,3 +16,4 @@ pub mod Demand2
 pub mod Demand3
 pub mod Verdicts
 pub mod Divisors
+pub mod ConstantColumn

@@ -5,6 +5,7 @@ use mathlib.Core.List.{List, [], _∷_, _++_, map}
 use mathlib.Core.Option.{Option, none, some}
 use Prim.Native.Nat.{ℕ, suc, _-_, _%_}
 use lib.Dec.{eqb, leb, ltb}
+use lib.ListN.{getD}
 use Rattle.algebra.specs.Lists.{tabulate}
 use Rattle.field.specs.Prime.{Prime}
 use Rattle.field.specs.Element.{Elem, 𝟘, _⊗_, equal}
@@ -114,6 +115,14 @@ entryTests c (e ∷ es) = fits c e ∷ entryTestsAfter c e es
 -- 7, entries: "row or column past its domain, value 0, or order broken", "A then B then C"
 unfoldable pub entryRefusal : Circuit → Option Refusal
 entryRefusal c = refuse 7 0 (entryTests c (c .matrices .a) ++ (entryTests c (c .matrices .b) ++ entryTests c (c .matrices .c)))
+
+-- the first word is 1
+abbrev pub beginsWithOne : List ℕ → Bool
+beginsWithOne ws = eqb (getD ws 0 0) 1
+
+-- 13, column 0: "a z or x whose first word isn't 1", "just before the assignment check" (document 02, request 2); its position is 0
+unfoldable pub constantRefusal : List ℕ → Option Refusal
+constantRefusal ws = refuse 13 0 (beginsWithOne ws ∷ [])
 
 module _ {q : Prime} where
   -- 8, mask: "m does not add to 0 over C"

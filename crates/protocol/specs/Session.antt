@@ -14,7 +14,7 @@ use Rattle.protocol.specs.Three.{Three, each, listed}
 use Rattle.protocol.specs.Circuit.{Sizes, largest}
 use Rattle.protocol.specs.Checks.{Transcript, Openings, mapTranscript, mapOpenings, listTranscript, listOpenings, withα, withη, withβ, withδ, withγ, Verdict, verdict}
 use Rattle.protocol.specs.Messages.{Messages, lengths}
-use Rattle.protocol.specs.Refusals.{Refusal, first, pairs, sixSizeTests, turnRefusal, sizeRefusal, listRefusal, wordRefusal, challengeRefusal, lengthRefusal}
+use Rattle.protocol.specs.Refusals.{Refusal, first, pairs, sixSizeTests, beginsWithOne, turnRefusal, sizeRefusal, listRefusal, wordRefusal, constantRefusal, challengeRefusal, lengthRefusal}
 
 -- stage: how many of the seven steps were taken; x: the public words, and zeros after them up to 1,024 words
 pub record Session : Type 0 where
@@ -69,8 +69,11 @@ inTurn n stage s = eqb stage n && all (sixSizeTests s)
 
 -- what refuses each step, from the stage and the sizes of the session, in the order of the table
 module _ (q : Prime) where
+  abbrev pub openRefusals : Sizes → List ℕ → List (Option Refusal)
+  openRefusals s x = sizeRefusal (sixSizeTests s) ∷ listRefusal (eqb (length x) (s .|X|) ∷ []) ∷ wordRefusal q x ∷ constantRefusal x ∷ []
+
   unfoldable pub openRefusal : Sizes → List ℕ → Option Refusal
-  openRefusal s x = first (sizeRefusal (sixSizeTests s) ∷ listRefusal (eqb (length x) (s .|X|) ∷ []) ∷ wordRefusal q x ∷ [])
+  openRefusal s x = first (openRefusals s x)
 
   module _ (stage : ℕ) (s : Sizes) where
     abbrev table : Messages ℕ ℕ
@@ -114,14 +117,14 @@ module _ (q : Prime) where
         ∷ lengthRefusal (joinedQuotient ∷ []) (table .joinedQuotient ∷ [])
         ∷ [])
 
--- what a session holds is what steps leave in it before the openings: in x the public words and zeros after them, and a transcript of
--- field words whose α is outside R, β outside C and γ outside K
+-- what a session holds is what steps leave in it before the openings: in x the public words, of which the first is 1, and zeros after
+-- them, and a transcript of field words whose α is outside R, β outside C and γ outside K
 module _ (q : Prime) where
   abbrev pub allBelow : List ℕ → Bool
   allBelow ws = all (map (λ w. ltb w (q .p)) ws)
 
   unfoldable pub publicFits : ℕ → List ℕ → Bool
-  publicFits n x = allBelow (take n x) && all (map (λ w. eqb w 0) (drop n x))
+  publicFits n x = beginsWithOne x && (allBelow (take n x) && all (map (λ w. eqb w 0) (drop n x)))
 
   unfoldable pub transcriptFits : Sizes → Transcript ℕ → Bool
   transcriptFits s t =

@@ -3,7 +3,7 @@
 -- Assumes nothing.
 use mathlib.Core.Path.{_≡_}
 use mathlib.Core.Bool.{true}
-use mathlib.Core.List.{List, _++_}
+use mathlib.Core.List.{List, _++_, map}
 use Prim.Native.Nat.{ℕ, _<_}
 use lib.ListN.{length, take}
 use Rattle.algebra.specs.Counting.{All}
@@ -11,17 +11,18 @@ use Rattle.field.specs.Prime.{Prime}
 use Rattle.field.specs.Element.{of}
 use Rattle.domain.specs.Size.{maxSize}
 use Rattle.domain.specs.Domain.{Outside}
-use Rattle.protocol.specs.Circuit.{largest}
+use Rattle.protocol.specs.Circuit.{largest, BeginsWithOne}
 use Rattle.protocol.specs.Checks.{Openings, listTranscript, listOpenings, Verdict}
 use Rattle.protocol.specs.Refusals.{sixSizeTests}
 use Rattle.protocol.specs.Session.{Session, Step, Judged, unopened, inTurn, leftBySteps, openingsStep, verdictOf, after}
 
 module _ (q : Prime) where
   -- what demand 3 asks of sizes, public words and challenges holds of a session and its openings: the sizes are allowed, there are |X|
-  -- public words, every word is a field word, α is outside R, β outside C and γ outside K
+  -- public words, of which the first is 1, every word is a field word, α is outside R, β outside C and γ outside K
   pub record AllowedVerdict (s : Session) (o : Openings ℕ) (v : Verdict) : Type 0 where
     pub sizes-allowed : All (λ test. test ≡ true) (sixSizeTests (s .sizes))
     pub public-length : length (take (s .sizes .|X|) (s .x)) ≡ s .sizes .|X|
+    pub public-constant : BeginsWithOne {q = q} (map of (take (s .sizes .|X|) (s .x)))
     pub words-below : All (λ w. w < q .p) (take (s .sizes .|X|) (s .x) ++ (listTranscript (s .transcript) ++ listOpenings o))
     pub α-outside : Outside {q = q} (s .sizes .|R|) (of (s .transcript .α))
     pub β-outside : Outside {q = q} (s .sizes .|C|) (of (s .transcript .β))

@@ -13,8 +13,8 @@ use Rattle.domain.specs.Domain.{inside}
 use Rattle.domain.specs.BabyBear.{babyBear}
 use Rattle.protocol.specs.Three.{Three, listed}
 use Rattle.protocol.specs.Circuit.{Circuit, sizesOf, largest}
-use Rattle.protocol.specs.Refusals.{Refusal, pairs, listRefusal, maskRefusal, assignmentRefusal, challengeRefusal}
-use Rattle.protocol.specs.Admission.{entryValues, circuitRefusals, proverRefusal, assignmentTests}
+use Rattle.protocol.specs.Refusals.{Refusal, pairs, listRefusal, challengeRefusal}
+use Rattle.protocol.specs.Admission.{entryValues, circuitRefusals, refusalsAfterCircuit, proverRefusal, assignmentTests}
 use Rattle.protocol.specs.Calls.{ProverInput, circuitOf, entryListTests, roundRefusal}
 use Rattle.shared.specs.Meanings.{three}
 use Rattle.protocol.proofs.RefusalLaws.{first-none, none-first, refuse-none, none-refuse, wordRefusal-none, none-wordRefusal}
@@ -48,11 +48,7 @@ module _ (i : ProverInput) where
 
   abbrev rows : List Bool → List ℕ → List ℕ → List (Option Refusal)
   rows lists ws points =
-      circuitRefusals babyBear c lists (inputWords ws)
-      ++ (maskRefusal {q = babyBear} c (map of (i .m))
-      ∷ assignmentRefusal {q = babyBear} c (map of (i .z))
-      ∷ challengeRefusal {q = babyBear} 0 (c .|R| ∷ c .|C| ∷ largest (sizesOf c .|K|) ∷ []) (map of points)
-      ∷ [])
+      circuitRefusals babyBear c lists (inputWords ws) ++ refusalsAfterCircuit babyBear c (i .z) (i .m) points
 
   -- what 5, 6 and 10 let through: lists, the words of the circuit, z, r, m and the challenges, and points
   record Passed (ws points : List ℕ) : Type 0 where
@@ -83,7 +79,7 @@ module _ (i : ProverInput) where
         r-below = fromz .1 .0;
         m-below = fromm .0;
         challenges-below = fromm .1;
-        points-outside = refuse-none 10 0 (pointTests points) (row .1 .1 .1 .1 .1 .1 .0);
+        points-outside = refuse-none 10 0 (pointTests points) (row .1 .1 .1 .1 .1 .1 .1 .0);
       }
 
   -- with lent slices, and with other challenges
@@ -104,7 +100,10 @@ module _ (i : ProverInput) where
           none-refuse 5 0 (tests lens) lists,
           (
             none-wordRefusal babyBear (entryValues c ++ inputWords ws′) (all-append Low (entryValues c) (inputWords ws′) (P .values-below) fromz),
-            (row .1 .1 .1 .0, (row .1 .1 .1 .1 .0, (row .1 .1 .1 .1 .1 .0, (none-refuse 10 0 (pointTests points′) outside, tt)))),
+            (
+              row .1 .1 .1 .0,
+              (row .1 .1 .1 .1 .0, (row .1 .1 .1 .1 .1 .0, (row .1 .1 .1 .1 .1 .1 .0, (none-refuse 10 0 (pointTests points′) outside, tt)))),
+            ),
           ),
         ),
       )

@@ -3,6 +3,7 @@
 ghost use mathlib.Core.Path.{_≡_};
 ghost use Rattle.shared.specs.Meanings.{isFine};
 
+pub mod constant;
 pub mod lengths;
 pub mod scans;
 pub mod six_sizes;

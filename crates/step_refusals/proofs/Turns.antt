@@ -1,14 +1,12 @@
 -- What it means for the code that nothing refuses a step: it is in turn, with sizes that are allowed; and public words fit the
 -- session. Assumes nothing.
 use mathlib.Core.Path.{_≡_}
-use mathlib.Core.Bool.{Bool, true, _&&_}
+use mathlib.Core.Bool.{Bool, true}
 use mathlib.Core.List.{List, [], _∷_, _++_}
 use mathlib.Core.Option.{Option, none}
 use Prim.Native.Nat.{ℕ, _≤_}
 use native.Mathlib.Omega.{arith}
-use lib.Dec.{eqb}
 use lib.ListN.{length}
-use borrow.Author.Tests.{eqb-true}
 use Rattle.field.specs.Prime.{Prime}
 use Rattle.field.specs.Element.{of}
 use Rattle.domain.specs.Size.{maxSize}
@@ -18,12 +16,11 @@ use Rattle.shared.specs.Meanings.{faultRefusal, isFine}
 use Rattle.shared.proofs.EarlyReturns.{fine-none}
 use Rattle.protocol.specs.Three.{Three, listed}
 use Rattle.protocol.specs.Circuit.{Sizes, largest}
-use Rattle.protocol.specs.Checks.{Openings, listOpenings}
 use Rattle.protocol.specs.Messages.{lengths}
-use Rattle.protocol.specs.Refusals.{Refusal, first, sixSizeTests, turnRefusal, sizeRefusal, listRefusal, wordRefusal, challengeRefusal, lengthRefusal}
-use Rattle.protocol.specs.Session.{Session, inTurn, leftBySteps, openRefusal, alphaRefusal, etaRefusal, betaRefusal, deltaRefusal, gammaRefusal, openingsRefusal}
-use Rattle.protocol.proofs.RefusalLaws.{first-none, refuse-none, and-true, all-true}
-use Rattle.protocol.proofs.Sessions.{InTurn, in-turn, turn-passes, LeftBySteps, left-by-steps}
+use Rattle.protocol.specs.Refusals.{Refusal, first, sixSizeTests, turnRefusal, wordRefusal, challengeRefusal, lengthRefusal}
+use Rattle.protocol.specs.Session.{inTurn, openRefusal, alphaRefusal, etaRefusal, betaRefusal, deltaRefusal, gammaRefusal}
+use Rattle.protocol.proofs.RefusalLaws.{first-none, refuse-none, all-true}
+use Rattle.protocol.proofs.Sessions.{InTurn, turn-passes, open-takes}
 use Rattle.protocol.proofs.AllowedSizes.{allowed, Allowed, in-turn-allowed}
 
 -- by the code's answer on the turn
@@ -74,18 +71,7 @@ module _ (q : Prime) (stage : ℕ) (s : Sizes) where
       ∷ lengthRefusal (quotient ∷ []) (lengths s .joinedQuotient ∷ [])
       ∷ [])
 
--- the last step, whose turn has one test more: what the session holds is what steps could have left
-pub openings-turn : (q : Prime) (s : Session) (o : Openings ℕ) → openingsRefusal q s o ≡ none → InTurn 6 (s .stage) (s .sizes) × LeftBySteps q s
-unfolding openingsRefusal turnRefusal
-openings-turn q s o e =
-    let test : Bool = inTurn 6 (s .stage) (s .sizes) && leftBySteps q s in
-    let passed : test ≡ true = refuse-none 1 0 (test ∷ []) (first-none (turnRefusal test ∷ wordRefusal q (listOpenings o) ∷ []) e .0) .0 in
-    let (turn, left) = and-true (inTurn 6 (s .stage) (s .sizes)) (leftBySteps q s) passed in
-    (in-turn 6 (s .stage) (s .sizes) turn, left-by-steps q s left)
-
 pub words-fit : (q : Prime) (s : Sizes) (x : List ℕ) → openRefusal q s x ≡ none → length x ≤ maxSize
-unfolding openRefusal sizeRefusal listRefusal
 words-fit q s x e =
-    let rows = first-none (sizeRefusal (sixSizeTests s) ∷ listRefusal (eqb (length x) (s .|X|) ∷ []) ∷ wordRefusal q x ∷ []) e in
-    let same : length x ≡ s .|X| = eqb-true (length x) (s .|X|) (refuse-none 5 0 (eqb (length x) (s .|X|) ∷ []) (rows .1 .0) .0) in
-    omega (arith, size-bound (s .|X|) (allowed s (all-true (sixSizeTests s) (refuse-none 4 0 (sixSizeTests s) (rows .0))) .X-size))
+    let (sized, public) = open-takes q s x e in
+    omega (arith, public .x-length, size-bound (s .|X|) (allowed s (all-true (sixSizeTests s) sized) .X-size))

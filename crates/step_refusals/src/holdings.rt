@@ -14,6 +14,7 @@ ghost use Rattle.protocol.specs.Session.{all, publicFits, transcriptFits, leftB
 ghost use Rattle.shared.specs.Meanings.{sizes, transcript};
 use shared::Sizes;
 use shared::Transcript;
+use shared::constant::begins_with_one;
 use shared::is_fine;
 use shared::scans::judge_words;
 use shared::six_sizes::largest;
@@ -60,11 +61,14 @@ fn all_zero(words: &[u32]) -> bool
     true
 }
 
-// The n public words are field words, and zeros come after them.
+// The n public words are field words, of which the first is 1, and zeros come after them.
 fn public_fits(p: u32, n: u32, x: &[u32]) -> bool
     requires { ⌜ n ≤ length (now x) ⌝ }
     ensures { λ r. ⌜ ((q : Prime) → q .p ≡ p → r ≡ publicFits q n (now (x .entry))) ⌝ }
 {
+    if !begins_with_one(x) {
+        return false;
+    }
     let k = n as usize;
     if !all_below(p, &x[..k]) {
         return false;

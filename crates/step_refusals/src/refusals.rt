@@ -22,6 +22,7 @@ use shared::Opened;
 use shared::Sizes;
 use shared::Transcript;
 use shared::Triple;
+use shared::constant::judge_constant;
 use shared::is_fine;
 use shared::lengths::message_lengths;
 use shared::scans::judge_words;
@@ -106,7 +107,11 @@ pub fn judge_open(p: u32, s: Sizes, x: &[u32]) -> Fault
     if x.len() != s.x as usize {
         return Fault::Refused(5, 0);
     }
-    judge_words(p, 0, x)
+    let in_words = judge_words(p, 0, x);
+    if !is_fine(in_words) {
+        return in_words;
+    }
+    judge_constant(x)
 }
 
 pub fn judge_alpha(

@@ -1,6 +1,6 @@
 // The prover's rounds. Each call begins with the sizes |R|, |C|, |X|, the entry lists of A, B, C, the assignment z, the mask word and
-// the mask polynomial m. Refusals: 4 for a size, 5 for a list or a lent slice, 6 for a word, 7 for an entry, 8 for m, 9 for z, 10 for
-// a challenge.
+// the mask polynomial m. Refusals: 4 for a size, 5 for a list or a lent slice, 6 for a word, 7 for an entry, 8 for m, 13 for z's first
+// word, 9 for a row, 10 for a challenge.
 ghost use mathlib.Core.Path.{_≡_};
 ghost use lib.ListN.{length};
 ghost use Rattle.domain.specs.BabyBear.{babyBear};

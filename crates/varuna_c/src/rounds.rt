@@ -12,7 +12,7 @@ use c_numbers::answers::give_openings;
 use c_numbers::answers::give_three;
 use c_numbers::inputs::triple;
 
-// Round 1: ŵ and h0. Refusals 4 to 9.
+// Round 1: ŵ and h0. Refusals 4 to 8, 13, 9.
 #[no_mangle]
 pub extern "C" fn varuna_first_round(
     r: u32,
@@ -37,7 +37,7 @@ pub extern "C" fn varuna_first_round(
     give_filled(answer, position)
 }
 
-// Round 2: σ_A, σ_B, σ_C. Refusals 4 to 10.
+// Round 2: σ_A, σ_B, σ_C. Refusals 4 to 8, 13, 9, 10.
 #[no_mangle]
 pub extern "C" fn varuna_second_round(
     r: u32,
@@ -62,7 +62,7 @@ pub extern "C" fn varuna_second_round(
     give_three(answer, sums, position)
 }
 
-// Round 3: g1 and h1. Refusals 4 to 10.
+// Round 3: g1 and h1. Refusals 4 to 8, 13, 9, 10.
 #[no_mangle]
 pub extern "C" fn varuna_third_round(
     r: u32,
@@ -104,7 +104,7 @@ pub extern "C" fn varuna_third_round(
     give_filled(answer, position)
 }
 
-// Round 4: ω_A, ω_B, ω_C, and g_A, g_B, g_C. Refusals 4 to 10.
+// Round 4: ω_A, ω_B, ω_C, and g_A, g_B, g_C. Refusals 4 to 8, 13, 9, 10.
 #[no_mangle]
 pub extern "C" fn varuna_fourth_round(
     r: u32,
@@ -153,7 +153,7 @@ pub extern "C" fn varuna_fourth_round(
     give_three(answer, values, position)
 }
 
-// Round 5: h2. Refusals 4 to 10.
+// Round 5: h2. Refusals 4 to 8, 13, 9, 10.
 #[no_mangle]
 pub extern "C" fn varuna_fifth_round(
     r: u32,
@@ -197,7 +197,7 @@ pub extern "C" fn varuna_fifth_round(
     give_filled(answer, position)
 }
 
-// The 21 openings. Refusals 4 to 10.
+// The 21 openings. Refusals 4 to 8, 13, 9, 10.
 #[no_mangle]
 pub extern "C" fn varuna_openings(
     r: u32,

@@ -23,7 +23,7 @@ pub extern "C" fn varuna_session_new(session: &mut [u32; SESSION_WORDS])
     s.into_words(session);
 }
 
-// Opens a session with six sizes and x. Refusals 4, 5, 6.
+// Opens a session with six sizes and x. Refusals 4, 5, 6, 13.
 #[no_mangle]
 pub extern "C" fn varuna_session_open(
     session: &mut [u32; SESSION_WORDS],

@@ -201,7 +201,7 @@ impl Session {
         }
     }
 
-    // Opening makes a new session, and is never out of turn.
+    // Opening makes a new session, and is never out of turn. Refusals: 4 for a size, 5 for x, 6 for a word, 13 for x's first word.
     pub fn open(self, s: Sizes, x: &[u32]) -> Stepped
         ensures { λ r. ⌜ steppedMeaning r ≡ openStep babyBear (sessionMeaning self) (sizes s) (now (x .entry)) ⌝ }
     {

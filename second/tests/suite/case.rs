@@ -198,8 +198,8 @@ impl Case {
 pub fn square() -> Case {
     Case {
         sizes: [1, 2, 1],
-        entries: [vec![0, 1, 1], vec![0, 1, 1], vec![0, 0, 1]],
-        assignment: vec![9, 3],
+        entries: [vec![0, 1, 1], vec![0, 1, 1], vec![0, 0, 9]],
+        assignment: vec![1, 3],
         mask_word: 1,
         mask: vec![1, 0, 2013265920, 1],
         alpha: 2,

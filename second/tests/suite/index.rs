@@ -32,7 +32,7 @@ pub fn check(case: &Case) {
 #[test]
 fn square_case() {
     let last = second::MODULUS - 1;
-    let expected = [1, last, last, last, 1, last, last, last, 1, 1, 1, 1].map(|word| vec![word]);
+    let expected = [1, last, last, last, 1, last, last, last, 1, 1, 1, 9].map(|word| vec![word]);
     assert_eq!(square().index().unwrap(), expected);
 }
 

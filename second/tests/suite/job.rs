@@ -50,7 +50,9 @@ fn refusals_over_the_whole_job() {
     assert_eq!(text_with(&[(15, P), (6, 9)]), "refused 6 3\n");
     assert_eq!(text_with(&[(30, P), (6, 9)]), "refused 6 18\n");
     assert_eq!(text_with(&[(30, 1), (18, 2), (6, 9)]), "refused 7 0\n");
-    assert_eq!(text_with(&[(30, 1), (18, 2), (16, 4)]), "refused 8 0\n");
+    assert_eq!(text_with(&[(30, 1), (18, 2), (16, 4), (15, 2)]), "refused 8 0\n");
+    assert_eq!(text_with(&[(30, 1), (16, 4), (15, 2)]), "refused 13 0\n");
+    assert_eq!(text_with(&[(16, 6), (15, 4)]), "refused 13 0\n");
     assert_eq!(text_with(&[(30, 1), (16, 4)]), "refused 9 0\n");
     assert_eq!(text_with(&[(30, 1), (26, 1), (22, 1)]), "refused 10 0\n");
     assert_eq!(text_with(&[(30, 1), (26, P - 1)]), "refused 10 1\n");
@@ -62,7 +64,7 @@ fn longest_job() {
     let rest = 6 + 3 + 1 + 9;
     let entries = (1024 - rest) / 3;
     assert_eq!(rest + 3 * entries, 1024);
-    let mut case = Case { sizes: [1024, 1, 1], assignment: vec![0], mask: vec![P - 1, 1], ..square() };
+    let mut case = Case { sizes: [1024, 1, 1], assignment: vec![1], mask: vec![P - 1, 1], ..square() };
     case.entries = [(0..entries as u32).flat_map(|row| [row, 0, row + 1]).collect(), vec![], vec![]];
     case.alpha = 5;
     assert_eq!(case.job().len(), 4096);

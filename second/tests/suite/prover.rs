@@ -1,6 +1,7 @@
-//! Refusals 4 to 10 of the prover calls, at their boundaries and in their order.
+//! Refusals 4 to 10 and 13 of the prover calls, at their boundaries and in their order.
 
 use crate::case::{refusal, square, Case, UNTOUCHED};
+use crate::random::{count, Checked, Random};
 
 const P: u32 = second::MODULUS;
 
@@ -109,12 +110,50 @@ fn mask() {
     assert_eq!(changed(|case| case.mask = vec![0, 5, 0, P - 1]), [None; 6]);
 }
 
+/// Alone, where the row holds all the same (0 times 0 is 9 times 0, and 6 times 6 is 9 times 4), and beside other faults.
+#[test]
+fn constant() {
+    type Fault = fn(&mut Case);
+    for assignment in [[0, 0], [4, 6]] {
+        assert_eq!(changed(|case| case.assignment = assignment.to_vec()), from(0, (13, 0)));
+    }
+    let faults: [(Fault, (u32, usize)); 6] = [
+        (|case| case.assignment[0] = P + 1, (6, 3)),
+        (|case| case.mask_word = P, (6, 5)),
+        (|case| case.entries[2][1] = 2, (7, 2)),
+        (|case| case.mask[0] = 2, (8, 0)),
+        (|case| case.assignment[1] = 3, (13, 0)),
+        (|case| (case.alpha, case.beta, case.gamma) = (1, 1, 1), (13, 0)),
+    ];
+    for (fault, expected) in faults {
+        let both = |case: &mut Case| {
+            case.assignment = vec![4, 6];
+            fault(case);
+        };
+        assert_eq!(changed(both), from(0, expected));
+    }
+}
+
+/// Every row holds, 0 times 0 is 0, and no circuit takes it.
+#[test]
+fn all_zero_assignment() {
+    let mut random = Random::new(24);
+    let mut checked = Checked::default();
+    for _ in 0..count(100) {
+        let sizes = random.sizes(4);
+        let mut case = random.case(sizes, 16);
+        case.assignment.fill(0);
+        assert_eq!(refusals(&case), from(0, (13, 0)));
+        checked.one();
+    }
+}
+
 #[test]
 fn assignment() {
-    assert_eq!(changed(|case| case.assignment = vec![9, P - 3]), [None; 6]);
+    assert_eq!(changed(|case| case.assignment = vec![1, P - 3]), [None; 6]);
     let many = |case: &mut Case| {
         case.sizes[0] = 4;
-        case.entries = [vec![0, 1, 1, 2, 1, 1, 3, 1, 1], vec![0, 1, 1, 3, 1, 1], vec![0, 0, 1, 2, 0, 1]];
+        case.entries = [vec![0, 1, 1, 2, 1, 1, 3, 1, 1], vec![0, 1, 1, 3, 1, 1], vec![0, 0, 9, 2, 0, 1]];
     };
     assert_eq!(changed(many), from(0, (9, 2)));
 }
@@ -129,7 +168,7 @@ fn challenges() {
     assert_eq!(changed(|case| case.gamma = 1), from(5, (10, 2)));
     assert_eq!(changed(|case| case.gamma = P - 1), [None; 6]);
     let wider = |case: &mut Case| {
-        case.entries[0] = vec![0, 0, 2, 0, 1, P - 5];
+        case.entries[0] = vec![0, 0, 6, 0, 1, P - 1];
         case.gamma = P - 1;
     };
     assert_eq!(changed(wider), from(5, (10, 2)));
@@ -146,13 +185,15 @@ fn order() {
     assert_eq!(refusals(&case), from(0, (4, 2)));
     case.sizes[2] = 1;
     assert_eq!(refusals(&case), from(0, (5, 3)));
-    case.assignment = vec![9, 4];
+    case.assignment = vec![2, 4];
     assert_eq!(refusals(&case), from(0, (6, 6)));
     case.mask[0] = 2;
     assert_eq!(refusals(&case), from(0, (7, 1)));
     case.entries[1][0] = 0;
     assert_eq!(refusals(&case), from(0, (8, 0)));
     case.mask[0] = 1;
+    assert_eq!(refusals(&case), from(0, (13, 0)));
+    case.assignment[0] = 1;
     assert_eq!(refusals(&case), from(0, (9, 0)));
     case.assignment[1] = 3;
     assert_eq!(refusals(&case), from(1, (10, 0)));
@@ -164,10 +205,10 @@ fn order() {
 
 #[test]
 fn empty_matrices_of_size_one() {
-    let case = Case {
+    let mut case = Case {
         sizes: [1, 1, 1],
         entries: [vec![], vec![], vec![]],
-        assignment: vec![7],
+        assignment: vec![1],
         mask: vec![3, P - 3],
         ..square()
     };
@@ -176,4 +217,8 @@ fn empty_matrices_of_size_one() {
     assert_eq!(proof.sections.each_ref().map(Vec::as_slice), expected);
     assert_eq!(case.verdict(&proof), Ok(second::Verdict::Accept));
     assert_eq!(case.record(&proof).len(), 10 * 4 + 72);
+    for word in [0, 2] {
+        case.assignment[0] = word;
+        assert_eq!(refusals(&case), from(0, (13, 0)));
+    }
 }

@@ -88,12 +88,6 @@ impl Random {
         }
     }
 
-    /// An assignment of words, with a zero here and there.
-    fn assignment(&mut self, count: usize) -> Vec<u32> {
-        let word = |random: &mut Random| if random.below(8) == 0 { 0 } else { random.word() };
-        (0..count).map(|_| word(self)).collect()
-    }
-
     /// An entry list with random places and values.
     fn matrix(&mut self, rows: u32, columns: u32, count: usize) -> Vec<u32> {
         let mut places = BTreeSet::new();
@@ -142,13 +136,13 @@ impl Random {
         let most = most_entries.min(u64::from(rows) * u64::from(columns));
         let counts = [self.below(most + 1) as usize, self.below(most + 1) as usize];
         let [a, b] = counts.map(|count| self.matrix(rows, columns, count));
-        let assignment = self.assignment(columns as usize);
+        let assignment = assignment(columns, || if self.below(8) == 0 { 0 } else { self.word() });
         self.case_of(sizes, a, b, assignment)
     }
 
     /// A satisfied case of size 1,024 in everything, with 1,024 entries in each matrix.
     pub fn largest_case(&mut self) -> Case {
-        let assignment: Vec<u32> = (0..1024).map(|_| self.nonzero()).collect();
+        let assignment = assignment(1024, || self.nonzero());
         let [a, b] = [(); 2].map(|()| {
             let places = 0..1024;
             places.flat_map(|row| [row, self.below(1024) as u32, self.nonzero()]).collect::<Vec<u32>>()
@@ -180,6 +174,11 @@ impl Random {
         let public = self.below(columns + 1);
         [self.below(most + 1), columns, public].map(|place| 1 << place)
     }
+}
+
+/// The constant 1 in column 0, and a word for each other column.
+fn assignment(columns: u32, mut word: impl FnMut() -> u32) -> Vec<u32> {
+    (0..columns).map(|column| if column == 0 { 1 } else { word() }).collect()
 }
 
 /// The sum of a row's values, each times the assignment at its column.

@@ -19,7 +19,12 @@ fn refused<Answer>(
 
 /// The sessions of a good run with the sizes above, after 1 to 7 steps.
 fn run() -> Vec<Session> {
-    let mut sessions = vec![second::open(SIZES, &[1, 2]).unwrap()];
+    run_from(second::open(SIZES, &[1, 2]).unwrap())
+}
+
+/// The sessions of the same steps from another first session on.
+fn run_from(first: Session) -> Vec<Session> {
+    let mut sessions = vec![first];
     let mut take = |step: &dyn Fn(Session) -> Session| {
         let last = sessions[sessions.len() - 1].clone();
         sessions.push(step(last));
@@ -78,8 +83,16 @@ fn open() {
     assert_eq!(refusal(second::open([1, 3, 4, 3, 1, 1], &[])), Some((4, 1)));
     assert_eq!(refusal(second::open(SIZES, &[P])), Some((5, 0)));
     assert_eq!(refusal(second::open(SIZES, &[P; 3])), Some((5, 0)));
+    assert_eq!(refusal(second::open(SIZES, &[0])), Some((5, 0)));
     assert_eq!(refusal(second::open(SIZES, &[P - 1, P])), Some((6, 1)));
-    assert_eq!(refusal(second::open([1024; 6], &[P - 1; 1024])), None);
+    assert_eq!(refusal(second::open(SIZES, &[P + 1, 0])), Some((6, 0)));
+    for first in [0, 2, P - 1] {
+        assert_eq!(refusal(second::open(SIZES, &[first, 1])), Some((13, 0)));
+    }
+    let mut longest = [P - 1; 1024];
+    assert_eq!(refusal(second::open([1024; 6], &longest)), Some((13, 0)));
+    longest[0] = 1;
+    assert_eq!(refusal(second::open([1024; 6], &longest)), None);
 }
 
 #[test]
@@ -213,7 +226,10 @@ fn forged_sessions() {
     for (place, size) in [(1, 0), (2, 3), (3, 16), (6, 2048)] {
         assert_eq!(forged(place, size), Some((1, 0)));
     }
-    for place in [7, 8].into_iter().chain(1032..1038).chain(1039..1045) {
+    for word in [0, 2, P - 1] {
+        assert_eq!(forged(7, word), Some((1, 0)));
+    }
+    for place in [8].into_iter().chain(1032..1038).chain(1039..1045) {
         assert_eq!(forged(place, 0), None, "{place}");
         assert_eq!(forged(place, P - 1), None, "{place}");
     }
@@ -224,6 +240,18 @@ fn forged_sessions() {
             assert_eq!(forged(place, second::power(root, exponent).unwrap()), inside);
         }
         assert_eq!(forged(place, 0), None);
+    }
+}
+
+/// Only the last step looks at x: the others take a session whose x does not begin with 1.
+#[test]
+fn x_without_the_constant() {
+    for first in [0, 2, P - 1] {
+        let mut words = run()[0].words();
+        words[7] = first;
+        let sessions = run_from(Session::from_words(&words));
+        let stages: Vec<u32> = sessions.iter().map(|session| session.words()[0]).collect();
+        assert_eq!(stages, [1, 2, 3, 4, 5, 6, 6]);
     }
 }
 

@@ -5,7 +5,7 @@ use second::{Check, Verdict};
 
 #[test]
 fn text() {
-    let text = "w 4 1\nm 1 0 2013265920 1\nh0\ns 3 3 9\ng1 7\nh1 1 1\no 2013265920 2013265920 2\n\
+    let text = "w 0 1\nm 1 0 2013265920 1\nh0\ns 3 3 9\ng1 7\nh1 1 9\no 2013265920 2013265920 18\n\
                 ga\ngb\ngc\nh2\nverdict accept\n";
     assert_eq!(second::prove(&square().job()), text);
 }
@@ -16,7 +16,7 @@ fn record() {
     let record = case.record(&case.proof().unwrap());
     let words: Vec<u32> = record.chunks(4).map(|word| u32::from_le_bytes(word.try_into().unwrap())).collect();
     assert_eq!(record.len(), 132);
-    assert_eq!(words[..15], [4, 1, 1, 0, 2013265920, 1, 3, 3, 9, 7, 1, 1, 2013265920, 2013265920, 2]);
+    assert_eq!(words[..15], [0, 1, 1, 0, 2013265920, 1, 3, 3, 9, 7, 1, 9, 2013265920, 2013265920, 18]);
     assert_eq!(words[15..26], [0, 8, 24, 24, 36, 40, 48, 60, 60, 60, 60]);
     assert_eq!(words[26..], [1, 2, 1, 1, 1, 1, 60]);
     assert_eq!(second::read_record(&record), Ok([1, 2, 1, 1, 1, 1]));
@@ -35,11 +35,11 @@ fn p1_to_p3_field_and_domain() {
 fn p4_to_p8_honest() {
     let case = square();
     let proof = case.proof().unwrap();
-    assert_eq!(proof.sections[0], [4, 1]);
+    assert_eq!(proof.sections[0], [0, 1]);
     assert_eq!(proof.sections[3], [3, 3, 9]);
     assert_eq!(proof.sections[4], [7]);
-    assert_eq!(proof.sections[5], [1, 1]);
-    assert_eq!(proof.sections[6], [2013265920, 2013265920, 2]);
+    assert_eq!(proof.sections[5], [1, 9]);
+    assert_eq!(proof.sections[6], [2013265920, 2013265920, 18]);
     assert_eq!(case.verdict(&proof), Ok(Verdict::Accept));
 }
 
@@ -70,10 +70,10 @@ fn p12_unsatisfied() {
 #[test]
 fn openings() {
     let opened = square().openings().unwrap();
-    assert_eq!(opened[..9], [7, 19, 7, 4, 0, 0, 0, 0, 0]);
+    assert_eq!(opened[..9], [3, 19, 7, 28, 0, 0, 0, 0, 0]);
     assert_eq!(opened[9..13], [1, 2013265920, 2013265920, 2013265920]);
     assert_eq!(opened[13..17], opened[9..13]);
-    assert_eq!(opened[17..], [1, 1, 1, 1]);
+    assert_eq!(opened[17..], [1, 1, 1, 9]);
 }
 
 #[test]

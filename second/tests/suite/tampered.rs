@@ -3,7 +3,7 @@
 use crate::arithmetic::{combination, interpolated, minus, plus, times, value_at, vanishing, P};
 use crate::case::{Case, Proof};
 use crate::random::{count, Random};
-use second::{Check, Verdict};
+use second::{Check, Refusal, Verdict};
 
 /// Random cases with full matrices, and their proofs.
 fn cases(test: u64) -> Vec<(Case, Proof)> {
@@ -83,12 +83,17 @@ fn values_that_keep_the_line_fail_the_matrix() {
     }
 }
 
+/// The last public word changed; an only one is the constant, without which no session is opened.
 #[test]
 fn other_public_words() {
     for (case, proof) in cases(17) {
+        let [_, columns, public] = case.sizes;
         let mut other = case.clone();
-        other.assignment[0] = increased(other.assignment[0], 1);
-        assert_eq!(other.verdict(&proof), Ok(Verdict::Fails(Check::Line)));
+        let last = &mut other.assignment[(columns - columns / public) as usize];
+        *last = increased(*last, 1);
+        let refused = Refusal { number: 13, position: 0 };
+        let expected = if public == 1 { Err(refused) } else { Ok(Verdict::Fails(Check::Line)) };
+        assert_eq!(other.verdict(&proof), expected);
     }
 }
 

@@ -40,15 +40,16 @@ fn any_words(random: &mut Random, length: usize) -> Vec<u32> {
 /// Puts a random fault into a case.
 fn damage(random: &mut Random, case: &mut Case) {
     let matrix = random.below(3) as usize;
-    match random.below(9) {
+    match random.below(10) {
         0 => case.sizes[matrix] = any_word(random),
         1 => case.entries[matrix].extend(vec![any_word(random); 1 + random.below(4) as usize]),
         2 => case.assignment.push(any_word(random)),
-        3 => case.mask_word = any_word(random),
-        4 => case.mask[0] = any_word(random),
-        5 => case.alpha = any_word(random),
-        6 => case.beta = any_word(random),
-        7 => case.gamma = any_word(random),
+        3 => case.assignment[0] = any_word(random),
+        4 => case.mask_word = any_word(random),
+        5 => case.mask[0] = any_word(random),
+        6 => case.alpha = any_word(random),
+        7 => case.beta = any_word(random),
+        8 => case.gamma = any_word(random),
         _ => case.entries[matrix].iter_mut().for_each(|word| *word = any_word(random)),
     }
 }
@@ -145,7 +146,10 @@ fn sessions() {
     for _ in 0..count(3000) {
         let sizes = [(); 6].map(|()| if random.below(10) == 0 { any_word(&mut random) } else { 1 << random.below(4) });
         let length = sizes[2].min(1100) as usize + usize::from(random.below(10) == 0);
-        let public: Vec<u32> = (0..length).map(|_| tame_word(&mut random)).collect();
+        let mut public: Vec<u32> = (0..length).map(|_| tame_word(&mut random)).collect();
+        if let Some(first) = public.first_mut().filter(|_| random.below(20) > 0) {
+            *first = 1;
+        }
         let Ok(mut session) = second::open(sizes, &public) else {
             continue;
         };
@@ -155,7 +159,7 @@ fn sessions() {
             steps += usize::from(!refused);
         }
     }
-    assert!(steps > 5000, "{steps}");
+    assert!(steps > 4000, "{steps}");
 }
 
 #[test]

@@ -9,8 +9,8 @@ const P: u32 = 2_013_265_921;
 
 /// Document 01's square case.
 fn square() -> Vec<u8> {
-    let circuit = [1, 2, 1, 1, 1, 1, 0, 1, 1, 0, 1, 1, 0, 0, 1];
-    let rest = [9, 3, 1, 1, 0, P - 1, 1, 2, 1, 1, 2, 3, 1, 1, 1, 5];
+    let circuit = [1, 2, 1, 1, 1, 1, 0, 1, 1, 0, 1, 1, 0, 0, 9];
+    let rest = [1, 3, 1, 1, 0, P - 1, 1, 2, 1, 1, 2, 3, 1, 1, 1, 5];
     jobtext::bytes(&[&circuit[..], &rest].concat())
 }
 
@@ -115,8 +115,8 @@ fn shows_the_square_job() {
         "1 1 1 # entries of A, B, C",
         "0 1 1 # A: row, column, value",
         "0 1 1 # B: row, column, value",
-        "0 0 1 # C: row, column, value",
-        "9 3 # z",
+        "0 0 9 # C: row, column, value",
+        "1 3 # z",
         "1 # r",
         "1 0 2013265920 1 # m",
         "2 # alpha",
@@ -163,13 +163,13 @@ fn shown_square_job_packs_again() {
 
 /// What the program prints for the square case.
 const SQUARE_LINES: &str = "\
-w 4 1
+w 0 1
 m 1 0 2013265920 1
 h0
 s 3 3 9
 g1 7
-h1 1 1
-o 2013265920 2013265920 2
+h1 1 9
+o 2013265920 2013265920 18
 ga
 gb
 gc
@@ -179,7 +179,7 @@ verdict accept
 
 /// The square case's record, by document 01.
 fn square_record() -> Vec<u8> {
-    let sections = [4, 1, 1, 0, P - 1, 1, 3, 3, 9, 7, 1, 1, P - 1, P - 1, 2];
+    let sections = [0, 1, 1, 0, P - 1, 1, 3, 3, 9, 7, 1, 9, P - 1, P - 1, 18];
     let trailer = [0, 8, 24, 24, 36, 40, 48, 60, 60, 60, 60, 1, 2, 1, 1, 1, 1, 60];
     jobtext::bytes(&[&sections[..], &trailer].concat())
 }
@@ -230,12 +230,12 @@ fn record_names_mistakes_of_the_lines() {
     let changed = |from: &str, to: &str| said(&SQUARE_LINES.replace(from, to));
     assert_eq!(changed("h0\n", ""), "line 3, column 1: 's 3 3 9' where section h0 should stand\n");
     assert_eq!(changed("s 3 3", "s 3 x"), "line 4, column 5: 'x' is not a number\n");
-    assert_eq!(changed("h1 1 1", "h1 1 4294967296"), "line 6, column 6: 4294967296 is 2^32 or more\n");
+    assert_eq!(changed("h1 1 9", "h1 1 4294967296"), "line 6, column 6: 4294967296 is 2^32 or more\n");
     let last = "line 12: 'verdict accept' should stand here, and nothing after it\n";
     assert_eq!(changed("verdict accept\n", ""), last);
     assert_eq!(changed("accept", "fails row"), last);
     assert_eq!(changed("accept\n", "accept\nw\n"), last);
-    assert_eq!(changed("w 4 1", "w 4"), "refused 5 0: section w has 1 words, which the job's sizes do not give\n");
+    assert_eq!(changed("w 0 1", "w 0"), "refused 5 0: section w has 1 words, which the job's sizes do not give\n");
     assert_eq!(changed("g1 7", "g1 2013265921"), "refused 6 9: word 9 of the sections is 2013265921: p or more\n");
     assert_eq!(problem(&["record", &file], &[0xff]), "the text is not UTF-8\n");
 }
@@ -243,13 +243,13 @@ fn record_names_mistakes_of_the_lines() {
 #[test]
 fn shows_records() {
     let expected = [
-        "4 1 # w",
+        "0 1 # w",
         "1 0 2013265920 1 # m",
         "# h0",
         "3 3 9 # s",
         "7 # g1",
-        "1 1 # h1",
-        "2013265920 2013265920 2 # o",
+        "1 9 # h1",
+        "2013265920 2013265920 18 # o",
         "# ga",
         "# gb",
         "# gc",

@@ -2,7 +2,7 @@
 use borrow.Author.Needs.{needs}
 use mathlib.Core.Path.{_≡_, refl, sym, ap, ap₂, _∙_, subst⁻¹}
 use mathlib.Core.Bool.{true}
-use mathlib.Core.List.{List, [], _∷_, _++_, map}
+use mathlib.Core.List.{List, [], _∷_, _++_, map, tail}
 use mathlib.Core.Option.{Option}
 use Prim.Native.Nat.{ℕ}
 use native.Mathlib.Omega.{arith}
@@ -14,8 +14,8 @@ use Rattle.domain.specs.Size.{isSize}
 use Rattle.domain.specs.Qualifies.{Qualifies}
 use Rattle.domain.proofs.SizeLaws.{size-bound}
 use Rattle.protocol.specs.Circuit.{Circuit, sizesOf, largest}
-use Rattle.protocol.specs.Refusals.{Refusal, first, wordRefusal, entryRefusal, maskRefusal, assignmentRefusal, challengeRefusal}
-use Rattle.protocol.specs.Admission.{entryValues}
+use Rattle.protocol.specs.Refusals.{Refusal, first, wordRefusal, entryRefusal, challengeRefusal}
+use Rattle.protocol.specs.Admission.{entryValues, refusalsAfterCircuit}
 use Rattle.protocol.specs.Calls.{entriesOf, circuitOf}
 use Rattle.circuit.specs.Given.{given, entryLists, EachWithin}
 use Rattle.circuit.specs.Judgement.{contentsRefusal}
@@ -24,7 +24,7 @@ use Rattle.circuit.proofs.Parts.{largest-by-counts, larger-is-size, entries-wit
 use Rattle.call_refusals.proofs.judge_contents.Statement.{statement}
 use Rattle.call_refusals.proofs.judge_contents.Tie as tie
 
--- the start, from the places of the four answers
+-- the start, from the places of the five answers
 abbrev from-words : tie.After-check-call-words → tie.Start
 from-words c = c .before .before .before .before .before .before .before .before
 
@@ -34,10 +34,13 @@ from-entries c = from-words (c .before .before .before)
 abbrev from-mask : tie.After-check-mask → tie.Start
 from-mask c = from-entries (c .before .before .before)
 
-abbrev from-rows : tie.After-check-assignment → tie.Start
-from-rows c = from-mask (c .before .before .before)
+abbrev from-constant : tie.After-judge-constant → tie.Start
+from-constant c = from-mask (c .before .before .before)
 
--- what is to be answered, its row 6, and the rows after 9, after 8, after 7 and after 6
+abbrev from-rows : tie.After-check-assignment → tie.Start
+from-rows c = from-constant (c .before .before .before)
+
+-- what is to be answered, its row 6, and the rows after 9, after 13, after 8, after 7 and after 6
 module _ (q : Prime) (k : Circuit) (s : tie.Start) where
   abbrev due : Option Refusal
   due = contentsRefusal q k (s .args .z .now) (s .args .mask) (s .args .m .now) (s .args .challenges .now) (s .args .points .now)
@@ -45,14 +48,17 @@ module _ (q : Prime) (k : Circuit) (s : tie.Start) where
   abbrev words : Option Refusal
   words = wordRefusal q (entryValues k ++ (s .args .z .now ++ (s .args .mask ∷ (s .args .m .now ++ s .args .challenges .now))))
 
-  abbrev after-rows : List (Option Refusal)
-  after-rows = challengeRefusal {q = q} 0 (k .|R| ∷ k .|C| ∷ largest (sizesOf k .|K|) ∷ []) (map of (s .args .points .now)) ∷ []
+  abbrev after-entries : List (Option Refusal)
+  after-entries = refusalsAfterCircuit q k (s .args .z .now) (s .args .m .now) (s .args .points .now)
 
   abbrev after-mask : List (Option Refusal)
-  after-mask = assignmentRefusal {q = q} k (map of (s .args .z .now)) ∷ after-rows
+  after-mask = tail after-entries
 
-  abbrev after-entries : List (Option Refusal)
-  after-entries = maskRefusal {q = q} k (map of (s .args .m .now)) ∷ after-mask
+  abbrev after-constant : List (Option Refusal)
+  after-constant = tail after-mask
+
+  abbrev after-rows : List (Option Refusal)
+  after-rows = tail after-constant
 
   abbrev after-words : List (Option Refusal)
   after-words = entryRefusal k ∷ after-entries
@@ -64,7 +70,7 @@ record Given (q : Prime) (k : Circuit) (s : tie.Start) : Type 0 where
   columns : k .|C| ≡ s .args .c
   matrices : k .matrices ≡ entryLists (s .args .ea .now) (s .args .eb .now) (s .args .ec .now)
 
--- past the words, the entries, the mask and the rows
+-- past the words, the entries, the mask, column 0 and the rows
 module _ (q : Prime) (Q : Qualifies q) (k : Circuit) {x : Option Refusal} where
   pass-words : (c : tie.Else1) → let s = from-words (c .before .before) in Given q k s → x ≡ first (after-words q k s) → x ≡ due q k s
   unfolding contentsRefusal
@@ -88,12 +94,19 @@ module _ (q : Prime) (Q : Qualifies q) (k : Circuit) {x : Option Refusal} where
       (goes-on (m .check-mask .result) (m .check-mask .ensures q Q (g .prime) k (g .columns)) (after-mask q k (from-mask m))
       (sym (c .before .is-fine3 .ensures) ∙ not-false _ (c .if3 .left)) y)
 
-  pass-rows : (c : tie.Else4) → let s = from-rows (c .before .before) in Given q k s → x ≡ first (after-rows q k s) → x ≡ due q k s
+  pass-constant : (c : tie.Else4) → let s = from-constant (c .before .before) in Given q k s → x ≡ first (after-constant q k s) → x ≡ due q k s
+  pass-constant c g y =
+      let o = c .before .before in
+      pass-mask (o .before) g
+      (goes-on (o .judge-constant .result) (o .judge-constant .ensures) (after-constant q k (from-constant o))
+      (sym (c .before .is-fine4 .ensures) ∙ not-false _ (c .if4 .left)) y)
+
+  pass-rows : (c : tie.Else5) → let s = from-rows (c .before .before) in Given q k s → x ≡ first (after-rows q k s) → x ≡ due q k s
   pass-rows c g y =
       let r = c .before .before in
-      pass-mask (r .before) g
+      pass-constant (r .before) g
       (goes-on (r .check-assignment .result) (r .check-assignment .ensures q (g .prime) k (g .rows) (g .matrices)) (after-rows q k (from-rows r))
-      (sym (c .before .is-fine4 .ensures) ∙ not-false _ (c .if4 .left)) y)
+      (sym (c .before .is-fine5 .ensures) ∙ not-false _ (c .if5 .left)) y)
 
 check-call-words-requires : tie.Need-check-call-words-requires
 check-call-words-requires c κs =
@@ -153,9 +166,23 @@ within c =
     (fine-none (e .check-three-entries .result) (e .check-three-entries .ensures (circuit s) refl refl refl)
     (sym (c .before .is-fine2 .ensures) ∙ not-false _ (c .if2 .left)))
 
+judge-constant-requires : tie.Need-judge-constant-requires
+judge-constant-requires c κs = tt
+
+is-fine-requires-4 : tie.Need-is-fine-requires-4
+is-fine-requires-4 c κs = tt
+
+returns-4 : tie.Need-returns-4
+returns-4 c q Q e k er ec matrices =
+    let o = c .before .before in
+    pass-mask q Q k (o .before) (record { prime = e; rows = er; columns = ec; matrices = matrices })
+    (stops (o .judge-constant .result) (o .judge-constant .ensures) (after-constant q k (from-constant o))
+    (sym (c .before .is-fine4 .ensures) ∙ not-true _ (c .if4 .taken)))
+
 check-assignment-requires : tie.Need-check-assignment-requires
 check-assignment-requires c κs =
-    let m = c .before .before in
+    let o = c .before .before in
+    let m = o .before .before .before in
     let s = from-mask m in
     let h = s .pre .1 .0 in (
       omega arith,
@@ -165,15 +192,15 @@ check-assignment-requires c κs =
       ),
     )
 
-is-fine-requires-4 : tie.Need-is-fine-requires-4
-is-fine-requires-4 c κs = tt
+is-fine-requires-5 : tie.Need-is-fine-requires-5
+is-fine-requires-5 c κs = tt
 
-returns-4 : tie.Need-returns-4
-returns-4 c q Q e k er ec matrices =
+returns-5 : tie.Need-returns-5
+returns-5 c q Q e k er ec matrices =
     let r = c .before .before in
-    pass-mask q Q k (r .before) (record { prime = e; rows = er; columns = ec; matrices = matrices })
+    pass-constant q Q k (r .before) (record { prime = e; rows = er; columns = ec; matrices = matrices })
     (stops (r .check-assignment .result) (r .check-assignment .ensures q e k er matrices) (after-rows q k (from-rows r))
-    (sym (c .before .is-fine4 .ensures) ∙ not-true _ (c .if4 .taken)))
+    (sym (c .before .is-fine5 .ensures) ∙ not-true _ (c .if5 .taken)))
 
 largest-size-requires : tie.Need-largest-size-requires
 largest-size-requires c κs = tt
@@ -188,8 +215,8 @@ check-points-requires c κs =
     ∙ larger-is-size (length (entriesOf (s .args .ea .now))) (length (entriesOf (s .args .eb .now))) (length (entriesOf (s .args .ec .now))) in
     (s .pre .0, ((h .circuit .R-size, (h .circuit .C-size, size)), s .pre .1 .1))
 
-returns-5 : tie.Need-returns-5
-returns-5 c q Q e k er ec matrices =
+returns-6 : tie.Need-returns-6
+returns-6 c q Q e k er ec matrices =
     let l = c .before in
     let a = from-rows (l .before .before .before) .args in
     let same : a .r ∷ a .c ∷ l .largest-size .result ∷ [] ≡ k .|R| ∷ k .|C| ∷ largest (sizesOf k .|K|) ∷ [] =
@@ -210,9 +237,12 @@ judge-contents-spec =
     check-mask-requires
     is-fine-requires-3
     returns-3
-    check-assignment-requires
+    judge-constant-requires
     is-fine-requires-4
     returns-4
+    check-assignment-requires
+    is-fine-requires-5
+    returns-5
     largest-size-requires
     check-points-requires
-    returns-5)
+    returns-6)

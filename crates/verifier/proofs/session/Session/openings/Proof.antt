@@ -12,7 +12,7 @@ use Rattle.protocol.specs.Session.{Judged, openingsRefusal, openingsStep, verdi
 use Rattle.protocol.proofs.Sessions.{InTurn, LeftBySteps}
 use Rattle.protocol.proofs.RefusalLaws.{all-true}
 use Rattle.verifier.specs.Session.{sessionMeaning}
-use Rattle.step_refusals.proofs.Turns.{openings-turn}
+use Rattle.protocol.proofs.Sessions.{openings-turn}
 use Rattle.protocol.proofs.AllowedSizes.{allowed}
 use borrow.Author.Needs.{needs}
 use lib.Dec.{lit<}
