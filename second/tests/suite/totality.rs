@@ -159,7 +159,7 @@ fn sessions() {
             steps += usize::from(!refused);
         }
     }
-    assert!(steps > 4000, "{steps}");
+    assert!(steps > 5000, "{steps}");
 }
 
 #[test]
