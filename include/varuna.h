@@ -36,14 +36,15 @@
  *     }
  *
  * ANSWERS. Every call but varuna_session_new returns VARUNA_DONE, or the number of the first refusal that applies. It sets *position to
- * the refusal's position, and to 0 where it is done. A refusal changes no other memory: no result, no slice and no session. Only *verdict
- * is set by a refused last step, too: to VARUNA_NO_VERDICT. No call keeps anything for the next one.
+ * the refusal's position, and to 0 where it is done. A refusal changes no other memory: no result, no slice, no session and no circuit.
+ * Only *verdict is set by a refused last step, too: to VARUNA_NO_VERDICT. No call keeps anything for the next one.
  *
  * NAMES are document 01's, everywhere:
  *
  *     rows, columns, publics          the sizes |R|, |C|, |X|: the numbers of rows, of columns and of public columns
  *     |K_A|, |K_B|, |K_C|, |K|        the smallest size not below the matrix's count of entries (1 for none); the largest of the three
  *     entries_a, entries_b, entries_c the entry lists of the matrices A, B, C
+ *     circuit                         a circuit that grows by the entry, in memory
  *     x, z                            the public words; the assignment, a word for each column
  *     r, m                            the mask word; the mask polynomial
  *     w, h0, g1, h1, ga, gb, gc, h2   polynomials that the prover sends; w is document 01's w with a hat
@@ -62,6 +63,9 @@
  * aligned to 4 bytes, pointers to size_t to 8, pointers to bytes to 1. Memory that a call writes, *position included, overlaps nothing
  * else that it is given; memory that it only reads may overlap. While a call runs nothing else writes what it is given. A wrong length is
  * refused; a breach of this paragraph is not noticed.
+ *
+ * A CIRCUIT THAT GROWS is its words and nothing else: a copy of them is a circuit of its own, and equal words are the same circuit. Its
+ * calls take any words and reach no memory past them. What they give for words that no call made is said above them.
  *
  * THE SESSION is the host's to guard. Its words are what the verifier knows, and whoever can write them can write a session that other
  * steps would have made: the verdict is then about those. The host answers, too, for what no call can see: that each challenge is drawn
@@ -87,9 +91,9 @@ extern "C" {
 /* The version of what this file declares. The first number rises when a program that used the calls as described here has to change, the
  * second when calls or constants are added, the third when only text, speed or stack change. The archive belongs to the file it came with
  * and holds no version of its own. */
-#define VARUNA_VERSION "3.0.0"
+#define VARUNA_VERSION "3.1.0"
 #define VARUNA_VERSION_MAJOR 3
-#define VARUNA_VERSION_MINOR 0
+#define VARUNA_VERSION_MINOR 1
 #define VARUNA_VERSION_PATCH 0
 
 /* p, the number of elements of the field. */
@@ -104,6 +108,16 @@ extern "C" {
 
 /* The most words that varuna_evaluate takes. */
 #define VARUNA_MAX_COEFFICIENTS 2048
+
+/* The words of a circuit that grows; what they mean is said above its calls. The matrices by number, and the places among the circuit's
+ * words of the total of matrix n, of its counts and of its entries. */
+#define VARUNA_CIRCUIT_WORDS 12294
+#define VARUNA_MATRIX_A 0
+#define VARUNA_MATRIX_B 1
+#define VARUNA_MATRIX_C 2
+#define VARUNA_TOTAL_PLACE(n) (3 + 4097 * (size_t)(n))
+#define VARUNA_COUNTS_PLACE(n) (VARUNA_TOTAL_PLACE(n) + 1)
+#define VARUNA_ENTRIES_PLACE(n) (VARUNA_TOTAL_PLACE(n) + 1025)
 
 /* The words of a session; what they mean is said above the session's calls. */
 #define VARUNA_SESSION_WORDS 1046
@@ -142,7 +156,7 @@ extern "C" {
 #define VARUNA_REFUSED_END 2        /* a record under 72 bytes, not of whole words, or whose last word is not its length less 72; 0 */
 #define VARUNA_REFUSED_TRAILER 3    /* a record's size, then a start, then its total length: the trailer's word, 17 for the total */
 #define VARUNA_REFUSED_SIZE 4       /* a size that is not allowed, or |X| above |C|: which size */
-#define VARUNA_REFUSED_LENGTH 5     /* a slice of a wrong length, or too long: which list; a section number above 10: that number */
+#define VARUNA_REFUSED_LENGTH 5     /* a slice of a wrong length or too long: which list; a section above 10: its number; full matrix: 0 */
 #define VARUNA_REFUSED_WORD 6       /* a field word of p or more: which word */
 #define VARUNA_REFUSED_ENTRY 7      /* row or column past its domain, value 0, or not above the entry before it: which entry */
 #define VARUNA_REFUSED_MASK 8       /* m does not add to 0 over C; 0 */
@@ -151,6 +165,7 @@ extern "C" {
 #define VARUNA_REFUSED_DECLARED 11  /* a declared length above the table of messages: which one of its step */
 #define VARUNA_REFUSED_INVERSE 12   /* the inverse of 0; position 0 */
 #define VARUNA_REFUSED_CONSTANT 13  /* z or x whose first word is not 1; position 0 */
+#define VARUNA_REFUSED_PLACE 14     /* an entry added where one stands, or removed where none stands; position 0 */
 
 /* Verdicts, and what stands where there is none: a variable that holds 0 is no Accept. A proof that fails several checks fails the first of
  * row, line, matrix. */
@@ -199,6 +214,67 @@ uint32_t varuna_index(uint32_t rows, uint32_t columns, uint32_t publics, const u
                       uint32_t *col_b, size_t col_b_length, uint32_t *rowcol_b, size_t rowcol_b_length, uint32_t *rowcolval_b,
                       size_t rowcolval_b_length, uint32_t *row_c, size_t row_c_length, uint32_t *col_c, size_t col_c_length,
                       uint32_t *rowcol_c, size_t rowcol_c_length, uint32_t *rowcolval_c, size_t rowcolval_c_length, size_t *position);
+
+/*
+ * Circuits that grow by the entry. A circuit is 12,294 words that the caller keeps, in this order:
+ *
+ *     0 to 2                    |R|, |C|, |X|
+ *     3, 4100, 8197             the totals: how many entries A, B and C have
+ *     from 4, 4101, 8198 on     the counts, 1,024 words each: how many entries each row has, and 0 past |R|
+ *     from 1028, 5125, 9222 on  the entries, 3,072 words each: row, column, value of each, rising by row and then by column, and zeros
+ *                               after the last
+ *
+ * VARUNA_TOTAL_PLACE, VARUNA_COUNTS_PLACE and VARUNA_ENTRIES_PLACE give these places for matrix n: 0 is A, 1 is B, 2 is C. So the entry
+ * list that the indexer and the prover's calls take stands in the circuit itself, and
+ *
+ *     circuit + VARUNA_ENTRIES_PLACE(n), VARUNA_ENTRY_WORDS * (size_t)circuit[VARUNA_TOTAL_PLACE(n)]
+ *
+ * are its pointer and its length; circuit[0], circuit[1], circuit[2] are the sizes. Either beginning sets every word, whatever the words
+ * were before; the lists that varuna_circuit_begin_from takes are not those of the circuit that it fills. The words depend on the sizes
+ * and the entries alone, not on the order in which entries were added and removed. Rows, columns and the number of a matrix are no field
+ * words.
+ *
+ * Words that no call made are taken as they stand. A matrix has as many entries as its total says, but at most 1,024. Row 0 begins at
+ * entry 0, and each later row where the one before it ends: as many entries on as that one's count says, but not past the last entry. The
+ * row that an entry names is not looked at. The place of a column in a row is found by halving: of k entries, entry k/2 (counted from 0,
+ * rounded down) is compared; where its column is below, the search goes on among those after it, else among those before it; where none
+ * is left, there is the place. An entry stands at this row and column where the place is in the row and its entry has the column. Adding
+ * and removing set the total and the row's count to one more or one less than the numbers of entries found in this way, and move the
+ * entries from the place up to the last by one. A row of 1,024 or more is past its domain, whatever |R| is; below that a removal does not
+ * look at |R| and |C|. The indexer takes the entries up to the last. No call reads or writes past the words.
+ */
+
+/* A circuit without entries. Refusal 4. */
+uint32_t varuna_circuit_begin(uint32_t circuit[VARUNA_CIRCUIT_WORDS], uint32_t rows, uint32_t columns, uint32_t publics, size_t *position);
+
+/* A circuit with the entries of lists that the indexer takes: entries_a, entries_b, entries_c are lists 0 to 2, three words for each entry,
+ * at most 3,072. Refusals 4, 5, 6, 7. */
+uint32_t varuna_circuit_begin_from(uint32_t circuit[VARUNA_CIRCUIT_WORDS], uint32_t rows, uint32_t columns, uint32_t publics,
+                                   const uint32_t *entries_a, size_t entries_a_length, const uint32_t *entries_b, size_t entries_b_length,
+                                   const uint32_t *entries_c, size_t entries_c_length, size_t *position);
+
+/* Puts an entry into a matrix. Refusals 5, 6, 7, 14, all at position 0: a matrix that has 1,024 entries, or a number above 2; a value of p
+ * or more; a row not below |R|, a column not below |C|, or value 0; a place where an entry stands. */
+uint32_t varuna_circuit_add(uint32_t circuit[VARUNA_CIRCUIT_WORDS], uint32_t matrix, uint32_t row, uint32_t column, uint32_t value,
+                            size_t *position);
+
+/* Takes an entry out of a matrix. Refusal 14, at position 0: no entry stands there, which is so off the matrix, too, and for a number above
+ * 2. */
+uint32_t varuna_circuit_remove(uint32_t circuit[VARUNA_CIRCUIT_WORDS], uint32_t matrix, uint32_t row, uint32_t column, size_t *position);
+
+/* Sets where the entries of a row stand, by column: they are the *length words from circuit[*start] on, three for each entry. Refusal 7, at
+ * position 0: a row not below |R|, or a number above 2. */
+uint32_t varuna_circuit_row(const uint32_t circuit[VARUNA_CIRCUIT_WORDS], uint32_t matrix, uint32_t row, size_t *start, size_t *length,
+                            size_t *position);
+
+/* Fills the twelve index polynomials as varuna_index does for the circuit's sizes and entry lists, with its refusals and positions:
+ * 4, 5, 6, 7, of which a circuit that calls made has 5 alone, for the slices that are filled (lists 3 to 14). */
+uint32_t varuna_circuit_index(const uint32_t circuit[VARUNA_CIRCUIT_WORDS], uint32_t *row_a, size_t row_a_length, uint32_t *col_a,
+                              size_t col_a_length, uint32_t *rowcol_a, size_t rowcol_a_length, uint32_t *rowcolval_a,
+                              size_t rowcolval_a_length, uint32_t *row_b, size_t row_b_length, uint32_t *col_b, size_t col_b_length,
+                              uint32_t *rowcol_b, size_t rowcol_b_length, uint32_t *rowcolval_b, size_t rowcolval_b_length,
+                              uint32_t *row_c, size_t row_c_length, uint32_t *col_c, size_t col_c_length, uint32_t *rowcol_c,
+                              size_t rowcol_c_length, uint32_t *rowcolval_c, size_t rowcolval_c_length, size_t *position);
 
 /*
  * The prover. Each call begins with the same inputs:

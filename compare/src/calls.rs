@@ -13,7 +13,7 @@ pub enum Side {
 }
 
 /// The numbers of refusals are below this.
-pub const REFUSAL_NUMBERS: usize = 14;
+pub const REFUSAL_NUMBERS: usize = 15;
 
 /// The calls that take a circuit.
 #[derive(Clone, Copy, Debug, PartialEq, Eq)]
@@ -77,7 +77,7 @@ pub fn lend<const N: usize, Answer: Into<Vec<u32>>>(
 }
 
 /// Nothing, as the words of an answer.
-fn no_words(answer: Result<(), Refusal>) -> Result<Vec<u32>, Refusal> {
+pub(crate) fn no_words(answer: Result<(), Refusal>) -> Result<Vec<u32>, Refusal> {
     answer.map(|()| Vec::new())
 }
 

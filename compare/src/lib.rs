@@ -1,8 +1,8 @@
 //! The proved library beside the second implementation.
 //!
 //! `library` wraps the C interface; `case` holds a prover's inputs and `damage` what is put wrong in them; `calls` makes any
-//! public call on either side and `steps` takes those of a session on both; `random` gives seeded words and circuits; `sources`
-//! finds a library or program that is older than what it is made of.
+//! public call on either side, `steps` takes those of a session on both and `growing` makes those on a circuit that grows;
+//! `random` gives seeded words and circuits; `sources` finds a library or program that is older than what it is made of.
 
 #![allow(clippy::too_many_arguments)] // the calls have the inputs that docs/CALLS.md lists
 #![deny(unsafe_code)] // but for the wrapper of the C interface
@@ -10,6 +10,7 @@
 pub mod calls;
 pub mod case;
 pub mod damage;
+pub mod growing;
 #[allow(unsafe_code)]
 pub mod library;
 pub mod random;

@@ -1,14 +1,15 @@
 //! The C interface of the proved library (include/varuna.h), each call as a safe function with the types of the second
 //! implementation.
 //!
-//! A call's results and sessions stand between guard words. Every function checks that the guards are as they were, that the
-//! position is 0 where the call is done, and that a refused call has left its results and its session alone; a refused last
-//! step must set the verdict to none. Slices that a caller lends are watched by the caller (`calls`), for both implementations
-//! alike.
+//! A call's results, sessions and circuits stand between guard words. Every function checks that the guards are as they were, that
+//! the position is 0 where the call is done, and that a refused call has left its results, its session and its circuit alone; a
+//! refused last step must set the verdict to none. Slices that a caller lends are watched by the caller (`calls`), for both
+//! implementations alike.
 
 use second::{Check, Refusal, Verdict};
 
 pub const SESSION_WORDS: usize = second::SESSION_WORDS;
+pub const CIRCUIT_WORDS: usize = second::CIRCUIT_WORDS;
 pub const OPENINGS: usize = 21;
 /// What results, guards and lent words hold before a call.
 pub const UNWRITTEN: u32 = 0xa5c3_96e1;
@@ -47,6 +48,65 @@ extern "C" {
         eb_length: usize,
         ec: *const u32,
         ec_length: usize,
+        row_a: *mut u32,
+        row_a_length: usize,
+        col_a: *mut u32,
+        col_a_length: usize,
+        rowcol_a: *mut u32,
+        rowcol_a_length: usize,
+        rowcolval_a: *mut u32,
+        rowcolval_a_length: usize,
+        row_b: *mut u32,
+        row_b_length: usize,
+        col_b: *mut u32,
+        col_b_length: usize,
+        rowcol_b: *mut u32,
+        rowcol_b_length: usize,
+        rowcolval_b: *mut u32,
+        rowcolval_b_length: usize,
+        row_c: *mut u32,
+        row_c_length: usize,
+        col_c: *mut u32,
+        col_c_length: usize,
+        rowcol_c: *mut u32,
+        rowcol_c_length: usize,
+        rowcolval_c: *mut u32,
+        rowcolval_c_length: usize,
+        position: *mut usize,
+    ) -> u32;
+    fn varuna_circuit_begin(circuit: *mut u32, r: u32, c: u32, x: u32, position: *mut usize) -> u32;
+    fn varuna_circuit_begin_from(
+        circuit: *mut u32,
+        r: u32,
+        c: u32,
+        x: u32,
+        ea: *const u32,
+        ea_length: usize,
+        eb: *const u32,
+        eb_length: usize,
+        ec: *const u32,
+        ec_length: usize,
+        position: *mut usize,
+    ) -> u32;
+    fn varuna_circuit_add(
+        circuit: *mut u32,
+        matrix: u32,
+        row: u32,
+        column: u32,
+        value: u32,
+        position: *mut usize,
+    ) -> u32;
+    fn varuna_circuit_remove(circuit: *mut u32, matrix: u32, row: u32, column: u32, position: *mut usize) -> u32;
+    fn varuna_circuit_row(
+        circuit: *const u32,
+        matrix: u32,
+        row: u32,
+        start: *mut usize,
+        length: *mut usize,
+        position: *mut usize,
+    ) -> u32;
+    fn varuna_circuit_index(
+        circuit: *const u32,
         row_a: *mut u32,
         row_a_length: usize,
         col_a: *mut u32,
@@ -299,7 +359,7 @@ impl<const N: usize> Guarded<N> {
 
     fn check(&self) {
         let guards = [self.before, self.after];
-        assert_eq!(guards, [[UNWRITTEN; GUARDS]; 2], "a call has written past its result or session");
+        assert_eq!(guards, [[UNWRITTEN; GUARDS]; 2], "a call has written past its result, session or circuit");
     }
 }
 
@@ -398,6 +458,84 @@ pub fn index(sizes: [u32; 3], entries: [&[u32]; 3], lent_index: [&mut [u32]; 12]
     answer(|position| {
         with_slices!(varuna_index, [r, c, x], [ea, eb, ec, a0, a1, a2, a3, b0, b1, b2, b3, c0, c1, c2, c3], position)
     })
+}
+
+/// A circuit that grows: its words, in the library's layout.
+#[derive(Clone, PartialEq, Eq)]
+pub struct Circuit(Box<Guarded<CIRCUIT_WORDS>>);
+
+impl Circuit {
+    /// Any words, whether or not calls can make them.
+    pub fn from_words(words: &[u32; CIRCUIT_WORDS]) -> Circuit {
+        Circuit(Box::new(Guarded::new(*words)))
+    }
+
+    pub fn words(&self) -> &[u32; CIRCUIT_WORDS] {
+        &self.0.words
+    }
+
+    /// The answer of a call that may change the circuit; where it is refused, the circuit must be as before.
+    fn change(&mut self, call: impl FnOnce(*mut u32, *mut usize) -> u32) -> Result<(), Refusal> {
+        let before = self.clone();
+        let words = self.0.place();
+        let answer = answer(|position| call(words, position));
+        self.0.check();
+        assert!(answer.is_ok() || *self == before, "a refused call has changed the circuit");
+        answer
+    }
+
+    /// The answer of a call that only looks at the circuit.
+    fn look(&self, call: impl FnOnce(*const u32, *mut usize) -> u32) -> Result<(), Refusal> {
+        let mut looked_at = self.clone();
+        let words = looked_at.0.place();
+        let answer = answer(|position| call(words, position));
+        assert!(*self == looked_at, "a call that looks at a circuit has changed it");
+        answer
+    }
+
+    pub fn begin(&mut self, sizes: [u32; 3]) -> Result<(), Refusal> {
+        let [r, c, x] = sizes;
+        // SAFETY: the places are those of the circuit and of the position.
+        self.change(|circuit, position| unsafe { varuna_circuit_begin(circuit, r, c, x, position) })
+    }
+
+    pub fn begin_from(&mut self, sizes: [u32; 3], entries: [&[u32]; 3]) -> Result<(), Refusal> {
+        let ([r, c, x], [ea, eb, ec]) = (sizes, entries.map(given));
+        self.change(|circuit, position| {
+            with_slices!(varuna_circuit_begin_from, [circuit, r, c, x], [ea, eb, ec], position)
+        })
+    }
+
+    /// Puts an entry, its row, column and value, into a matrix.
+    pub fn add(&mut self, matrix: u32, entry: [u32; 3]) -> Result<(), Refusal> {
+        let [row, column, value] = entry;
+        // SAFETY: the places are those of the circuit and of the position.
+        self.change(|circuit, position| unsafe { varuna_circuit_add(circuit, matrix, row, column, value, position) })
+    }
+
+    pub fn remove(&mut self, matrix: u32, row: u32, column: u32) -> Result<(), Refusal> {
+        // SAFETY: the places are those of the circuit and of the position.
+        self.change(|circuit, position| unsafe { varuna_circuit_remove(circuit, matrix, row, column, position) })
+    }
+
+    /// The first word of a row's entries, and how many words they are.
+    pub fn find_row(&self, matrix: u32, row: u32) -> Result<(usize, usize), Refusal> {
+        let [mut start, mut length] = [UNWRITTEN as usize; 2];
+        // SAFETY: the places are those of the circuit, the start, the length and the position.
+        let answer = self.look(|circuit, position| unsafe {
+            varuna_circuit_row(circuit, matrix, row, &mut start, &mut length, position)
+        });
+        assert!(answer.is_ok() || [start, length] == [UNWRITTEN as usize; 2], "a refused call has written a result");
+        answer.map(|()| (start, length))
+    }
+
+    /// The twelve lent slices are row, col, rowcol, rowcolval of A, then of B, then of C.
+    pub fn index(&self, lent_index: [&mut [u32]; 12]) -> Result<(), Refusal> {
+        let [a0, a1, a2, a3, b0, b1, b2, b3, c0, c1, c2, c3] = lent_index.map(lent);
+        self.look(|circuit, position| {
+            with_slices!(varuna_circuit_index, [circuit], [a0, a1, a2, a3, b0, b1, b2, b3, c0, c1, c2, c3], position)
+        })
+    }
 }
 
 /// A call of the C interface with the inputs that every round begins with, and then others.

@@ -112,6 +112,15 @@ impl Random {
         [self.word(), self.word(), self.word()]
     }
 
+    /// The numbers below a bound, in any order.
+    pub fn order(&mut self, bound: usize) -> Vec<u32> {
+        let mut order: Vec<u32> = (0..bound as u32).collect();
+        for place in (1..order.len()).rev() {
+            order.swap(place, self.place(place + 1));
+        }
+        order
+    }
+
     /// A word at a boundary, small, an element of a domain, a size or near one, or anything.
     pub fn damaged(&mut self) -> u32 {
         match self.below(6) {

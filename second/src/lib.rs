@@ -3,8 +3,8 @@
 //!
 //! Every public call takes its inputs in the order of docs/CALLS.md and gives a complete result or the
 //! first refusal that applies. A lent slice is filled only on success. Groups of a fixed number of
-//! inputs are arrays: the three or six sizes, the three entry lists, the three challenges of a kind,
-//! the eleven sections, the twenty-one openings.
+//! inputs are arrays: the three or six sizes, the three entry lists, an entry's row, column and value,
+//! the three challenges of a kind, the eleven sections, the twenty-one openings.
 
 #![forbid(unsafe_code)]
 #![allow(clippy::too_many_arguments)] // the calls have the inputs that docs/CALLS.md lists
@@ -12,8 +12,10 @@
 mod circuit;
 mod domain;
 mod field;
+mod growing;
 mod index;
 mod job;
+mod memory;
 mod message;
 mod polynomial;
 mod prover;
@@ -27,8 +29,10 @@ mod verifier;
 
 pub use domain::domain;
 pub use field::{add, inverse, multiply, power, subtract, MODULUS};
+pub use growing::{begin, begin_from, GrowingCircuit, CIRCUIT_WORDS};
 pub use index::index;
 pub use job::prove;
+pub use memory::CircuitWords;
 pub use polynomial::{evaluate, interpolate};
 pub use prover::{fifth_round, first_round, fourth_round, openings, second_round, third_round};
 pub use record::{read_record, section, write_record};

@@ -95,6 +95,16 @@ pub(crate) fn entries(sizes: [u32; 3], lists: [&[u32]; 3]) -> Result<(), Refusal
     refuse_at(7, faults.iter().position(|&fault| fault))
 }
 
+/// 7: a row past its domain, or of no matrix.
+pub(crate) fn row(is_there: bool) -> Result<(), Refusal> {
+    refuse_unless(7, is_there)
+}
+
+/// 14, after the entries: an entry added where one stands, or removed where none stands.
+pub(crate) fn place(is_right: bool) -> Result<(), Refusal> {
+    refuse_unless(14, is_right)
+}
+
 /// 8: a mask polynomial whose values over C do not add to 0.
 pub(crate) fn mask(mask: &[Element], columns: &Domain) -> Result<(), Refusal> {
     let points = columns.elements().iter();

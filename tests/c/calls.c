@@ -1,7 +1,7 @@
 /*
  * Every exported call on the square case of document 01, with the words that it must give, and a refusal of each kind that a call has:
- * its number, its position, and that it leaves the memory of its results and the session as they were, but for the verdict, which a
- * refused last step sets to none. Prints a line for each test and last the counts; exits with 1 where a test failed.
+ * its number, its position, and that it leaves the memory of its results, the session and the circuit as they were, but for the verdict,
+ * which a refused last step sets to none. Prints a line for each test and last the counts; exits with 1 where a test failed.
  */
 #include "../../include/varuna.h" /* first, since it must need no other header */
 
@@ -51,14 +51,14 @@ static void test_constants(void)
     static const uint32_t refusals[] = {
         VARUNA_DONE,           VARUNA_REFUSED_TURN, VARUNA_REFUSED_END,   VARUNA_REFUSED_TRAILER, VARUNA_REFUSED_SIZE,
         VARUNA_REFUSED_LENGTH, VARUNA_REFUSED_WORD, VARUNA_REFUSED_ENTRY, VARUNA_REFUSED_MASK,    VARUNA_REFUSED_ASSIGNMENT,
-        VARUNA_REFUSED_CHALLENGE, VARUNA_REFUSED_DECLARED, VARUNA_REFUSED_INVERSE, VARUNA_REFUSED_CONSTANT,
+        VARUNA_REFUSED_CHALLENGE, VARUNA_REFUSED_DECLARED, VARUNA_REFUSED_INVERSE, VARUNA_REFUSED_CONSTANT, VARUNA_REFUSED_PLACE,
     };
     static const uint32_t sections[VARUNA_SECTIONS] = {
         VARUNA_SECTION_W, VARUNA_SECTION_M,  VARUNA_SECTION_H0, VARUNA_SECTION_S,  VARUNA_SECTION_G1, VARUNA_SECTION_H1,
         VARUNA_SECTION_O, VARUNA_SECTION_GA, VARUNA_SECTION_GB, VARUNA_SECTION_GC, VARUNA_SECTION_H2,
     };
     char version[20];
-    int in_order = COUNT(refusals) == 14;
+    int in_order = COUNT(refusals) == 15;
     for (uint32_t i = 0; i < COUNT(refusals); i++)
         in_order = in_order && refusals[i] == i;
     test("the numbers of refusals", in_order);
@@ -68,6 +68,10 @@ static void test_constants(void)
     test("the numbers of sections", in_order);
     test("p and the bounds", VARUNA_MODULUS == (UINT32_C(15) << 27) + 1 && VARUNA_MAX_SIZE == 1024 && VARUNA_ENTRY_WORDS == 3 &&
                                  VARUNA_MAX_ENTRY_LIST == 3 * 1024 && VARUNA_MAX_COEFFICIENTS == 2048);
+    test("the numbers of matrices", VARUNA_MATRIX_A == 0 && VARUNA_MATRIX_B == 1 && VARUNA_MATRIX_C == 2);
+    test("the places of a circuit's words", VARUNA_CIRCUIT_WORDS == 12294 && VARUNA_TOTAL_PLACE(0) == 3 && VARUNA_COUNTS_PLACE(0) == 4 &&
+                                                VARUNA_ENTRIES_PLACE(0) == 1028 && VARUNA_TOTAL_PLACE(1) == 4100 &&
+                                                VARUNA_ENTRIES_PLACE(2) + VARUNA_MAX_ENTRY_LIST == VARUNA_CIRCUIT_WORDS);
     snprintf(version, sizeof version, "%d.%d.%d", VARUNA_VERSION_MAJOR, VARUNA_VERSION_MINOR, VARUNA_VERSION_PATCH);
     test("the version", strcmp(version, VARUNA_VERSION) == 0);
 }
@@ -346,6 +350,231 @@ static void test_jobs(void)
     }
     test("the words of index, rounds and openings", memcmp(&found, &expected, sizeof found) == 0);
     test_later_challenges();
+}
+
+/* Circuits that grow. */
+
+#define WORDS VARUNA_CIRCUIT_WORDS
+
+/* Memory that a call changes, and what it must be then. */
+static uint32_t circuit[WORDS], expected_circuit[WORDS];
+
+/* The words of a circuit of 2 rows and 2 columns with these entries in A and none in B and C. */
+static void expect_circuit(const uint32_t *entries, size_t count)
+{
+    static const uint32_t sizes[3] = {2, 2, 1};
+    memset(expected_circuit, 0, sizeof expected_circuit);
+    memcpy(expected_circuit, sizes, sizeof sizes);
+    expected_circuit[VARUNA_TOTAL_PLACE(VARUNA_MATRIX_A)] = (uint32_t)count;
+    for (size_t i = 0; i < count; i++)
+        expected_circuit[VARUNA_COUNTS_PLACE(VARUNA_MATRIX_A) + entries[3 * i]]++;
+    memcpy(expected_circuit + VARUNA_ENTRIES_PLACE(VARUNA_MATRIX_A), entries, 3 * count * sizeof(uint32_t));
+}
+
+static int begins(uint32_t rows, uint32_t columns, uint32_t publics)
+{
+    size_t position = NOWHERE;
+    memset(circuit, 0xAB, sizeof circuit);
+    uint32_t number = varuna_circuit_begin(circuit, rows, columns, publics, &position);
+    return is_done(number, position);
+}
+
+static int adds(uint32_t matrix, uint32_t row, uint32_t column, uint32_t value)
+{
+    size_t position = NOWHERE;
+    uint32_t number = varuna_circuit_add(circuit, matrix, row, column, value, &position);
+    return is_done(number, position);
+}
+
+static int refuses_add(uint32_t matrix, uint32_t row, uint32_t column, uint32_t value, uint32_t expected_number)
+{
+    size_t position = NOWHERE;
+    memcpy(expected_circuit, circuit, sizeof circuit);
+    uint32_t number = varuna_circuit_add(circuit, matrix, row, column, value, &position);
+    return is_refused(number, position, expected_number, 0) && same(circuit, expected_circuit, WORDS);
+}
+
+static int removes(uint32_t matrix, uint32_t row, uint32_t column)
+{
+    size_t position = NOWHERE;
+    uint32_t number = varuna_circuit_remove(circuit, matrix, row, column, &position);
+    return is_done(number, position);
+}
+
+static int refuses_remove(uint32_t matrix, uint32_t row, uint32_t column)
+{
+    size_t position = NOWHERE;
+    memcpy(expected_circuit, circuit, sizeof circuit);
+    uint32_t number = varuna_circuit_remove(circuit, matrix, row, column, &position);
+    return is_refused(number, position, VARUNA_REFUSED_PLACE, 0) && same(circuit, expected_circuit, WORDS);
+}
+
+static int finds_row(uint32_t matrix, uint32_t row, size_t expected_start, size_t expected_length)
+{
+    size_t start = 77, length = 78, position = NOWHERE;
+    uint32_t number = varuna_circuit_row(circuit, matrix, row, &start, &length, &position);
+    return is_done(number, position) && start == expected_start && length == expected_length;
+}
+
+static int refuses_row(uint32_t matrix, uint32_t row)
+{
+    size_t start = 77, length = 78, position = NOWHERE;
+    uint32_t number = varuna_circuit_row(circuit, matrix, row, &start, &length, &position);
+    return is_refused(number, position, VARUNA_REFUSED_ENTRY, 0) && start == 77 && length == 78;
+}
+
+/* A beginning from A's list and B's of the square case and a list for C. */
+static uint32_t begin_from(uint32_t rows, size_t b_length, const uint32_t *c, size_t c_length, size_t *position)
+{
+    memset(circuit, 0xAB, sizeof circuit);
+    return varuna_circuit_begin_from(circuit, rows, 2, 1, square.ea, 3, square.eb, b_length, c, c_length, position);
+}
+
+static int refuses_begin_from(uint32_t rows, size_t b_length, const uint32_t *c, size_t c_length, uint32_t number, size_t expected)
+{
+    size_t position = NOWHERE;
+    memset(expected_circuit, 0xAB, sizeof expected_circuit);
+    uint32_t found = begin_from(rows, b_length, c, c_length, &position);
+    return is_refused(found, position, number, expected) && same(circuit, expected_circuit, WORDS);
+}
+
+static int refuses_begin(uint32_t rows, uint32_t columns, uint32_t publics, size_t expected)
+{
+    size_t position = NOWHERE;
+    memset(circuit, 0xAB, sizeof circuit);
+    memset(expected_circuit, 0xAB, sizeof expected_circuit);
+    uint32_t number = varuna_circuit_begin(circuit, rows, columns, publics, &position);
+    return is_refused(number, position, VARUNA_REFUSED_SIZE, expected) && same(circuit, expected_circuit, WORDS);
+}
+
+static void test_beginnings(void)
+{
+    static const uint32_t word[3] = {0, 0, P}, past[6] = {0, 0, 1, 0, 2, 1}, unsorted[6] = {0, 1, 1, 0, 0, 1};
+    static uint32_t long_list[VARUNA_MAX_ENTRY_LIST + VARUNA_ENTRY_WORDS];
+    size_t position = NOWHERE;
+    int done = begins(2, 2, 1);
+    expect_circuit(none, 0);
+    test("circuit_begin", done && same(circuit, expected_circuit, WORDS));
+    test("circuit_begin refuses a size", refuses_begin(3, 5, 7, 0) && refuses_begin(1, 0, 1, 1) && refuses_begin(1, 2048, 1, 1));
+    test("circuit_begin refuses |X| above |C|", refuses_begin(1, 2, 4, 2));
+    uint32_t number = begin_from(1, 3, square.ec, 3, &position);
+    expect_circuit(square.ea, 1);
+    expected_circuit[0] = 1;
+    memcpy(expected_circuit + VARUNA_TOTAL_PLACE(VARUNA_MATRIX_B), (uint32_t[]){1, 1}, 8);
+    memcpy(expected_circuit + VARUNA_ENTRIES_PLACE(VARUNA_MATRIX_B), square.eb, 12);
+    memcpy(expected_circuit + VARUNA_TOTAL_PLACE(VARUNA_MATRIX_C), (uint32_t[]){1, 1}, 8);
+    memcpy(expected_circuit + VARUNA_ENTRIES_PLACE(VARUNA_MATRIX_C), square.ec, 12);
+    test("circuit_begin_from", is_done(number, position) && same(circuit, expected_circuit, WORDS));
+    test("circuit_begin_from refuses a size", refuses_begin_from(3, 2, word, 3, VARUNA_REFUSED_SIZE, 0));
+    test("circuit_begin_from refuses a list", refuses_begin_from(1, 2, word, 3, VARUNA_REFUSED_LENGTH, 1) &&
+                                                  refuses_begin_from(1, 3, long_list, COUNT(long_list), VARUNA_REFUSED_LENGTH, 2));
+    test("circuit_begin_from refuses a word", refuses_begin_from(1, 3, word, 3, VARUNA_REFUSED_WORD, 2));
+    test("circuit_begin_from refuses an entry", refuses_begin_from(1, 3, past, 6, VARUNA_REFUSED_ENTRY, 3) &&
+                                                    refuses_begin_from(1, 3, unsorted, 6, VARUNA_REFUSED_ENTRY, 3));
+}
+
+/* The entries of A one by one, not in their order; each stands at its place at once. */
+static void test_growing(void)
+{
+    static const uint32_t one[] = {1, 0, 7}, two[] = {0, 1, P - 1, 1, 0, 7}, three[] = {0, 0, 1, 0, 1, P - 1, 1, 0, 7};
+    int all = begins(2, 2, 1) && adds(VARUNA_MATRIX_A, 1, 0, 7);
+    expect_circuit(one, 1);
+    all = all && same(circuit, expected_circuit, WORDS) && adds(VARUNA_MATRIX_A, 0, 1, P - 1);
+    expect_circuit(two, 2);
+    all = all && same(circuit, expected_circuit, WORDS) && adds(VARUNA_MATRIX_A, 0, 0, 1);
+    expect_circuit(three, 3);
+    test("circuit_add", all && same(circuit, expected_circuit, WORDS));
+    size_t start = VARUNA_ENTRIES_PLACE(VARUNA_MATRIX_A);
+    test("circuit_row", finds_row(VARUNA_MATRIX_A, 0, start, 6) && finds_row(VARUNA_MATRIX_A, 1, start + 6, 3) &&
+                            finds_row(VARUNA_MATRIX_B, 1, VARUNA_ENTRIES_PLACE(VARUNA_MATRIX_B), 0));
+    test("circuit_row refuses a row past its domain", refuses_row(VARUNA_MATRIX_A, 2) && refuses_row(VARUNA_MATRIX_C, UINT32_MAX));
+    test("circuit_row refuses a matrix above 2", refuses_row(3, 0) && refuses_row(UINT32_MAX, 0));
+    test("circuit_add refuses a matrix above 2", refuses_add(3, 0, 0, 1, VARUNA_REFUSED_LENGTH) &&
+                                                     refuses_add(UINT32_MAX, 9, 9, P, VARUNA_REFUSED_LENGTH));
+    test("circuit_add refuses word p", refuses_add(VARUNA_MATRIX_B, 0, 0, P, VARUNA_REFUSED_WORD) &&
+                                           refuses_add(VARUNA_MATRIX_A, 2, 2, P, VARUNA_REFUSED_WORD));
+    test("circuit_add refuses an entry", refuses_add(VARUNA_MATRIX_B, 2, 0, 1, VARUNA_REFUSED_ENTRY) &&
+                                             refuses_add(VARUNA_MATRIX_B, 0, 2, 1, VARUNA_REFUSED_ENTRY) &&
+                                             refuses_add(VARUNA_MATRIX_A, 0, 0, 0, VARUNA_REFUSED_ENTRY));
+    test("circuit_add refuses an occupied place", refuses_add(VARUNA_MATRIX_A, 0, 1, 5, VARUNA_REFUSED_PLACE));
+    test("circuit_remove refuses an empty place", refuses_remove(VARUNA_MATRIX_A, 1, 1) && refuses_remove(VARUNA_MATRIX_B, 0, 0));
+    test("circuit_remove refuses a place off the matrix", refuses_remove(VARUNA_MATRIX_A, 2, 0) && refuses_remove(VARUNA_MATRIX_A, 0, 2) &&
+                                                              refuses_remove(VARUNA_MATRIX_A, UINT32_MAX, UINT32_MAX));
+    test("circuit_remove refuses a matrix above 2", refuses_remove(3, 0, 0) && refuses_remove(UINT32_MAX, 0, 0));
+    all = removes(VARUNA_MATRIX_A, 0, 0);
+    expect_circuit(two, 2);
+    all = all && same(circuit, expected_circuit, WORDS) && removes(VARUNA_MATRIX_A, 0, 1);
+    expect_circuit(one, 1);
+    all = all && same(circuit, expected_circuit, WORDS) && removes(VARUNA_MATRIX_A, 1, 0);
+    expect_circuit(none, 0);
+    test("circuit_remove", all && same(circuit, expected_circuit, WORDS));
+}
+
+/* All 1,024 places of 32 rows and columns. */
+static void test_full_matrix(void)
+{
+    int all = begins(64, 32, 1);
+    for (uint32_t i = 0; i < VARUNA_MAX_SIZE; i++)
+        all = all && adds(VARUNA_MATRIX_C, i / 32, i % 32, i + 1);
+    test("circuit_add up to 1,024 entries", all && finds_row(VARUNA_MATRIX_C, 31, VARUNA_CIRCUIT_WORDS - 96, 96));
+    test("circuit_add refuses an entry more", refuses_add(VARUNA_MATRIX_C, 32, 0, 1, VARUNA_REFUSED_LENGTH));
+    test("circuit_add refuses a full matrix first", refuses_add(VARUNA_MATRIX_C, 0, 0, 1, VARUNA_REFUSED_LENGTH) &&
+                                                        refuses_add(VARUNA_MATRIX_C, 99, 99, P, VARUNA_REFUSED_LENGTH));
+    all = removes(VARUNA_MATRIX_C, 0, 0) && adds(VARUNA_MATRIX_C, 32, 0, 1);
+    test("circuit_add after a removal", all && finds_row(VARUNA_MATRIX_C, 32, VARUNA_CIRCUIT_WORDS - 3, 3));
+}
+
+static uint32_t index_circuit(uint32_t i[12][1], size_t last_length, size_t *position)
+{
+    return varuna_circuit_index(circuit, i[0], 1, i[1], 1, i[2], 1, i[3], 1, i[4], 1, i[5], 1, i[6], 1, i[7], 1, i[8], 1, i[9], 1, i[10], 1,
+                                i[11], last_length, position);
+}
+
+static void test_circuit_index(void)
+{
+    uint32_t found[12][1], kept[12][1];
+    size_t position = NOWHERE;
+    memset(found, 0xAB, sizeof found);
+    memset(kept, 0xAB, sizeof kept);
+    int grown = begins(1, 2, 1) && adds(VARUNA_MATRIX_C, 0, 0, 9) && adds(VARUNA_MATRIX_B, 0, 1, 1) && adds(VARUNA_MATRIX_A, 0, 1, 1);
+    uint32_t number = index_circuit(found, 2, &position);
+    test("circuit_index refuses a lent slice", grown && is_refused(number, position, VARUNA_REFUSED_LENGTH, 14) &&
+                                                   memcmp(found, kept, sizeof found) == 0);
+    number = index_circuit(found, 1, &position);
+    test("circuit_index", is_done(number, position) && same(found[0], expected_openings + 9, 12));
+    memset(found, 0xAB, sizeof found);
+    circuit[VARUNA_ENTRIES_PLACE(VARUNA_MATRIX_C) + 2] = P;
+    number = index_circuit(found, 1, &position);
+    test("circuit_index refuses a word", is_refused(number, position, VARUNA_REFUSED_WORD, 2) && memcmp(found, kept, sizeof found) == 0);
+    circuit[VARUNA_ENTRIES_PLACE(VARUNA_MATRIX_B)] = 1;
+    circuit[VARUNA_ENTRIES_PLACE(VARUNA_MATRIX_C) + 2] = 9;
+    number = index_circuit(found, 1, &position);
+    test("circuit_index refuses an entry", is_refused(number, position, VARUNA_REFUSED_ENTRY, 1) && memcmp(found, kept, sizeof found) == 0);
+    circuit[2] = 4;
+    number = index_circuit(found, 1, &position);
+    test("circuit_index refuses a size", is_refused(number, position, VARUNA_REFUSED_SIZE, 2) && memcmp(found, kept, sizeof found) == 0);
+}
+
+/* Words that no call made: all bits are set, so row 0 of each matrix has 1,024 entries, all at column 2^32 - 1. */
+static void test_forged_circuit(void)
+{
+    size_t start = VARUNA_ENTRIES_PLACE(VARUNA_MATRIX_B), end = start + VARUNA_MAX_ENTRY_LIST;
+    memset(circuit, 0xFF, sizeof circuit);
+    test("circuit_row of words that no call made", finds_row(VARUNA_MATRIX_B, 0, start, VARUNA_MAX_ENTRY_LIST) &&
+             finds_row(VARUNA_MATRIX_B, 1, end, 0) && finds_row(VARUNA_MATRIX_B, 1023, end, 0) && refuses_row(VARUNA_MATRIX_B, 1024));
+    test("circuit_add to words that no call made", refuses_add(VARUNA_MATRIX_B, 0, 0, 1, VARUNA_REFUSED_LENGTH));
+    test("circuit_remove refuses what is not in such words", refuses_remove(VARUNA_MATRIX_B, 0, 7) &&
+             refuses_remove(VARUNA_MATRIX_B, 1, UINT32_MAX) && refuses_remove(VARUNA_MATRIX_B, 1024, UINT32_MAX));
+    memcpy(expected_circuit, circuit, sizeof circuit);
+    expected_circuit[VARUNA_TOTAL_PLACE(VARUNA_MATRIX_B)] = expected_circuit[VARUNA_COUNTS_PLACE(VARUNA_MATRIX_B)] = 1023;
+    memset(expected_circuit + end - 3, 0, 12);
+    int done = removes(VARUNA_MATRIX_B, 0, UINT32_MAX);
+    test("circuit_remove from words that no call made", done && same(circuit, expected_circuit, WORDS));
+    expected_circuit[VARUNA_TOTAL_PLACE(VARUNA_MATRIX_B)] = expected_circuit[VARUNA_COUNTS_PLACE(VARUNA_MATRIX_B)] = 1024;
+    memset(expected_circuit + end - 3, 0xFF, 12);
+    memcpy(expected_circuit + start, (uint32_t[]){0, 5, 6}, 12);
+    done = adds(VARUNA_MATRIX_B, 0, 5, 6);
+    test("circuit_add at the place that halving finds", done && same(circuit, expected_circuit, WORDS));
 }
 
 /* The session. */
@@ -697,6 +926,11 @@ int main(void)
     test_evaluate();
     test_interpolate();
     test_jobs();
+    test_beginnings();
+    test_growing();
+    test_full_matrix();
+    test_circuit_index();
+    test_forged_circuit();
     test_session_words();
     test_forged_sessions();
     test_verdicts();
@@ -709,6 +943,7 @@ int main(void)
     test_stack();
     test_unread();
     test_header();
+    test_example();
     printf("%d passed, %d failed\n", passed, failed);
     return failed != 0;
 }

@@ -42,8 +42,21 @@ static int gives_and_refuses()
         && varuna_read_record(bytes, sizeof bytes, sizes, &position) == VARUNA_REFUSED_END && position == 0;
 }
 
+static int grows()
+{
+    static uint32_t circuit[VARUNA_CIRCUIT_WORDS];
+    size_t start = 77, length = 78, position = 99;
+    return varuna_circuit_begin(circuit, 1, 2, 1, &position) == VARUNA_DONE
+        && varuna_circuit_add(circuit, VARUNA_MATRIX_C, 0, 0, 9, &position) == VARUNA_DONE
+        && varuna_circuit_add(circuit, VARUNA_MATRIX_C, 0, 0, 9, &position) == VARUNA_REFUSED_PLACE
+        && varuna_circuit_row(circuit, VARUNA_MATRIX_C, 0, &start, &length, &position) == VARUNA_DONE
+        && start == VARUNA_ENTRIES_PLACE(VARUNA_MATRIX_C) && length == VARUNA_ENTRY_WORDS && circuit[start + 2] == 9
+        && varuna_circuit_remove(circuit, VARUNA_MATRIX_C, 0, 0, &position) == VARUNA_DONE;
+}
+
 void test_header()
 {
     test("the header's verifier, in C++", accepts());
     test("calls from C++", gives_and_refuses());
+    test("a circuit that grows from C++", grows());
 }

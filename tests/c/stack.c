@@ -23,6 +23,7 @@ static const uint32_t alpha = 2, beta = 3, gamma_point = 5, eta[3] = {7, 8, 9}, 
 #define ASSIGNED CIRCUIT, z, N, 4, m, 2 * N
 
 static uint32_t index_polynomials[12][N], w[N], h0[N - 1], sums[3], g1[N - 1], h1[N], values[3], g[3][N - 1], h2[N - 1];
+static uint32_t circuit[VARUNA_CIRCUIT_WORDS], other_circuit[VARUNA_CIRCUIT_WORDS], other_index[12][N];
 static uint32_t openings[VARUNA_OPENINGS], session[VARUNA_SESSION_WORDS], other[VARUNA_SESSION_WORDS], verdict = 77;
 static uint8_t record[RECORD_BYTES];
 static const uint32_t sizes[VARUNA_SIZES] = {SIZES, N, N, N}, public_sizes[VARUNA_SIZES] = {N, N, N, N, N, N};
@@ -52,6 +53,49 @@ static void indexing(void)
     uint32_t(*i)[N] = index_polynomials;
     number = varuna_index(CIRCUIT, i[0], N, i[1], N, i[2], N, i[3], N, i[4], N, i[5], N, i[6], N, i[7], N, i[8], N, i[9], N, i[10], N,
                           i[11], N, &position);
+}
+
+static void circuit_begin(void)
+{
+    number = varuna_circuit_begin(circuit, SIZES, &position);
+}
+
+static void circuit_begin_from(void)
+{
+    number = varuna_circuit_begin_from(circuit, CIRCUIT, &position);
+}
+
+static void circuit_remove_first(void)
+{
+    number = varuna_circuit_remove(circuit, VARUNA_MATRIX_C, 0, 0, &position);
+}
+
+static void circuit_add_first(void)
+{
+    number = varuna_circuit_add(circuit, VARUNA_MATRIX_C, 0, 0, 1, &position);
+}
+
+static void circuit_remove_last(void)
+{
+    number = varuna_circuit_remove(circuit, VARUNA_MATRIX_C, N - 1, N - 1, &position);
+}
+
+static void circuit_add_last(void)
+{
+    number = varuna_circuit_add(circuit, VARUNA_MATRIX_C, N - 1, N - 1, 1, &position);
+}
+
+static void circuit_row(void)
+{
+    size_t start, length;
+    number = varuna_circuit_row(circuit, VARUNA_MATRIX_C, N - 1, &start, &length, &position);
+}
+
+static void circuit_index(void)
+{
+    uint32_t(*i)[N] = other_index;
+    number = varuna_circuit_index(circuit, i[0], N, i[1], N, i[2], N, i[3], N, i[4], N, i[5], N, i[6], N, i[7], N, i[8], N, i[9], N, i[10],
+                                  N, i[11], N, &position);
 }
 
 static void first_round(void)
@@ -177,6 +221,14 @@ static const struct {
     {"evaluate", evaluate},
     {"interpolate", interpolate},
     {"index", indexing},
+    {"circuit_begin", circuit_begin},
+    {"circuit_begin_from with 1,024 entries in each list", circuit_begin_from},
+    {"circuit_remove at the first of 1,024 places", circuit_remove_first},
+    {"circuit_add at the first of 1,024 places", circuit_add_first},
+    {"circuit_remove at the last of 1,024 places", circuit_remove_last},
+    {"circuit_add at the last of 1,024 places", circuit_add_last},
+    {"circuit_row", circuit_row},
+    {"circuit_index", circuit_index},
     {"first_round", first_round},
     {"second_round", second_round},
     {"third_round", third_round},
@@ -204,11 +256,14 @@ void test_stack(void)
         entries[3 * i + 2] = z[i] = 1;
     }
     for (size_t i = 0; i < COUNT(calls); i++) {
-        char name[80];
+        char name[100];
         number = 77;
         size_t used = stack_used(calls[i].call);
         snprintf(name, sizeof name, "stack of %s, %zu bytes", calls[i].name, used);
         test(name, number == VARUNA_DONE && used < LIMIT);
     }
     test("the proof of 1,024 rows is accepted", verdict == VARUNA_ACCEPT);
+    number = varuna_circuit_begin_from(other_circuit, CIRCUIT, &position);
+    test("the circuit of 1,024 entries removed and added again is as it was", memcmp(circuit, other_circuit, sizeof circuit) == 0);
+    test("its index is that of the lists", memcmp(other_index, index_polynomials, sizeof other_index) == 0);
 }

@@ -20,6 +20,9 @@ void test_unread(void);
 /* The tests of header.cpp. */
 void test_header(void);
 
+/* The test of example.c. */
+void test_example(void);
+
 #ifdef __cplusplus
 }
 #endif

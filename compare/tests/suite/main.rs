@@ -1,7 +1,7 @@
 //! The proved library and the programs `prove` and `sheet` beside the second implementation, on the same inputs.
 //!
-//! Every answer, every word of every lent slice and every session is compared whole. A test stops at the first difference and
-//! prints the input that shows it, a job as the text that `jobtext pack` takes.
+//! Every answer, every word of every lent slice, every session and every circuit that grows is compared whole. A test stops at the
+//! first difference and prints the input that shows it, a job as the text that `jobtext pack` takes.
 //!
 //! What is needed first, in the repository: `rt staticlib varuna_c` makes target/staticlib/libvaruna_c.a, and
 //! `rt check prove sheet` target/bin/prove and target/bin/sheet; one that is older than its sources is refused. VARUNA_LIBRARY
@@ -17,6 +17,7 @@ mod arithmetic;
 mod circuits;
 mod examples;
 mod forged;
+mod growing;
 mod jobs;
 mod positions;
 mod program;

@@ -132,7 +132,7 @@ numbers-below (suc n) l d h = at-most-mono (n + 1) (suc n) (omega arith) last (a
     last i l = elim (ℕ-discrete i n) [ yes e ↦ inr e | no ne ↦ inl (omega arith) ]
 
 module _ {A B : Type 0} (f : A → B) where
-  all-image : (Q : B → Type 0) (l : List A) → All (λ x. Q (f x)) l → All Q (map f l)
+  pub all-image : (Q : B → Type 0) (l : List A) → All (λ x. Q (f x)) l → All Q (map f l)
   all-image Q [] h = tt
   all-image Q (x ∷ l) h = (h .0, all-image Q l (h .1))
 

@@ -8,3 +8,5 @@ pub mod RootBound
 pub mod Division
 pub mod Unity
 pub mod Choice
+pub mod Keeping
+pub mod ListLaws

@@ -22,3 +22,8 @@ any t (x ∷ l) = t x || any t l
 abbrev pub firstOr : {T : Type 0} → T → (T → Bool) → List T → T
 firstOr d t [] = d
 firstOr d t (x ∷ l) = pick (t x) x (firstOr d t l)
+
+-- the members that pass the test, in order
+abbrev pub keep : {T : Type 0} → (T → Bool) → List T → List T
+keep t [] = []
+keep t (x ∷ l) = pick (t x) (x ∷ keep t l) (keep t l)

@@ -1,7 +1,8 @@
 // The answers of the public calls, handed over in numbers.
 ghost use mathlib.Core.Path.{_≡_};
 ghost use Rattle.shared.specs.Meanings.{verdictMeaning};
-ghost use Rattle.record.specs.Answers.{readingMeaning, placeMeaning};
+ghost use Rattle.record.specs.Answers.{readingMeaning};
+ghost use Rattle.shared.specs.Answers.{placeMeaning};
 ghost use Rattle.varuna.specs.Answers.{wordMeaning, threeMeaning, filledMeaning, openingsMeaning};
 ghost use Rattle.verifier.specs.Session.{steppedMeaning, finishedMeaning};
 ghost use Rattle.c_numbers.specs.Answers.{told, answered, threeListed, sizesListed, stepAnswered, lastAnswered, verdictNumber};

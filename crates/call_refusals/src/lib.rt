@@ -10,7 +10,7 @@ ghost use Rattle.protocol.specs.Circuit.{Circuit};
 ghost use Rattle.shared.specs.Meanings.{faultRefusal};
 ghost use Rattle.protocol.specs.Calls.{roundRefusal};
 ghost use Rattle.circuit.specs.Given.{given, proverInput, entryLists, ThreeLists, Shaped};
-ghost use Rattle.circuit.specs.Judgement.{indexShapeRefusal, shapeRefusal, indexDue, indexRefusal, indexContentsRefusal, contentsRefusal};
+ghost use Rattle.circuit.specs.Judgement.{indexShapeRefusal, shapeRefusal, circuitRefusal, indexDue, indexRefusal, indexContentsRefusal, contentsRefusal};
 use circuit::checks;
 use circuit::matrices;
 use shared::Fault;
@@ -105,6 +105,18 @@ fn judge_contents(
         return in_rows;
     }
     checks::check_points(p, r, c, matrices::largest_size(ea, eb, ec), points)
+}
+
+// 4 to 7 of a circuit whose call lends no slice.
+pub fn judge_circuit(p: u32, r: u32, c: u32, x: u32, ea: &[u32], eb: &[u32], ec: &[u32]) -> Fault
+    ensures { λ f. ⌜ ((q : Prime) → q .p ≡ p → faultRefusal f
+        ≡ circuitRefusal q (given r c x (now (ea .entry)) (now (eb .entry)) (now (ec .entry)))) ⌝ }
+{
+    let shape = judge_index_shape(r, c, x, ea, eb, ec);
+    if !is_fine(shape) {
+        return shape;
+    }
+    judge_index_contents(p, r, c, ea, eb, ec)
 }
 
 // The lengths that the lent slices of the indexer must have.

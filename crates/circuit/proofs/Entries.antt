@@ -1,4 +1,4 @@
--- Entries as flat words: how many there are, the words of each, and the tests of each. Assumes nothing.
+-- Entries as flat words: the words of each, and the tests of each. Assumes nothing.
 use mathlib.Core.Path.{_≡_, refl, ap, ap₂, _∙_, subst}
 use mathlib.Core.Bool.{Bool, true, false, not, _&&_}
 use mathlib.Core.List.{List, [], _∷_, map}
@@ -11,15 +11,9 @@ use Rattle.algebra.proofs.Counting.{all-at}
 use Rattle.protocol.specs.Circuit.{Entry, Circuit}
 use Rattle.protocol.specs.Refusals.{rises, fits, entryTestsAfter, entryTests}
 use Rattle.protocol.specs.Calls.{entriesOf}
+use Rattle.protocol.proofs.EntryLists.{length-entriesOf}
 use Rattle.protocol.proofs.Rows.{map-at}
 use Rattle.circuit.specs.Given.{entryWords, Within}
-
-pub length-entriesOf : (l : List ℕ) → length (entriesOf l) ≡ length l / 3
-unfolding entriesOf
-length-entriesOf [] = refl
-length-entriesOf (i ∷ []) = refl
-length-entriesOf (i ∷ (k ∷ [])) = refl
-length-entriesOf (i ∷ (k ∷ (v ∷ l))) = omega (arith, length-entriesOf l)
 
 -- past the first entry
 words-later : (x y z : ℕ) (l : List ℕ) (i : ℕ) → entryWords l i ≡ entryWords (x ∷ (y ∷ (z ∷ l))) (suc i)

@@ -23,11 +23,12 @@ use Rattle.protocol.specs.Admission.{Admitted, assignmentTests, countTests, ent
 use Rattle.protocol.specs.Calls.{CircuitWords, entriesOf, circuitOf, entryListTests, roundRefusal}
 use Rattle.protocol.proofs.RefusalLaws.{first-none, none-first, refuse-none, none-refuse, wordRefusal-none, none-wordRefusal}
 use Rattle.protocol.proofs.AdmissionLaws.{admitted-well-formed}
+use Rattle.protocol.proofs.EntryLists.{length-entriesOf}
 use Rattle.circuit.specs.Given.{given, proverInput, Fits, EntryWords, ThreeLists, CircuitShaped, Shaped, EachWithin}
-use Rattle.circuit.specs.Judgement.{indexShapeRefusal, shapeRefusal, indexDue, indexRefusal, indexContentsRefusal, contentsRefusal}
+use Rattle.circuit.specs.Judgement.{indexShapeRefusal, shapeRefusal, circuitRefusal, indexDue, indexRefusal}
+use Rattle.circuit.specs.Judgement.{indexContentsRefusal, contentsRefusal}
 use Rattle.circuit.specs.IndexLists.{twelveLengths, IndexLengths}
-use Rattle.circuit.proofs.Entries.{length-entriesOf}
-use Rattle.circuit.proofs.Parts.{index-in-parts, prover-in-parts, index-shape-fits, shape-fits, entries-within}
+use Rattle.circuit.proofs.Parts.{index-in-parts, circuit-in-parts, prover-in-parts, index-shape-fits, shape-fits, entries-within}
 
 -- 1,024 entries at most
 pub few-entries : (l : List ℕ) → EntryWords l → length (entriesOf l) ≤ maxSize
@@ -149,6 +150,22 @@ module _ (r c x : ℕ) (ea eb ec : List ℕ) where
           lent-c =
               let last = fit .1 .1 .1 .1 .1 .1 .1 .1 in four-fit ec (t .c) (last .0) (last .1 .0) (last .1 .1 .0) (last .1 .1 .1 .0);
         }
+
+  -- what a circuit that is let through brings
+  pub record CircuitFits : Type 0 where
+    pub shape : CircuitShaped r c ea eb ec
+    pub within : EachWithin r c ea eb ec
+
+  pub circuit-fits : (q : Prime) → circuitRefusal q words ≡ none → CircuitFits
+  unfolding indexContentsRefusal
+  circuit-fits q free =
+      let k : Circuit = circuitOf words in
+      let parts = first-none (indexShapeRefusal words ∷ indexContentsRefusal q k ∷ []) (sym (circuit-in-parts q words) ∙ free) in
+      let contents = first-none (wordRefusal q (entryValues k ++ []) ∷ entryRefusal k ∷ []) (parts .1 .0) in
+      record {
+        shape = index-shape-fits r c x ea eb ec (parts .0);
+        within = entries-within r c x ea eb ec (contents .1 .0);
+      }
 
 -- the sizes of a call that is let through
 module _ {p r c x : ℕ} {ea eb ec z m : List ℕ} (F : Fits p r c x ea eb ec z m) where

@@ -20,10 +20,12 @@ use Rattle.protocol.specs.Refusals.{sizeRefusal, listRefusal, wordRefusal, entr
 use Rattle.protocol.specs.Admission.{entryValues, assignmentTests, circuitRefusals, refusalsAfterCircuit, proverRefusal}
 use Rattle.protocol.specs.Calls.{CircuitWords, entriesOf, circuitOf, entryListTests}
 use Rattle.protocol.proofs.RefusalLaws.{refuse-none, first-none, and-true}
+use Rattle.protocol.proofs.EntryLists.{length-entriesOf}
 use Rattle.protocol.proofs.Rows.{first-only, first-nested, first-before-last, refuse-append, refuse-map-append, refuse-three}
 use Rattle.circuit.specs.Given.{given, entryLists, Within, EachWithin, EntryWords, CircuitShaped, Shaped}
-use Rattle.circuit.specs.Judgement.{wholeAndFew, indexShapeRefusal, shapeRefusal, indexContentsRefusal, contentsRefusal}
-use Rattle.circuit.proofs.Entries.{length-entriesOf, values-count, length-entryTests}
+use Rattle.circuit.specs.Judgement.{wholeAndFew, indexShapeRefusal, shapeRefusal, circuitRefusal}
+use Rattle.circuit.specs.Judgement.{indexContentsRefusal, contentsRefusal}
+use Rattle.circuit.proofs.Entries.{values-count, length-entryTests}
 
 -- 4 and 5: the circuit's part, then the lengths of z and m
 pub shape-in-parts : (c : CircuitWords) (z m : List ℕ)
@@ -230,3 +232,13 @@ module _ (q : Prime) (c : CircuitWords) (lent : List Bool) where
       let rest : List (Option Refusal) =
       wordRefusal q (entryValues k ++ (z ++ (mask ∷ (m ++ challenges)))) ∷ entryRefusal k ∷ refusalsAfterCircuit q k z m points in
       ap (λ (o : Option Refusal). first (size ∷ o ∷ rest)) (refuse-append 5 0 lists lent) ∙ regroup size (refuse 5 0 lists) (refuse 5 5 lent) rest
+
+-- a circuit whose call lends nothing, in two parts
+pub circuit-in-parts : (q : Prime) (c : CircuitWords)
+    → circuitRefusal q c ≡ first (indexShapeRefusal c ∷ indexContentsRefusal q (circuitOf c) ∷ [])
+unfolding circuitRefusal entryListTests
+circuit-in-parts q c = index-in-parts q c [] ∙ skips (indexShapeRefusal c) (indexContentsRefusal q (circuitOf c) ∷ [])
+  where
+    skips : (o : Option Refusal) (l : List (Option Refusal)) → first (o ∷ none ∷ l) ≡ first (o ∷ l)
+    skips none l = refl
+    skips (some r) l = refl

@@ -36,6 +36,10 @@ indexDue matrices = foldr (λ n due. n ∷ n ∷ n ∷ n ∷ due) [] (listed (ma
 unfoldable pub indexRefusal : Prime → CircuitWords → List ℕ → Option Refusal
 indexRefusal q c lent = first (circuitRefusals q (circuitOf c) (entryListTests c ++ pairs eqb lent (indexDue (circuitOf c .matrices))) [])
 
+-- 4 to 7 of a circuit
+unfoldable pub circuitRefusal : Prime → CircuitWords → Option Refusal
+circuitRefusal q c = first (circuitRefusals q (circuitOf c) (entryListTests c) [])
+
 module _ (q : Prime) (c : Circuit) where
   -- 6 and 7 of a circuit
   unfoldable pub indexContentsRefusal : Option Refusal

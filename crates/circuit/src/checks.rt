@@ -192,7 +192,7 @@ pub fn check_call_words(
 }
 
 // Row and column are within r rows and c columns, and the value is not 0.
-fn entry_fits(r: u32, c: u32, row: u32, column: u32, value: u32) -> bool
+pub fn entry_fits(r: u32, c: u32, row: u32, column: u32, value: u32) -> bool
     ensures { λ f. ⌜ f ≡ (ltb row r && ltb column c && not (eqb value 0)) ⌝ }
 {
     if row >= r {

@@ -23,10 +23,11 @@ use Rattle.protocol.specs.Three.{MatrixName, A, B, C, at}
 use Rattle.protocol.specs.Circuit.{Entry, Circuit, sizesOf}
 use Rattle.protocol.specs.Index.{rowElement, columnElement, placed, index}
 use Rattle.protocol.specs.Calls.{entriesOf}
+use Rattle.protocol.proofs.EntryLists.{length-entriesOf}
 use Rattle.protocol.proofs.IndexPolynomials.{entryIndex}
 use Rattle.circuit.specs.Given.{entryWords, EntryWords}
 use Rattle.index.specs.IndexParts.{indexPart}
-use Rattle.circuit.proofs.Entries.{length-entriesOf, entry-or-zeros}
+use Rattle.circuit.proofs.Entries.{entry-or-zeros}
 
 -- an element of a domain as a power of the root's word
 pub element-word : (q : Prime) (n i g x : ℕ) → g ≡ root {q = q} n .word → x ≡ power (of {q = q} g) i .word → x ≡ element {q = q} n i .word

@@ -12,8 +12,8 @@ use borrow.Author.Tests.{le-leb, eq-eqb}
 use Rattle.domain.specs.Size.{maxSize}
 use Rattle.protocol.specs.Admission.{countTests}
 use Rattle.protocol.specs.Calls.{ProverInput, entriesOf, circuitOf, entryListTests}
+use Rattle.protocol.proofs.EntryLists.{length-entriesOf}
 use Rattle.circuit.specs.Given.{proverInput}
-use Rattle.circuit.proofs.Entries.{length-entriesOf}
 use Rattle.report.specs.declared.Challenges.{Challenges}
 use Rattle.report.specs.Stages.{jobDrawn}
 use Rattle.job.specs.declared.parts.Places.{Places}

@@ -17,10 +17,11 @@ use Rattle.protocol.specs.Circuit.{Circuit, sizesOf, extension}
 use Rattle.protocol.specs.Messages.{ratio}
 use Rattle.protocol.specs.Calls.{entriesOf}
 use Rattle.protocol.proofs.AdmissionLaws.{WellFormed}
+use Rattle.protocol.proofs.EntryLists.{length-entriesOf}
 use Rattle.protocol.proofs.ProverForms.{ratio-by-entries}
 use Rattle.protocol.proofs.Rows.{map-at}
 use Rattle.circuit.specs.Given.{entryWords, EntryWords}
-use Rattle.circuit.proofs.Entries.{length-entriesOf, entry-at}
+use Rattle.circuit.proofs.Entries.{entry-at}
 use Rattle.matrix_sumcheck.specs.MatrixGiven.{Given, Challenged, termOf, terms, padded}
 
 -- 1,024 entries at most

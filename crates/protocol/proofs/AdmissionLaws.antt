@@ -58,7 +58,7 @@ or-true : (a b : Bool) → (a || b) ≡ true → (a ≡ true) ⊎ (b ≡ true)
 or-true true b e = inl refl
 or-true false b e = inr e
 
-rises-true : (d e : Entry) → rises d e ≡ true → Before d e
+pub rises-true : (d e : Entry) → rises d e ≡ true → Before d e
 unfolding rises
 rises-true d e t = go (or-true (ltb (d .row) (e .row)) _ t)
   where
@@ -69,7 +69,7 @@ rises-true d e t = go (or-true (ltb (d .row) (e .row)) _ t)
         inr (eqb-true (d .row) (e .row) (v .0), ltb-true (d .column) (e .column) (v .1))
 
 module _ (q : Prime) (c : Circuit) where
-  fits-true : (e : Entry) → fits c e ≡ true → e .value < q .p → EntryFits (q .p) c e
+  pub fits-true : (e : Entry) → fits c e ≡ true → e .value < q .p → EntryFits (q .p) c e
   unfolding fits
   fits-true e t below =
       let u = and-true (ltb (e .row) (c .|R|) && ltb (e .column) (c .|C|)) (not (eqb (e .value) 0)) t in

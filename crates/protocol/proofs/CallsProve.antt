@@ -1,8 +1,8 @@
 -- What the prover's calls give where they are done: together the proof of that job, and its true openings. Assumes nothing.
-use mathlib.Core.Path.{_≡_, refl, sym, ap, ap₂, _∙_}
+use mathlib.Core.Path.{_≡_, sym, ap, ap₂, _∙_}
 use mathlib.Core.Bool.{Bool, true, _&&_}
 use mathlib.Core.List.{List, [], _∷_, _++_, map}
-use mathlib.Core.Option.{Option, none, some}
+use mathlib.Core.Option.{Option, none}
 use Prim.Native.Nat.{ℕ, _*_, _%_, _≤_, _<_}
 use lib.Dec.{eqb, leb}
 use lib.ListN.{length, getD}
@@ -27,12 +27,7 @@ use Rattle.protocol.specs.Job.{Job, challengeWords, challengePoints, job
 use Rattle.protocol.specs.Demand2.{inputJob, CallsDone, CallsGiveProof, CallsAccepted}
 use Rattle.protocol.proofs.AdmissionLaws.{job-fits}
 use Rattle.protocol.proofs.Honest.{honest-accepted}
-use Rattle.protocol.proofs.RefusalLaws.{first-none, none-first, refuse-none, none-refuse, and-true}
-
--- a call that is done was not refused, and has its result
-pub judged-done : {T : Type 0} (o : Option Refusal) (w : T) {v : T} → judged o w ≡ Done v → (o ≡ none) × (w ≡ v)
-judged-done none w {v} e = (refl, cc)
-judged-done (some r) w {v} e = let z : _≡_ {A = ℕ} 0 1 = cc in absurd (omega arith)
+use Rattle.protocol.proofs.RefusalLaws.{first-none, none-first, refuse-none, none-refuse, and-true, judged-done}
 
 -- openings from the list of their words
 abbrev fromList : List ℕ → Openings ℕ

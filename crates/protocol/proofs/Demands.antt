@@ -1,5 +1,5 @@
--- Demands 2 and 3, what is known where a verdict is answered, that no divisor is 0, and that column 0 is the constant, proved: for every
--- prime that qualifies, and so for the module's prime. Assumes nothing.
+-- Demands 2 and 3, what is known where a verdict is answered, that no divisor is 0, that column 0 is the constant, and what growing
+-- circuits are, proved: for every prime that qualifies, and so for the module's prime. Assumes nothing.
 use Rattle.field.specs.Prime.{Prime}
 use Rattle.domain.specs.BabyBear.{babyBear}
 use Rattle.domain.proofs.Qualification.{babyBear-qualifies}
@@ -8,9 +8,11 @@ use Rattle.protocol.specs.Demand3.{Setting, Demand3, Demand3Holds}
 use Rattle.protocol.specs.Verdicts.{Verdicts}
 use Rattle.protocol.specs.Divisors.{Divisors}
 use Rattle.protocol.specs.ConstantColumn.{ConstantColumn}
+use Rattle.protocol.specs.Growing.{Growing}
 use Rattle.protocol.proofs.CallsProve.{calls-give-proof, calls-accepted}
 use Rattle.protocol.proofs.ConstantColumn.{constant-column}
 use Rattle.protocol.proofs.Divisors.{divisors}
+use Rattle.protocol.proofs.Growing.{growing}
 use Rattle.protocol.proofs.Honest.{rules-kept, honest-accepted}
 use Rattle.protocol.proofs.IndexDecoding.{index-gives-back}
 use Rattle.protocol.proofs.JoinedCheck.{values-caught}
@@ -64,3 +66,6 @@ module-divisors = divisors babyBear babyBear-qualifies
 
 pub module-constant-column : ConstantColumn babyBear
 module-constant-column = constant-column babyBear
+
+pub module-growing : Growing babyBear
+module-growing = growing babyBear

@@ -4,6 +4,7 @@ pub mod AllowedSizes
 pub mod Rows
 pub mod VerdictLaws
 pub mod AdmissionLaws
+pub mod EntryLists
 pub mod Extension
 pub mod Words
 pub mod RecordLaws
@@ -30,5 +31,15 @@ pub mod Honest
 pub mod CallsProve
 pub mod Divisors
 pub mod ConstantColumn
+pub mod EntryOrder
+pub mod RowPlaces
+pub mod AdmittedCircuits
+pub mod EntryWords
+pub mod StoredCircuits
+pub mod StoredRows
+pub mod GrownRows
+pub mod GrownCalls
+pub mod AdditionOrder
+pub mod Growing
 pub mod Demands
 pub mod ProverForms

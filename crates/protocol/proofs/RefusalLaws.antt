@@ -1,4 +1,4 @@
--- What it means that nothing is refused: every row, and every test of a row, passes. Assumes nothing.
+-- What it means that nothing is refused: every row, and every test of a row, passes, and the call has its result. Assumes nothing.
 use mathlib.Core.Path.{_≡_, refl, ap₂}
 use mathlib.Core.Bool.{Bool, true, false, _&&_}
 use mathlib.Core.List.{List, [], _∷_, map}
@@ -9,7 +9,7 @@ use native.Mathlib.Omega.{arith}
 use borrow.Author.Tests.{ltb-true, lt-ltb, le-leb}
 use Rattle.algebra.specs.Counting.{All}
 use Rattle.field.specs.Prime.{Prime}
-use Rattle.protocol.specs.Refusals.{Refusal, first, refuse, pairs, beginsWithOne, wordRefusal, constantRefusal, lengthRefusal}
+use Rattle.protocol.specs.Refusals.{Refusal, Done, judged, first, refuse, pairs, beginsWithOne, wordRefusal, constantRefusal, lengthRefusal}
 use Rattle.protocol.specs.Session.{all}
 
 some-not-none : {T : Type 0} {x : T} → some x ≡ none → ⊥
@@ -89,3 +89,8 @@ within-pairs (m ∷ l) (n ∷ k) h = (le-leb m n (h .0), within-pairs l k (h .1)
 pub none-lengthRefusal : (declared table : List ℕ) → Within declared table → lengthRefusal declared table ≡ none
 unfolding lengthRefusal
 none-lengthRefusal declared table h = none-refuse 11 0 (pairs leb declared table) (within-pairs declared table h)
+
+-- a call that is done was not refused, and has its result
+pub judged-done : {T : Type 0} (o : Option Refusal) (w : T) {v : T} → judged o w ≡ Done v → (o ≡ none) × (w ≡ v)
+judged-done none w {v} e = (refl, cc)
+judged-done (some r) w {v} e = let z : _≡_ {A = ℕ} 0 1 = cc in absurd (omega arith)

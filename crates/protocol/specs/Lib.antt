@@ -17,3 +17,5 @@ pub mod Demand3
 pub mod Verdicts
 pub mod Divisors
 pub mod ConstantColumn
+pub mod Grown
+pub mod Growing

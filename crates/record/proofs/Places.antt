@@ -14,7 +14,7 @@ use Rattle.protocol.specs.Refusals.{Refusal, Done, Refused, judged, first, refu
 use Rattle.protocol.specs.Record.{sectionLengths, startsFrom, partsOf, sizesRead, endRow, trailerRow, wordRow, recordRefusal, readRecord}
 use Rattle.protocol.specs.Calls.{sectionCall, placeCall}
 use Rattle.protocol.proofs.Rows.{first-only, first-nested, first-append, first-stop, first-pass}
-use Rattle.record.specs.Answers.{partAt}
+use Rattle.shared.specs.Answers.{partAt}
 use Rattle.record.specs.Layout.{layoutRefusal}
 use Rattle.record.proofs.Bounds.{part-at}
 use Rattle.record.proofs.Starts.{eleven}

@@ -7,6 +7,5 @@ mod sections;
 pub use reader::Reading;
 pub use reader::read;
 pub use reader::word_at;
-pub use sections::Place;
 pub use sections::find_section;
 pub use sections::section;

@@ -3,7 +3,7 @@ ghost use mathlib.Core.Path.{_≡_};
 ghost use lib.ListN.{length};
 ghost use Rattle.field.specs.Prime.{Prime};
 ghost use Rattle.protocol.specs.Calls.{placeCall, sectionCall};
-ghost use Rattle.record.specs.Answers.{placeMeaning, Within};
+ghost use Rattle.shared.specs.Answers.{placeMeaning, Within};
 use crate::layout::BAD_LIST;
 use crate::layout::SECTIONS;
 use crate::layout::section_bounds;
@@ -11,12 +11,7 @@ use crate::reader::layout_fault;
 use crate::reader::section_words_fault;
 use crate::reader::sizes_in;
 use shared::Fault;
-
-// Where a section stands, its start and its length in bytes, or a refusal's number and position.
-pub enum Place {
-    At(usize, usize),
-    Refused(u32, usize),
-}
+use shared::Place;
 
 // Where section k stands, or the first refusal: the end (2), the trailer (3), a number above 10 (5), a word (6). A place that is
 // found lies within the bytes, whatever p is.

@@ -26,7 +26,7 @@ use Rattle.record.specs.Layout.{Allowed, byteCount, bounds}
 use Rattle.record.proofs.Allowed.{lengths-bound, byteCount-bound}
 use Rattle.record.proofs.Bounds.{bound-at}
 use Rattle.record.proofs.Starts.{eleven, last-bound}
-use Rattle.record_writer.specs.Answers.{LentAnswer}
+use Rattle.shared.specs.Answers.{LentAnswer}
 use Rattle.record_writer.specs.Sections.{joined, lengthRefusals, shapeRefusal}
 
 pub length-due : (s : Sizes) {due : List ℕ} → due ≡ sectionLengths s → length due ≡ 11

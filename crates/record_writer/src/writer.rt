@@ -9,7 +9,7 @@ ghost use Rattle.protocol.specs.Record.{wordBytes, bytesOf, trailer, writeRecor
 ghost use Rattle.protocol.specs.Calls.{writeCall};
 ghost use Rattle.shared.specs.Meanings.{faultRefusal, sizes as sizesMeaning};
 ghost use Rattle.record.specs.Layout.{Allowed, byteCount};
-ghost use Rattle.record_writer.specs.Answers.{LentAnswer};
+ghost use Rattle.shared.specs.Answers.{LentAnswer};
 ghost use Rattle.record_writer.specs.Sections.{eachSection, joined};
 use crate::judging::sections_fault;
 use crate::judging::shape_fault;

@@ -1,1 +1,2 @@
 pub mod EarlyReturns
+pub mod LentAnswers

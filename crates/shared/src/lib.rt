@@ -14,6 +14,12 @@ pub enum Fault {
     Refused(u32, usize),
 }
 
+// Where a part of the caller's memory stands, its start and its length, or a refusal's number and position.
+pub enum Place {
+    At(usize, usize),
+    Refused(u32, usize),
+}
+
 // Nothing is refused. A function that judges returns at the first answer that is not fine.
 pub fn is_fine(fault: Fault) -> bool
     ensures { λ r. ⌜ r ≡ isFine fault ⌝ }

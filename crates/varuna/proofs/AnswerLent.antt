@@ -8,7 +8,7 @@ use Rattle.shared.specs.declared.Fault.{Fault}
 use Rattle.shared.specs.declared.Fault.the-variants as fault
 use Rattle.shared.specs.Meanings.{faultRefusal}
 use Rattle.protocol.specs.Refusals.{Refusal, Outcome, Done, Refused}
-use Rattle.record_writer.specs.Answers.{LentAnswer}
+use Rattle.shared.specs.Answers.{LentAnswer}
 use Rattle.varuna.specs.Answers.{filling, fills}
 
 pub lent-done : (o : Outcome (List ℕ)) {f : Fault} {before after : List ℕ} → fault.Fine ≡ f → LentAnswer o (faultRefusal f) before after

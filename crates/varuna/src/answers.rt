@@ -3,10 +3,10 @@
 ghost use mathlib.Core.Path.{_≡_};
 ghost use Rattle.varuna.specs.Answers.{indexArrays};
 pub use openings::IndexOpened;
-pub use record::Place;
 pub use record::Reading;
 pub use shared::Check;
 pub use shared::Opened;
+pub use shared::Place;
 pub use shared::Sizes;
 pub use shared::Triple;
 pub use shared::Verdict;

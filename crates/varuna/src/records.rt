@@ -5,14 +5,15 @@ ghost use Rattle.domain.specs.BabyBear.{babyBear};
 ghost use Rattle.protocol.specs.Calls.{writeCall, sectionCall, placeCall};
 ghost use Rattle.shared.specs.Meanings.{sizes as sizesMeaning};
 ghost use Rattle.protocol.specs.Record.{readRecord};
-ghost use Rattle.record.specs.Answers.{readingMeaning, sizesFound, placeMeaning};
+ghost use Rattle.record.specs.Answers.{readingMeaning, sizesFound};
+ghost use Rattle.shared.specs.Answers.{placeMeaning};
 ghost use Rattle.record_writer.specs.Sections.{eachSection};
 ghost use Rattle.varuna.specs.Answers.{filledMeaning, filling, fills};
 use crate::answers::Filled;
 use field::MODULE_PRIME;
-use record::Place;
 use record::Reading;
 use shared::Fault;
+use shared::Place;
 use shared::Sizes;
 
 // A record of eleven sections into lent bytes. Refusals: 4 for a size, 5 for a section or the lent bytes, 6 for a word.

@@ -66,6 +66,15 @@ impl Random {
         self.below(P) as u32
     }
 
+    /// The numbers below a bound, in any order.
+    pub fn order(&mut self, bound: u32) -> Vec<u32> {
+        let mut order: Vec<u32> = (0..bound).collect();
+        for place in (1..order.len()).rev() {
+            order.swap(place, self.below(place as u64 + 1) as usize);
+        }
+        order
+    }
+
     fn nonzero(&mut self) -> u32 {
         (1 + self.below(P - 1)) as u32
     }

@@ -9,8 +9,9 @@ use borrow.Author.Tests.{not-true, not-false}
 use Rattle.protocol.specs.Circuit.{Circuit}
 use Rattle.protocol.specs.Refusals.{entryTests}
 use Rattle.protocol.specs.Calls.{entriesOf}
+use Rattle.protocol.proofs.EntryLists.{length-entriesOf}
 use Rattle.protocol.proofs.Rows.{Passed, passed-none, passed-turn, passed-stop, passed-end}
-use Rattle.circuit.proofs.Entries.{length-entriesOf, length-entryTests}
+use Rattle.circuit.proofs.Entries.{length-entryTests}
 use Rattle.circuit.proofs.checks.check_entries.Statement.{statement}
 use Rattle.circuit.proofs.checks.check_entries.Tie as tie
 

@@ -11,8 +11,9 @@ use Rattle.field.proofs.Words.{of-result}
 use Rattle.poly.proofs.WordLists.{element-at}
 use Rattle.protocol.specs.Circuit.{Entry, rowSum}
 use Rattle.protocol.specs.Calls.{entriesOf}
+use Rattle.protocol.proofs.EntryLists.{length-entriesOf}
 use Rattle.circuit.specs.Given.{entryWords, Within}
-use Rattle.circuit.proofs.Entries.{length-entriesOf, entry-at, entry-within}
+use Rattle.circuit.proofs.Entries.{entry-at, entry-within}
 use Rattle.circuit.proofs.Sums.{sumAt, Summed, summed-none, summed-turn, summed-end}
 use Rattle.circuit.proofs.matrices.row_sums.Statement.{statement}
 use Rattle.circuit.proofs.matrices.row_sums.Tie as tie

@@ -3,7 +3,7 @@ use mathlib.Core.Path.{sym, ap, _∙_}
 use native.Mathlib.Omega.{arith}
 use Rattle.domain.specs.Size.{sizeFor}
 use Rattle.domain.proofs.SizeLaws.{sizeFor-past}
-use Rattle.circuit.proofs.Entries.{length-entriesOf}
+use Rattle.protocol.proofs.EntryLists.{length-entriesOf}
 use Rattle.circuit.proofs.matrices.size_of.Statement.{statement}
 use Rattle.circuit.proofs.matrices.size_of.Tie as tie
 

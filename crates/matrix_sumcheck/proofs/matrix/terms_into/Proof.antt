@@ -12,9 +12,9 @@ use Rattle.domain.specs.Qualifies.{Qualifies}
 use Rattle.domain.specs.Known.{Known}
 use Rattle.domain.proofs.Fill.{Filled, fill-none, fill-turn, fill-end, length-words, word-at}
 use Rattle.protocol.specs.Calls.{entriesOf}
+use Rattle.protocol.proofs.EntryLists.{length-entriesOf}
 use Rattle.matrix_sumcheck.specs.MatrixGiven.{terms, padded}
 use Rattle.poly.proofs.WordLists.{zeros-after}
-use Rattle.circuit.proofs.Entries.{length-entriesOf}
 use Rattle.matrix_sumcheck.proofs.MatrixTerms.{length-terms}
 use Rattle.matrix_sumcheck.proofs.matrix.terms_into.Statement.{statement}
 use Rattle.matrix_sumcheck.proofs.matrix.terms_into.Tie as tie

@@ -6,7 +6,7 @@ use Rattle.domain.specs.BabyBear.{babyBear}
 use Rattle.protocol.specs.Refusals.{Refusal}
 use Rattle.protocol.specs.Calls.{ProverInput, roundRefusal, openingsCall}
 use Rattle.protocol.specs.Job.{challengeWords, challengePoints, proof, trueOpenings}
-use Rattle.protocol.proofs.CallsProve.{judged-done}
+use Rattle.protocol.proofs.RefusalLaws.{judged-done}
 use Rattle.circuit.specs.Given.{proverInput}
 use Rattle.varuna.specs.Answers.{openingsMeaning}
 use Rattle.text.proofs.WrittenLaws.{written-as}

@@ -11,9 +11,10 @@ use Rattle.poly.proofs.WordLists.{element-at}
 use Rattle.protocol.specs.Circuit.{Entry}
 use Rattle.protocol.specs.Checks.{weighted}
 use Rattle.protocol.specs.Calls.{entriesOf}
+use Rattle.protocol.proofs.EntryLists.{length-entriesOf}
 use Rattle.circuit.specs.Given.{Within}
 use Rattle.circuit.specs.Given.{entryWords}
-use Rattle.circuit.proofs.Entries.{length-entriesOf, entry-at, entry-within}
+use Rattle.circuit.proofs.Entries.{entry-at, entry-within}
 use Rattle.prover.proofs.LineLaws.{Adding, adding-none, adding-turn, adding-end}
 use Rattle.prover.proofs.line.add_column_sums.Statement.{statement}
 use Rattle.prover.proofs.line.add_column_sums.Tie as tie

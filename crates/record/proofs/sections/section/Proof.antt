@@ -6,8 +6,8 @@ use lib.ListN.{length, take, drop}
 use borrow.Author.Needs.{needs}
 use Rattle.field.specs.Prime.{Prime}
 use Rattle.protocol.specs.Calls.{sectionCall}
-use Rattle.record.specs.declared.sections.Place.the-variants as place
-use Rattle.record.specs.Answers.{placeMeaning, partAt}
+use Rattle.shared.specs.declared.Place.the-variants as place
+use Rattle.shared.specs.Answers.{placeMeaning, partAt}
 use Rattle.record.proofs.Places.{section-at-place}
 use Rattle.record.proofs.sections.section.Statement.{statement}
 use Rattle.record.proofs.sections.section.Tie as tie

@@ -1,0 +1,24 @@
+-- `varuna::circuits::begin` meets its contract. Assumes nothing.
+use mathlib.Core.Path.{sym}
+use Rattle.varuna.proofs.AnswerLent.{lent-done, lent-refused}
+use borrow.Author.Needs.{needs}
+use Rattle.varuna.proofs.circuits.begin.Statement.{statement}
+use Rattle.varuna.proofs.circuits.begin.Tie as tie
+
+begin-requires : tie.Need-begin-requires
+begin-requires c κs = search needs
+
+enum-told : tie.Need-enum-told
+enum-told c = search needs
+
+enum-known-fault : tie.Need-enum-known-fault
+enum-known-fault c = search needs
+
+returns : tie.Need-returns
+returns c = lent-done _ (sym (c .enum-told .given .1)) (c .before .before .begin .ensures)
+
+returns-2 : tie.Need-returns-2
+returns-2 c = lent-refused _ (sym (c .before .fault .given .1)) (c .before .before .before .begin .ensures)
+
+pub begin-spec : {M : Type 1} → statement M
+begin-spec = tie.close (tie.spec begin-requires enum-told enum-known-fault returns returns-2)
