@@ -22,7 +22,7 @@ use Rattle.protocol.proofs.AdmissionLaws.{WellFormed, admitted-well-for
 use Rattle.protocol.proofs.AdmittedCircuits.{few-admitted, empty-admitted, lists-admitted}
 use Rattle.protocol.proofs.RefusalLaws.{judged-done}
 use Rattle.protocol.proofs.EntryOrder.{lower, upper, split-at-place, rising-rise}
-use Rattle.protocol.proofs.GrownRows.{row-past}
+use Rattle.protocol.proofs.GrownRefusals.{row-past, no-room, no-entry, no-row}
 use Rattle.protocol.proofs.StoredCircuits.{total-stored-word, count-stored, lists-stored, circuit-stored}
 use Rattle.protocol.proofs.StoredRows.{standIn, taken-parts, row-words}
 use Rattle.protocol.proofs.GrownCalls.{number-small, circuitWith, circuitWithout, added-stored, removed-stored, addition-admitted, removal-admitted, added-entry, removed-entry, remove-names, added}
@@ -151,6 +151,7 @@ growing q =
       row-entries = λ w correct M i below.
           ap (λ (v : List ℕ). rowCall v (number M) i) (correct .held) ∙ row-stored q (grownCircuit w) (correct .admitted) M i below;
       row-past = row-past;
+      no-such-matrix = λ w n past. (no-room w n past q, (no-entry w n past, no-row w n past));
       indexes = λ w correct lent.
           ap (λ (c : CircuitWords). indexCall q c lent)
           (ap grownLists (correct .held) ∙ lists-stored (grownCircuit w) (few-admitted q (grownCircuit w) (correct .admitted)));

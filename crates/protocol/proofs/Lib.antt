@@ -37,7 +37,7 @@ pub mod AdmittedCircuits
 pub mod EntryWords
 pub mod StoredCircuits
 pub mod StoredRows
-pub mod GrownRows
+pub mod GrownRefusals
 pub mod GrownCalls
 pub mod AdditionOrder
 pub mod Growing

@@ -149,6 +149,12 @@ pub record Growing (q : Prime) : Type 0 where
       (w : List ℕ) → Correct q w → (M : MatrixName) (i : ℕ) → i < grownCircuit w .|R|
       → rowCall w (number M) i ≡ wordsOfEntries (rowEntries i (entriesIn w M))
   pub row-past : (w : List ℕ) (n i : ℕ) → ¬ (i < grownCircuit w .|R|) → findRowCall w n i ≡ Refused (record { number = 7; position = 0 })
+  -- a number above 2 names no matrix: it has no room, no entry and no row, in memory that no call made too
+  pub no-such-matrix :
+      (w : List ℕ) (n : ℕ) → ¬ (n < 3)
+      → ((e : Entry) → addEntryCall q w n e ≡ Refused (record { number = 5; position = 0 }))
+      × (((i j : ℕ) → removeEntryCall w n i j ≡ Refused (record { number = 14; position = 0 }))
+      × ((i : ℕ) → findRowCall w n i ≡ Refused (record { number = 7; position = 0 })))
   -- "The indexer gives for a grown circuit what it gives for the same entries handed over as a list", refusals of lent slices included
   pub indexes :
       (w : List ℕ) → Correct q w → (lent : Three (Index ℕ)) → grownIndexCall q w lent ≡ indexCall q (handedOver (grownCircuit w)) lent
