@@ -5,7 +5,7 @@ use Prim.Native.Nat.{ℕ}
 use Rattle.protocol.specs.Three.{Three, listed}
 use Rattle.protocol.specs.Circuit.{Sizes}
 use Rattle.protocol.specs.Checks.{Row, Line, Matrix, Verdict, Accept, Fails}
-use Rattle.protocol.specs.Refusals.{Outcome, Done, Refused}
+use Rattle.protocol.specs.Refusals.{Outcome, Done, Refused, mapOutcome}
 use Rattle.protocol.specs.Session as steps
 use Rattle.verifier.specs.Session.{sessionWords}
 
@@ -22,10 +22,6 @@ module _ {T : Type 0} where
   abbrev pub answered : Outcome T → T → Answered T
   answered (Done result) before = told 0 0 result
   answered (Refused r) before = told (r .number) (r .position) before
-
-abbrev pub mapOutcome : {S T : Type 0} → (S → T) → Outcome S → Outcome T
-mapOutcome f (Done result) = Done (f result)
-mapOutcome f (Refused r) = Refused r
 
 -- one word for each matrix, and beside them slices
 abbrev pub threeListed : Outcome (Three ℕ) → Outcome (List ℕ)

@@ -16,10 +16,10 @@ use Rattle.field.specs.Prime.{Prime}
 use Rattle.domain.specs.Size.{maxSize}
 use Rattle.protocol.specs.Three.{MatrixName, A, B, C, at}
 use Rattle.protocol.specs.Circuit.{Entry, Circuit}
-use Rattle.protocol.specs.Refusals.{Refusal, Outcome, Done, Refused, judged, first, refuse, listRefusal, wordRefusal, fits}
+use Rattle.protocol.specs.Refusals.{Refusal, Outcome, Done, Refused, mapOutcome, judged, first, refuse, listRefusal, wordRefusal, fits}
 use Rattle.protocol.specs.Admission.{Admitted}
 use Rattle.protocol.specs.Grown.{stored, totalPlace, grownCircuit, occupied, withEntry, withoutEntry, occupiedRefusal, vacantRefusal, addRefusal, addEntryCall, removeEntryCall}
-use Rattle.protocol.specs.Growing.{number, changed, standsAt, entriesWith, entriesWithout, addition, removal, mapOutcome}
+use Rattle.protocol.specs.Growing.{number, changed, standsAt, entriesWith, entriesWithout, addition, removal}
 use Rattle.protocol.proofs.RefusalLaws.{first-none, none-first, refuse-none, none-refuse, and-true, judged-done}
 use Rattle.protocol.proofs.AdmissionLaws.{EntryFits, WellFormed, admitted-well-formed}
 use Rattle.protocol.proofs.AdmittedCircuits.{changed-admitted, entry-fits, fits-row, fits-with-bound}

@@ -12,7 +12,7 @@ use Rattle.domain.specs.Size.{maxSize}
 use Rattle.protocol.specs.Three.{MatrixName, A, B, C, Three, at, mapThree}
 use Rattle.protocol.specs.Circuit.{Entry, Circuit}
 use Rattle.protocol.specs.Index.{Index}
-use Rattle.protocol.specs.Refusals.{Outcome, Done, Refused, judged, first, refuse, listRefusal, wordRefusal, rises, fits}
+use Rattle.protocol.specs.Refusals.{Outcome, Done, Refused, mapOutcome, judged, first, refuse, listRefusal, wordRefusal, rises, fits}
 use Rattle.protocol.specs.Admission.{Admitted}
 use Rattle.protocol.specs.Calls.{CircuitWords, indexCall}
 use Rattle.protocol.specs.Grown.{wordsOfEntries, rowEntries, stored, totalPlace, countsPlace, grownCircuit, beginCall, beginFromCall, addEntryCall, removeEntryCall, findRowCall, rowCall, grownIndexCall}
@@ -104,10 +104,6 @@ onwards f (Refused r) = Refused r
 abbrev pub addAll : Prime → List ℕ → List (ℕ × Entry) → Outcome (List ℕ)
 addAll q w [] = Done w
 addAll q w (first ∷ rest) = onwards (λ next. addAll q next rest) (addEntryCall q w (first .0) (first .1))
-
-abbrev pub mapOutcome : {S T : Type 0} → (S → T) → Outcome S → Outcome T
-mapOutcome f (Done result) = Done (f result)
-mapOutcome f (Refused r) = Refused r
 
 -- the entries of a circuit handed over as lists
 abbrev pub handedOver : Circuit → CircuitWords

@@ -25,6 +25,11 @@ pub data Outcome (T : Type 0) : Type 0 where
   Done : T → Outcome T
   Refused : Refusal → Outcome T
 
+-- what is made of the result; a refusal stays
+abbrev pub mapOutcome : {S T : Type 0} → (S → T) → Outcome S → Outcome T
+mapOutcome f (Done result) = Done (f result)
+mapOutcome f (Refused r) = Refused r
+
 abbrev pub judged : {T : Type 0} → Option Refusal → T → Outcome T
 judged none result = Done result
 judged (some r) result = Refused r
