@@ -1,4 +1,4 @@
--- `varuna::circuits::index_circuit` meets its contract: the index of the lists in memory. Assumes nothing.
+-- `varuna::circuits::index_circuit` meets its contract: it is the index of the lists in memory. Assumes nothing.
 use mathlib.Core.Path.{_≡_, ap, _∙_}
 use mathlib.Core.List.{List}
 use Prim.Native.Nat.{ℕ}
