@@ -46,6 +46,7 @@
  *     entries_a, entries_b, entries_c the entry lists of the matrices A, B, C
  *     circuit                         a circuit that grows by the entry, in memory
  *     x, z                            the public words; the assignment, a word for each column
+ *     rho                             the blinding words, one each for A, B, C
  *     r, m                            the mask word; the mask polynomial
  *     w, h0, g1, h1, ga, gb, gc, h2   polynomials that the prover sends; w is document 01's w with a hat
  *     sigma, omega                    the claimed sums and the claimed matrix values, each for A, B, C
@@ -91,9 +92,9 @@ extern "C" {
 /* The version of what this file declares. The first number rises when a program that used the calls as described here has to change, the
  * second when calls or constants are added, the third when only text, speed or stack change. The archive belongs to the file it came with
  * and holds no version of its own. */
-#define VARUNA_VERSION "3.1.0"
+#define VARUNA_VERSION "3.2.0"
 #define VARUNA_VERSION_MAJOR 3
-#define VARUNA_VERSION_MINOR 1
+#define VARUNA_VERSION_MINOR 2
 #define VARUNA_VERSION_PATCH 0
 
 /* p, the number of elements of the field. */
@@ -166,6 +167,7 @@ extern "C" {
 #define VARUNA_REFUSED_INVERSE 12   /* the inverse of 0; position 0 */
 #define VARUNA_REFUSED_CONSTANT 13  /* z or x whose first word is not 1; position 0 */
 #define VARUNA_REFUSED_PLACE 14     /* an entry added where one stands, or removed where none stands; position 0 */
+#define VARUNA_REFUSED_BLINDING 15  /* fewer than three columns to reserve, or an entry in the reserved row or columns; position 0 */
 
 /* Verdicts, and what stands where there is none: a variable that holds 0 is no Accept. A proof that fails several checks fails the first of
  * row, line, matrix. */
@@ -275,6 +277,28 @@ uint32_t varuna_circuit_index(const uint32_t circuit[VARUNA_CIRCUIT_WORDS], uint
                               uint32_t *rowcol_b, size_t rowcol_b_length, uint32_t *rowcolval_b, size_t rowcolval_b_length,
                               uint32_t *row_c, size_t row_c_length, uint32_t *col_c, size_t col_c_length, uint32_t *rowcol_c,
                               size_t rowcol_c_length, uint32_t *rowcolval_c, size_t rowcolval_c_length, size_t *position);
+
+/*
+ * Blinding. The last row, |R| - 1, and the three highest columns that are not public are reserved: columns |C| - 5, |C| - 3, |C| - 1 where
+ * |X| is |C|/2, and |C| - 3, |C| - 2, |C| - 1 where it is less. A, B and C get an entry of value 1 in that row, A's at the lowest of these
+ * columns, B's at the middle one and C's at the highest, and z gets the three words of rho there. So the row says rho[0] * rho[1] = rho[2]
+ * in the field. The blinded circuit is an ordinary one for every other call: the blinded z satisfies it exactly when z satisfies the
+ * circuit given and that equation holds, and its public words are those of z. |K_A|, |K_B| and |K_C| are those of the longer lists. Whoever
+ * blinds draws rho[0] and rho[1] at random and sets rho[2] to their product.
+ */
+
+/* Fills blinded_a, blinded_b, blinded_c (lists 4 to 6, each three words longer than its list) and blinded_z (list 7, |C| words) with the
+ * entry lists and the assignment after blinding. entries_a, entries_b, entries_c are lists 0 to 2, three words for each entry, at most
+ * 3,069, since the added entry must fit; z is list 3, |C| words. The words of z at the reserved columns are replaced: they must be below p
+ * and may be any. The field words, in order, are the values of the entries of A, B and C, then z, then rho. Refusals 4, 5, 6, 7, 15, 13,
+ * and never 9: whether z satisfies the circuit, and whether the equation for rho holds, is not looked at. 15 is at position 0: |C| - |X| is
+ * below 3, or an entry stands in the reserved row or in a reserved column. Where |R| is 1 the only row is reserved, so the lists must be
+ * empty. */
+uint32_t varuna_blind(uint32_t rows, uint32_t columns, uint32_t publics, const uint32_t *entries_a, size_t entries_a_length,
+                      const uint32_t *entries_b, size_t entries_b_length, const uint32_t *entries_c, size_t entries_c_length,
+                      const uint32_t *z, size_t z_length, const uint32_t rho[3], uint32_t *blinded_a, size_t blinded_a_length,
+                      uint32_t *blinded_b, size_t blinded_b_length, uint32_t *blinded_c, size_t blinded_c_length, uint32_t *blinded_z,
+                      size_t blinded_z_length, size_t *position);
 
 /*
  * The prover. Each call begins with the same inputs:

@@ -133,6 +133,29 @@ extern "C" {
         rowcolval_c_length: usize,
         position: *mut usize,
     ) -> u32;
+    fn varuna_blind(
+        r: u32,
+        c: u32,
+        x: u32,
+        ea: *const u32,
+        ea_length: usize,
+        eb: *const u32,
+        eb_length: usize,
+        ec: *const u32,
+        ec_length: usize,
+        z: *const u32,
+        z_length: usize,
+        rho: *const u32,
+        blinded_a: *mut u32,
+        blinded_a_length: usize,
+        blinded_b: *mut u32,
+        blinded_b_length: usize,
+        blinded_c: *mut u32,
+        blinded_c_length: usize,
+        blinded_z: *mut u32,
+        blinded_z_length: usize,
+        position: *mut usize,
+    ) -> u32;
     fn varuna_first_round(
         r: u32,
         c: u32,
@@ -536,6 +559,27 @@ impl Circuit {
             with_slices!(varuna_circuit_index, [circuit], [a0, a1, a2, a3, b0, b1, b2, b3, c0, c1, c2, c3], position)
         })
     }
+}
+
+/// The lent slices are the blinded entry lists of A, B and C, and the blinded assignment.
+pub fn blind(
+    sizes: [u32; 3],
+    entries: [&[u32]; 3],
+    assignment: &[u32],
+    rho: [u32; 3],
+    lent_entries: [&mut [u32]; 3],
+    lent_assignment: &mut [u32],
+) -> Result<(), Refusal> {
+    let ([r, c, x], [ea, eb, ec], z) = (sizes, entries.map(given), given(assignment));
+    let ([a, b, d], blinded) = (lent_entries.map(lent), lent(lent_assignment));
+    let rho = rho.as_ptr();
+    // SAFETY: places and lengths are those of the slices; the others are those of an array of three words and the position.
+    answer(|position| unsafe {
+        varuna_blind(
+            r, c, x, ea.0, ea.1, eb.0, eb.1, ec.0, ec.1, z.0, z.1, rho, a.0, a.1, b.0, b.1, d.0, d.1, blinded.0,
+            blinded.1, position,
+        )
+    })
 }
 
 /// A call of the C interface with the inputs that every round begins with, and then others.

@@ -3,6 +3,7 @@
 //! The environment variable SEED is the seed of all tests, a number below 2^56 (1 by default). COUNT is how many times the random
 //! part of each test is done, at least 1 (1 by default): 100 makes a long run.
 
+use crate::blinding::free_columns;
 use crate::case::Case;
 use second::MODULUS;
 use std::collections::{BTreeMap, BTreeSet};
@@ -242,6 +243,22 @@ impl Random {
         let [a, b] = [self.entry_count(most), self.entry_count(most)].map(|count| self.matrix(rows, columns, count));
         let assignment = self.assignment(columns);
         self.closed(sizes, a, b, assignment)
+    }
+
+    /// A satisfied case of given sizes with at most so many entries in A and in B, without any in the last row and in the columns
+    /// that blinding reserves: that of fewer rows and columns, with its columns moved apart.
+    pub fn case_to_blind(&mut self, sizes: [u32; 3], limit: u64) -> Case {
+        let free = free_columns(sizes[1], sizes[2]);
+        let (rows, columns) = (sizes[0] - 1, free.len() as u32);
+        let most = limit.min(u64::from(rows) * u64::from(columns));
+        let [a, b] = [self.entry_count(most), self.entry_count(most)].map(|count| self.matrix(rows, columns, count));
+        let words = self.assignment(columns);
+        let c = self.closing_matrix(rows, &a, &b, &words);
+        let apart = |entry: &[u32]| [entry[0], free[entry[1] as usize], entry[2]];
+        let entries = [a, b, c].map(|list| list.chunks(3).flat_map(apart).collect());
+        let mut assignment = self.words(sizes[1] as usize);
+        free.iter().zip(words).for_each(|(&column, word)| assignment[column as usize] = word);
+        self.with_challenges(sizes, entries, assignment)
     }
 
     /// A satisfied case of given sizes and numbers of entries. Every fourth word of the assignment is 0: there C has the entries

@@ -4,11 +4,12 @@
 //! Every public call takes its inputs in the order of docs/CALLS.md and gives a complete result or the
 //! first refusal that applies. A lent slice is filled only on success. Groups of a fixed number of
 //! inputs are arrays: the three or six sizes, the three entry lists, an entry's row, column and value,
-//! the three challenges of a kind, the eleven sections, the twenty-one openings.
+//! the three challenges of a kind, the three blinding words, the eleven sections, the twenty-one openings.
 
 #![forbid(unsafe_code)]
 #![allow(clippy::too_many_arguments)] // the calls have the inputs that docs/CALLS.md lists
 
+mod blinding;
 mod circuit;
 mod domain;
 mod field;
@@ -27,6 +28,7 @@ mod transcript;
 mod verdict;
 mod verifier;
 
+pub use blinding::blind;
 pub use domain::domain;
 pub use field::{add, inverse, multiply, power, subtract, MODULUS};
 pub use growing::{begin, begin_from, GrowingCircuit, CIRCUIT_WORDS};

@@ -1,6 +1,7 @@
 //! Refusals: a number and a position. Each row of document 01's table, with the rows that document 02
 //! adds, is one function, which gives the first place at fault.
 
+use crate::blinding::Reserved;
 use crate::circuit::Circuit;
 use crate::domain::{self, Domain};
 use crate::field::{Element, MODULUS};
@@ -103,6 +104,11 @@ pub(crate) fn row(is_there: bool) -> Result<(), Refusal> {
 /// 14, after the entries: an entry added where one stands, or removed where none stands.
 pub(crate) fn place(is_right: bool) -> Result<(), Refusal> {
     refuse_unless(14, is_right)
+}
+
+/// 15, after the entries: no three columns to reserve, or an entry in the reserved row or columns.
+pub(crate) fn blinding(free: Option<Reserved>) -> Result<Reserved, Refusal> {
+    free.ok_or(Refusal { number: 15, position: 0 })
 }
 
 /// 8: a mask polynomial whose values over C do not add to 0.

@@ -1,7 +1,8 @@
 /*
- * Every exported call on the square case of document 01, with the words that it must give, and a refusal of each kind that a call has:
- * its number, its position, and that it leaves the memory of its results, the session and the circuit as they were, but for the verdict,
- * which a refused last step sets to none. Prints a line for each test and last the counts; exits with 1 where a test failed.
+ * Every exported call on the square case of document 01, or on a small circuit where that leaves no room for what the call does, with the
+ * words that it must give, and a refusal of each kind that a call has: its number, its position, and that it leaves the memory of its
+ * results, the session and the circuit as they were, but for the verdict, which a refused last step sets to none. Prints a line for each
+ * test and last the counts; exits with 1 where a test failed.
  */
 #include "../../include/varuna.h" /* first, since it must need no other header */
 
@@ -52,13 +53,14 @@ static void test_constants(void)
         VARUNA_DONE,           VARUNA_REFUSED_TURN, VARUNA_REFUSED_END,   VARUNA_REFUSED_TRAILER, VARUNA_REFUSED_SIZE,
         VARUNA_REFUSED_LENGTH, VARUNA_REFUSED_WORD, VARUNA_REFUSED_ENTRY, VARUNA_REFUSED_MASK,    VARUNA_REFUSED_ASSIGNMENT,
         VARUNA_REFUSED_CHALLENGE, VARUNA_REFUSED_DECLARED, VARUNA_REFUSED_INVERSE, VARUNA_REFUSED_CONSTANT, VARUNA_REFUSED_PLACE,
+        VARUNA_REFUSED_BLINDING,
     };
     static const uint32_t sections[VARUNA_SECTIONS] = {
         VARUNA_SECTION_W, VARUNA_SECTION_M,  VARUNA_SECTION_H0, VARUNA_SECTION_S,  VARUNA_SECTION_G1, VARUNA_SECTION_H1,
         VARUNA_SECTION_O, VARUNA_SECTION_GA, VARUNA_SECTION_GB, VARUNA_SECTION_GC, VARUNA_SECTION_H2,
     };
     char version[20];
-    int in_order = COUNT(refusals) == 15;
+    int in_order = COUNT(refusals) == 16;
     for (uint32_t i = 0; i < COUNT(refusals); i++)
         in_order = in_order && refusals[i] == i;
     test("the numbers of refusals", in_order);
@@ -577,6 +579,191 @@ static void test_forged_circuit(void)
     test("circuit_add at the place that halving finds", done && same(circuit, expected_circuit, WORDS));
 }
 
+/* Blinding. */
+
+/* The inputs: a circuit whose prover knows an x with x^3 + x + 5 = 35, and whose row 3 and columns 5, 6, 7 are free. A refusal is tried by
+ * one change of it. */
+struct blinding {
+    uint32_t rows, columns, publics;
+    uint32_t ea[15], eb[9], ec[9];
+    size_t lengths[3];
+    uint32_t z[8];
+    size_t z_length;
+    uint32_t rho[3];
+    size_t lent[4];
+};
+
+static const struct blinding cubic = {
+    .rows = 4,
+    .columns = 8,
+    .publics = 2,
+    .ea = {0, 1, 1, 1, 2, 1, 2, 0, 5, 2, 1, 1, 2, 3, 1},
+    .eb = {0, 1, 1, 1, 1, 1, 2, 0, 1},
+    .ec = {0, 2, 1, 1, 3, 1, 2, 4, 1},
+    .lengths = {15, 9, 9},
+    .z = {1, 3, 9, 27, 35, 0, 0, 0},
+    .z_length = 8,
+    .rho = {17, 19, 323},
+    .lent = {18, 12, 12, 8},
+};
+
+/* What the call writes, with room for a slice that is lent too long. */
+struct blinded {
+    uint32_t a[21], b[21], c[21], z[21];
+};
+
+static uint32_t blind(const struct blinding *g, struct blinded *o, size_t *position)
+{
+    memset(o, 0xAB, sizeof *o);
+    return varuna_blind(g->rows, g->columns, g->publics, g->ea, g->lengths[0], g->eb, g->lengths[1], g->ec, g->lengths[2], g->z,
+                        g->z_length, g->rho, o->a, g->lent[0], o->b, g->lent[1], o->c, g->lent[2], o->z, g->lent[3], position);
+}
+
+/* Whether the call is done, gives the lists with an entry more each in the last row at these columns, and z with rho there. */
+static int blinds(const struct blinding *g, const uint32_t columns[3])
+{
+    struct blinded found, expected;
+    uint32_t *const lists[3] = {expected.a, expected.b, expected.c};
+    const uint32_t *const given[3] = {g->ea, g->eb, g->ec};
+    size_t position = NOWHERE;
+    uint32_t number = blind(g, &found, &position);
+    memset(&expected, 0xAB, sizeof expected);
+    memcpy(expected.z, g->z, g->columns * sizeof(uint32_t));
+    for (size_t i = 0; i < 3; i++) {
+        memcpy(lists[i], given[i], g->lengths[i] * sizeof(uint32_t));
+        memcpy(lists[i] + g->lengths[i], (uint32_t[]){g->rows - 1, columns[i], 1}, 12);
+        expected.z[columns[i]] = g->rho[i];
+    }
+    return is_done(number, position) && memcmp(&found, &expected, sizeof found) == 0;
+}
+
+static int refuses_blinding(const struct blinding *g, uint32_t expected_number, size_t expected_position)
+{
+    struct blinded found, kept;
+    size_t position = NOWHERE;
+    uint32_t number = blind(g, &found, &position);
+    memset(&kept, 0xAB, sizeof kept);
+    return is_refused(number, position, expected_number, expected_position) && memcmp(&found, &kept, sizeof found) == 0;
+}
+
+static void test_blinding(void)
+{
+    static const uint32_t last[3] = {5, 6, 7}, every_second[3] = {3, 5, 7}, of_four[3] = {1, 2, 3};
+    struct blinding g = cubic;
+    test("blind", blinds(&g, last));
+    g.z[5] = g.z[6] = g.z[7] = P - 1;
+    test("blind replaces any words of z", blinds(&g, last));
+    g.z[1] = 4;
+    g.rho[2] = 324;
+    test("blind looks at no row", blinds(&g, last));
+    g = cubic;
+    g.publics = 4;
+    g.ea[13] = 2; /* where x^3 stood, which is reserved now */
+    g.ec[4] = 2;
+    test("blind at every second column", blinds(&g, every_second));
+    g = cubic;
+    g.lengths[0] = g.lengths[1] = g.lengths[2] = 0;
+    g.lent[0] = g.lent[1] = g.lent[2] = 3;
+    g.rows = 1;
+    test("blind with one row", blinds(&g, last));
+    g.columns = g.z_length = g.lent[3] = 4;
+    g.publics = 1;
+    test("blind with four columns", blinds(&g, of_four));
+}
+
+static void test_blinding_refusals(void)
+{
+    struct blinding g = cubic;
+    g.rows = 3;
+    test("blind refuses a size", refuses_blinding(&g, VARUNA_REFUSED_SIZE, 0));
+    g = cubic;
+    g.publics = 16;
+    test("blind refuses |X| above |C|", refuses_blinding(&g, VARUNA_REFUSED_SIZE, 2));
+    int all = 1;
+    for (size_t i = 0; i < 3; i++) {
+        g = cubic;
+        g.lengths[i] -= 1;
+        all = all && refuses_blinding(&g, VARUNA_REFUSED_LENGTH, i);
+    }
+    test("blind refuses a list that is no whole entries", all);
+    g = cubic;
+    g.z_length = 7;
+    test("blind refuses a length of z", refuses_blinding(&g, VARUNA_REFUSED_LENGTH, 3));
+    all = 1;
+    for (size_t i = 0; i < 4; i++) {
+        g = cubic;
+        g.lent[i] -= 1;
+        all = all && refuses_blinding(&g, VARUNA_REFUSED_LENGTH, 4 + i);
+        g.lent[i] += 4;
+        all = all && refuses_blinding(&g, VARUNA_REFUSED_LENGTH, 4 + i);
+    }
+    test("blind refuses a lent slice", all);
+    g = cubic;
+    g.rho[2] = P;
+    test("blind refuses a word of rho", refuses_blinding(&g, VARUNA_REFUSED_WORD, 21));
+    g.z[7] = P;
+    test("blind refuses a word of z", refuses_blinding(&g, VARUNA_REFUSED_WORD, 18));
+    g.ec[8] = UINT32_MAX;
+    test("blind refuses a value", refuses_blinding(&g, VARUNA_REFUSED_WORD, 10));
+    g = cubic;
+    g.ec[6] = 4;
+    test("blind refuses an entry", refuses_blinding(&g, VARUNA_REFUSED_ENTRY, 10));
+    g.ec[6] = 3;
+    test("blind refuses an entry in the last row", refuses_blinding(&g, VARUNA_REFUSED_BLINDING, 0));
+    g = cubic;
+    all = 1;
+    for (g.ec[7] = 5; g.ec[7] < 8; g.ec[7]++)
+        all = all && refuses_blinding(&g, VARUNA_REFUSED_BLINDING, 0);
+    test("blind refuses an entry in a reserved column", all);
+    g = cubic;
+    g.publics = 8;
+    test("blind refuses too few columns", refuses_blinding(&g, VARUNA_REFUSED_BLINDING, 0));
+    g.z[0] = 2;
+    test("blind refuses too few columns before z = 2 ..", refuses_blinding(&g, VARUNA_REFUSED_BLINDING, 0));
+    g.publics = 2;
+    test("blind refuses z = 2 ..", refuses_blinding(&g, VARUNA_REFUSED_CONSTANT, 0));
+}
+
+/* Round 1 takes the blinded circuit where rho[0] * rho[1] = rho[2], and else says that the last row fails. */
+static void test_blinded_round(void)
+{
+    static const uint32_t zeros[16];
+    struct blinding g = cubic;
+    for (uint32_t wrong = 0; wrong < 2; wrong++) {
+        struct blinded o;
+        uint32_t witness[7], row_quotient[3];
+        size_t position = NOWHERE;
+        g.rho[2] = 323 + wrong;
+        uint32_t number = blind(&g, &o, &position);
+        int done = is_done(number, position);
+        number = varuna_first_round(4, 8, 2, o.a, 18, o.b, 12, o.c, 12, o.z, 8, 1, zeros, 16, witness, 7, row_quotient, 3, &position);
+        test(wrong ? "first_round refuses a blinded row that fails" : "first_round of a blinded circuit",
+             done && (wrong ? is_refused(number, position, VARUNA_REFUSED_ASSIGNMENT, 3) : is_done(number, position)));
+    }
+}
+
+/* 1,023 entries in each list, and one more in the last. */
+static void test_full_blinding(void)
+{
+    enum { N = VARUNA_MAX_SIZE, LENGTH = VARUNA_MAX_ENTRY_LIST };
+    static uint32_t list[LENGTH], z[N] = {1}, blinded[3][LENGTH], longer[LENGTH + VARUNA_ENTRY_WORDS], blinded_z[N];
+    const uint32_t rho[3] = {2, 3, 6};
+    size_t position = NOWHERE;
+    int all = 1;
+    for (uint32_t i = 0; i < N; i++)
+        memcpy(list + 3 * i, (uint32_t[]){i, i % (N - 3), P - 1}, 12);
+    uint32_t number = varuna_blind(N, N, 1, list, LENGTH - 3, list, LENGTH - 3, list, LENGTH - 3, z, N, rho, blinded[0], LENGTH, blinded[1],
+                                   LENGTH, blinded[2], LENGTH, blinded_z, N, &position);
+    for (uint32_t i = 0; i < 3; i++) {
+        all = all && same(blinded[i], list, LENGTH - 3) && blinded_z[N - 3 + i] == rho[i] &&
+              same(blinded[i] + LENGTH - 3, (uint32_t[]){N - 1, N - 3 + i, 1}, 3);
+    }
+    test("blind with 1,023 entries in each list", is_done(number, position) && all && same(blinded_z, z, N - 3));
+    number = varuna_blind(N, N, 1, list, LENGTH - 3, list, LENGTH - 3, list, LENGTH, z, N, rho, blinded[0], LENGTH, blinded[1], LENGTH,
+                          longer, COUNT(longer), blinded_z, N, &position);
+    test("blind refuses 1,024 entries", is_refused(number, position, VARUNA_REFUSED_LENGTH, 2) && longer[0] == 0 && longer[LENGTH] == 0);
+}
+
 /* The session. */
 
 static const uint32_t square_sizes[VARUNA_SIZES] = {1, 2, 1, 1, 1, 1};
@@ -931,6 +1118,10 @@ int main(void)
     test_full_matrix();
     test_circuit_index();
     test_forged_circuit();
+    test_blinding();
+    test_blinding_refusals();
+    test_blinded_round();
+    test_full_blinding();
     test_session_words();
     test_forged_sessions();
     test_verdicts();

@@ -54,9 +54,21 @@ static int grows()
         && varuna_circuit_remove(circuit, VARUNA_MATRIX_C, 0, 0, &position) == VARUNA_DONE;
 }
 
+static int blinds()
+{
+    const uint32_t entry[VARUNA_ENTRY_WORDS] = {0, 0, 9}, z[4] = {1, 7, 7, 7}, rho[3] = {2, 3, 6};
+    uint32_t a[3] = {}, b[3] = {}, c[6] = {}, blinded_z[4] = {};
+    size_t position = 99;
+    return varuna_blind(1, 4, 1, entry, 0, entry, 0, entry, 3, z, 4, rho, a, 3, b, 3, c, 6, blinded_z, 4, &position)
+            == VARUNA_REFUSED_BLINDING && position == 0 && a[2] == 0 && blinded_z[0] == 0
+        && varuna_blind(2, 4, 1, entry, 0, entry, 0, entry, 3, z, 4, rho, a, 3, b, 3, c, 6, blinded_z, 4, &position) == VARUNA_DONE
+        && a[0] == 1 && a[1] == 1 && b[1] == 2 && c[2] == 9 && c[4] == 3 && c[5] == 1 && blinded_z[0] == 1 && blinded_z[3] == 6;
+}
+
 void test_header()
 {
     test("the header's verifier, in C++", accepts());
     test("calls from C++", gives_and_refuses());
     test("a circuit that grows from C++", grows());
+    test("blinding from C++", blinds());
 }

@@ -22,6 +22,11 @@ static const uint32_t alpha = 2, beta = 3, gamma_point = 5, eta[3] = {7, 8, 9}, 
 #define CIRCUIT SIZES, entries, 3 * N, entries, 3 * N, entries, 3 * N
 #define ASSIGNED CIRCUIT, z, N, 4, m, 2 * N
 
+/* 1,023 entries in each list, outside the last row and the last three columns, and what blinding makes of them. */
+#define FREE_WORDS (3 * (N - 1))
+static uint32_t free_entries[FREE_WORDS], blinded[3][3 * N], blinded_z[N];
+static const uint32_t rho[3] = {13, 14, 182};
+
 static uint32_t index_polynomials[12][N], w[N], h0[N - 1], sums[3], g1[N - 1], h1[N], values[3], g[3][N - 1], h2[N - 1];
 static uint32_t circuit[VARUNA_CIRCUIT_WORDS], other_circuit[VARUNA_CIRCUIT_WORDS], other_index[12][N];
 static uint32_t openings[VARUNA_OPENINGS], session[VARUNA_SESSION_WORDS], other[VARUNA_SESSION_WORDS], verdict = 77;
@@ -96,6 +101,18 @@ static void circuit_index(void)
     uint32_t(*i)[N] = other_index;
     number = varuna_circuit_index(circuit, i[0], N, i[1], N, i[2], N, i[3], N, i[4], N, i[5], N, i[6], N, i[7], N, i[8], N, i[9], N, i[10],
                                   N, i[11], N, &position);
+}
+
+static void blinding(void)
+{
+    number = varuna_blind(SIZES, free_entries, FREE_WORDS, free_entries, FREE_WORDS, free_entries, FREE_WORDS, z, N, rho, blinded[0], 3 * N,
+                          blinded[1], 3 * N, blinded[2], 3 * N, blinded_z, N, &position);
+}
+
+static void first_round_blinded(void)
+{
+    number = varuna_first_round(SIZES, blinded[0], 3 * N, blinded[1], 3 * N, blinded[2], 3 * N, blinded_z, N, 4, m, 2 * N, w, N, h0, N - 1,
+                                &position);
 }
 
 static void first_round(void)
@@ -229,6 +246,8 @@ static const struct {
     {"circuit_add at the last of 1,024 places", circuit_add_last},
     {"circuit_row", circuit_row},
     {"circuit_index", circuit_index},
+    {"blind with 1,023 entries in each list", blinding},
+    {"first_round of what was blinded", first_round_blinded},
     {"first_round", first_round},
     {"second_round", second_round},
     {"third_round", third_round},
@@ -254,6 +273,11 @@ void test_stack(void)
     for (size_t i = 0; i < N; i++) {
         entries[3 * i] = entries[3 * i + 1] = (uint32_t)i;
         entries[3 * i + 2] = z[i] = 1;
+    }
+    for (size_t i = 0; i < N - 1; i++) {
+        free_entries[3 * i] = (uint32_t)i;
+        free_entries[3 * i + 1] = (uint32_t)(i % (N - 3));
+        free_entries[3 * i + 2] = 1;
     }
     for (size_t i = 0; i < COUNT(calls); i++) {
         char name[100];

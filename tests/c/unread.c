@@ -23,6 +23,7 @@ static int refused(uint32_t number, size_t position, uint32_t expected_number, s
 static void test_calls(uint32_t *huge)
 {
     static const uint32_t allowed[VARUNA_SIZES] = {1, 2, 1, 1, 1, 1}, not_allowed[VARUNA_SIZES] = {3, 2, 1, 1, 1, 1};
+    static const uint32_t rho[3] = {VARUNA_MODULUS, VARUNA_MODULUS, VARUNA_MODULUS};
     uint32_t session[VARUNA_SESSION_WORDS], result;
     size_t position = 99;
     varuna_session_new(session);
@@ -44,6 +45,14 @@ static void test_calls(uint32_t *huge)
     test("beginning a circuit from lists with a bad size reads nothing", refused(number, position, VARUNA_REFUSED_SIZE, 2));
     number = varuna_circuit_begin_from(huge, 1, 2, 1, huge, 3, huge, 3, huge, WORDS, &position);
     test("beginning a circuit from too long a list reads nothing", refused(number, position, VARUNA_REFUSED_LENGTH, 2));
+    number = varuna_blind(2, 8, 16, huge, WORDS, huge, 3, huge, 3, huge, 8, rho, huge, WORDS, huge, 6, huge, 6, huge, 8, &position);
+    test("blinding with a bad size reads nothing", refused(number, position, VARUNA_REFUSED_SIZE, 2));
+    number = varuna_blind(2, 8, 2, huge, 3, huge, WORDS - 2, huge, 3, huge, 8, rho, huge, 6, huge, WORDS + 1, huge, 6, huge, 8, &position);
+    test("blinding too long a list reads nothing", refused(number, position, VARUNA_REFUSED_LENGTH, 1));
+    number = varuna_blind(2, 8, 2, huge, 3, huge, 3, huge, 3, huge, WORDS, rho, huge, 6, huge, 6, huge, 6, huge, WORDS, &position);
+    test("blinding too long a z reads none of it", refused(number, position, VARUNA_REFUSED_LENGTH, 3));
+    number = varuna_blind(2, 8, 2, huge, 3, huge, 3, huge, 3, huge, 8, rho, huge, 6, huge, 6, huge, 6, huge, WORDS, &position);
+    test("blinding into a wrong length reads nothing", refused(number, position, VARUNA_REFUSED_LENGTH, 7));
     number = varuna_first_round(1, 2, 1, huge, 3, huge, 3, huge, 3, huge, 2, VARUNA_MODULUS, huge, 4, huge, 2, huge, 1, &position);
     test("a round with a wrong length reads nothing", refused(number, position, VARUNA_REFUSED_LENGTH, 6));
     number = varuna_write_record(allowed, huge, 2, huge, 4, huge, 0, huge, 3, huge, 1, huge, 2, huge, 3, huge, 0, huge, 0, huge, 0, huge, 0,

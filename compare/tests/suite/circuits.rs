@@ -13,7 +13,7 @@ fn refusals(outcomes: &[Outcome; 7]) -> [Option<(u32, usize)>; 7] {
 }
 
 /// Compares a satisfied case, which no call may refuse, and a whole session on its proof, which must be accepted. Gives the steps.
-fn compare_good(case: &Case) -> [Step; 7] {
+pub fn compare_good(case: &Case) -> [Step; 7] {
     let outcomes = compare_circuit(case);
     assert_eq!(refusals(&outcomes), [None; 7], "a satisfied case is refused:\n{case}");
     let proof = proof_of(case, outcomes).expect("no call is refused");

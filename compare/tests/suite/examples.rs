@@ -1,13 +1,25 @@
 //! The jobs in examples/: each text NAME.txt, packed, must print NAME.out, through the program and through the second
-//! implementation; what is accepted makes a proof record that the library reads.
+//! implementation; what is accepted makes a proof record that the library reads. The blinded job is made from the one that it names.
 
 use crate::program;
+use compare::blinding::Blinding;
+use compare::case::Case;
 use compare::library;
 use std::fs;
 use std::path::{Path, PathBuf};
 
 fn folder() -> PathBuf {
     Path::new(env!("CARGO_MANIFEST_DIR")).join("../examples")
+}
+
+/// A file of the folder.
+fn read(file: &str) -> String {
+    fs::read_to_string(folder().join(file)).unwrap_or_else(|error| panic!("{file}: {error}"))
+}
+
+/// The words of a job.
+fn words(job: &[u8]) -> Vec<u32> {
+    job.chunks(4).map(|word| u32::from_le_bytes(word.try_into().expect("words"))).collect()
 }
 
 /// The names, texts and expected outputs of all examples.
@@ -22,7 +34,7 @@ fn examples() -> Vec<(String, String, String)> {
 #[test]
 fn examples_print_what_stands_beside_them() {
     let examples = examples();
-    assert!(examples.len() >= 7, "{} examples", examples.len());
+    assert!(examples.len() >= 8, "{} examples", examples.len());
     for (name, text, expected) in examples {
         let packed = jobtext::pack(&text).unwrap_or_else(|error| panic!("{name}: {error}"));
         assert_eq!(second::prove(&packed), expected, "{name}, the second implementation");
@@ -53,8 +65,7 @@ fn records_of_accepted_examples_are_read() {
         let packed = jobtext::pack(&text).unwrap_or_else(|error| panic!("{name}: {error}"));
         let printed = program::prove(&packed);
         let record = jobtext::record(&packed, &printed).unwrap_or_else(|error| panic!("{name}: {error}"));
-        let words: Vec<u32> =
-            packed.chunks(4).map(|word| u32::from_le_bytes(word.try_into().expect("words"))).collect();
+        let words = words(&packed);
         let sizes = library::read_record(&record).unwrap_or_else(|refusal| panic!("{name}: {refusal:?}"));
         assert_eq!(sizes[..3], words[..3], "{name}");
         for (size, entries) in sizes[3..].iter().zip(&words[3..6]) {
@@ -66,14 +77,13 @@ fn records_of_accepted_examples_are_read() {
         }
         count += 1;
     }
-    assert!(count >= 3, "{count} accepted examples");
+    assert!(count >= 4, "{count} accepted examples");
 }
 
 /// Document 01's square case: 132 bytes, every one.
 #[test]
 fn record_of_the_square_example() {
-    let text = fs::read_to_string(folder().join("square.txt")).expect("there is the square case");
-    let packed = jobtext::pack(&text).expect("the square case is a job");
+    let packed = jobtext::pack(&read("square.txt")).expect("the square case is a job");
     let sections = [0, 1, 1, 0, second::MODULUS - 1, 1, 3, 3, 9, 7, 1, 9, second::MODULUS - 1, second::MODULUS - 1, 18];
     let trailer = [0, 8, 24, 24, 36, 40, 48, 60, 60, 60, 60, 1, 2, 1, 1, 1, 1, 60];
     let expected = jobtext::bytes(&[&sections[..], &trailer].concat());
@@ -84,9 +94,59 @@ fn record_of_the_square_example() {
 /// The job that README.md builds step by step is that of examples/cubic.txt.
 #[test]
 fn circuit_of_the_readme() {
-    let read = |file: &str| fs::read_to_string(folder().join(file)).unwrap_or_else(|error| panic!("{file}: {error}"));
     let readme = read("../README.md");
     let text = readme.split_once("cat > my.txt <<'END'\n").and_then(|(_, rest)| rest.split_once("    END\n"));
     let (text, _) = text.expect("README.md has a job");
     assert_eq!(jobtext::pack(text), jobtext::pack(&read("cubic.txt")));
+}
+
+/// The case of a job.
+fn case(job: &[u8]) -> Case {
+    let mut words = words(job).into_iter();
+    let mut take = |count: u32| words.by_ref().take(count as usize).collect::<Vec<u32>>();
+    let sizes: [u32; 3] = take(3).try_into().expect("three sizes");
+    let counts: [u32; 3] = take(3).try_into().expect("three counts");
+    let mut case = Case::new(sizes, counts.map(|count| take(3 * count)), take(sizes[1]));
+    case.mask_word = take(1)[0];
+    case.mask = take(2 * sizes[1]);
+    case.challenges = take(9).try_into().expect("nine challenges");
+    assert_eq!(case.job(), job);
+    case
+}
+
+/// The three ρ that the first line of examples/blinded.txt names.
+fn named_rho(text: &str) -> [u32; 3] {
+    let (_, rest) = text.split_once("# The job of cubic.txt, blinded with rho = ").expect("the first line names them");
+    let numbers: Vec<u32> = rest.split([' ', ',']).map_while(|number| number.parse().ok()).collect();
+    numbers.try_into().expect("there are three")
+}
+
+/// The job of examples/blinded.txt is that of examples/cubic.txt after blinding, on both sides.
+#[test]
+fn blinded_example() {
+    let [original, text] = ["cubic.txt", "blinded.txt"].map(read);
+    let original = jobtext::pack(&original).expect("examples/cubic.txt is a job");
+    let blinded = Blinding::new(case(&original), named_rho(&text)).blinded().expect("three columns are free");
+    assert_eq!(jobtext::pack(&text), Ok(blinded.job()), "examples/blinded.txt, then what blinding gives:\n{blinded}");
+}
+
+/// The three sums that an example prints.
+fn printed_sums(file: &str) -> [u32; 3] {
+    let text = read(file);
+    let line = text.lines().find_map(|line| line.strip_prefix("s ")).expect("the sums are printed");
+    let sums: Vec<u32> = line.split(' ').map(|word| word.parse().expect("a word")).collect();
+    sums.try_into().expect("there are three")
+}
+
+/// Blinding moves each sum by its ρ times one factor, as examples/blinded.txt says.
+#[test]
+fn sums_of_the_blinded_example() {
+    let [before, after] = ["cubic.out", "blinded.out"].map(printed_sums);
+    let rho = named_rho(&read("blinded.txt"));
+    let factor = |matrix: usize| {
+        let moved = second::subtract(after[matrix], before[matrix]).expect("field words");
+        second::multiply(moved, second::inverse(rho[matrix]).expect("no word of rho is 0")).expect("field words")
+    };
+    assert_ne!(factor(0), 0);
+    assert_eq!([factor(1), factor(2)], [factor(0); 2]);
 }

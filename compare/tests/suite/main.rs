@@ -14,6 +14,7 @@
 #![forbid(unsafe_code)]
 
 mod arithmetic;
+mod blinding;
 mod circuits;
 mod examples;
 mod forged;

@@ -37,6 +37,10 @@ module _ {A : Type 0} where
   all-at P (x ∷ l) h zero d below = h .0
   all-at P (x ∷ l) h (suc i) d below = all-at P l (h .1) i d (omega arith)
 
+  pub at-all : (P : A → Type 0) (l : List A) (d : A) → ((i : ℕ) → i < length l → P (getD l i d)) → All P l
+  at-all P [] d h = tt
+  at-all P (x ∷ l) d h = (h 0 (omega arith), at-all P l d (λ i below. h (suc i) (omega arith)))
+
   pub all-tabulate : (P : A → Type 0) (n : ℕ) (f : ℕ → A) → ((i : ℕ) → i < n → P (f i)) → All P (tabulate n f)
   all-tabulate P zero f h = tt
   all-tabulate P (suc n) f h = (h 0 (omega arith), all-tabulate P n (λ i. f (suc i)) (λ i l. h (suc i) (omega arith)))

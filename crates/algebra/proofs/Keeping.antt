@@ -1,11 +1,12 @@
 -- Laws of `keep`, the members of a list that pass a test, and of `any`, whether some member does. Assumes nothing.
-use mathlib.Core.Path.{_≡_, refl, sym, ap, ap₂, _∙_}
+use mathlib.Core.Path.{_≡_, refl, sym, ap, ap₂, _∙_, fun-ext}
 use mathlib.Core.Bool.{Bool, true, false, not, _&&_, _||_, true≢false, or-true, and-comm}
 use mathlib.Core.List.{List, [], _∷_, _++_}
 use Prim.Native.Nat.{ℕ, zero, suc, _+_, _≤_, _<_}
+use native.Mathlib.Nat.{zero-add, suc-add}
 use native.Mathlib.Omega.{arith}
 use lib.ListN.{length, getD, length-append}
-use Rattle.algebra.specs.Lists.{pick, keep, any}
+use Rattle.algebra.specs.Lists.{pick, tabulate, keep, any}
 use Rattle.algebra.specs.Counting.{All}
 
 module _ {T : Type 0} (t : T → Bool) where
@@ -73,6 +74,20 @@ module _ {T : Type 0} (t : T → Bool) where
       go : (b : Bool) → length (keep t l) ≤ length l → length (pick b (x ∷ keep t l) (keep t l)) ≤ suc (length l)
       go true rest = omega (arith, rest)
       go false rest = omega (arith, rest)
+
+-- what is kept of the first n + m members by a rule: of the first n, then of the m after them
+pub keep-tabulate-add :
+    {T : Type 0} (t : T → Bool) (n m : ℕ) (f : ℕ → T)
+    → keep t (tabulate (n + m) f) ≡ keep t (tabulate n f) ++ keep t (tabulate m (λ i. f (n + i)))
+keep-tabulate-add {T} t n m f = ap (keep t) (go n f) ∙ keep-append t (tabulate n f) (tabulate m (λ i. f (n + i)))
+  where
+    go : (n : ℕ) (f : ℕ → T) → tabulate (n + m) f ≡ tabulate n f ++ tabulate m (λ i. f (n + i))
+    go zero f = ap₂ (λ (k : ℕ) (g : ℕ → T). tabulate k g) (zero-add m) (fun-ext (λ i. ap f (sym (zero-add i))))
+    go (suc n) f =
+        ap (λ (k : ℕ). tabulate k f) (suc-add n m)
+        ∙ ap (λ (l : List T). f 0 ∷ l)
+        (go n (λ i. f (suc i))
+        ∙ ap (λ (g : ℕ → T). tabulate n (λ i. f (suc i)) ++ tabulate m g) (fun-ext (λ i. ap f (sym (suc-add n i)))))
 
 -- what passes and what does not are all there is
 pub length-keep-both : {T : Type 0} (t : T → Bool) (l : List T) → length (keep t l) + length (keep (λ x. not (t x)) l) ≡ length l
@@ -167,3 +182,11 @@ module _ {T : Type 0} (t : T → Bool) where
   any-at [] k z below e = absurd (omega arith)
   any-at (x ∷ l) zero z below e = ap (λ (b : Bool). b || any t l) e
   any-at (x ∷ l) (suc k) z below e = ap (λ (b : Bool). t x || b) (any-at l k z (omega arith) e) ∙ or-true (t x)
+
+  pub any-append : (l k : List T) → any t (l ++ k) ≡ (any t l || any t k)
+  any-append [] k = refl
+  any-append (x ∷ l) k = go (t x) (any-append l k)
+    where
+      go : (b : Bool) → any t (l ++ k) ≡ (any t l || any t k) → (b || any t (l ++ k)) ≡ ((b || any t l) || any t k)
+      go true rest = refl
+      go false rest = rest

@@ -1,7 +1,7 @@
 -- Laws of finite sums in a commutative ring, over the numbers below n and over the members of a list. Assumes nothing.
 use mathlib.Core.Path.{_≡_, refl, sym, _∙_, ap, ap₂}
 use mathlib.Core.Logic.{_≢_}
-use mathlib.Core.List.{List, [], _∷_}
+use mathlib.Core.List.{List, [], _∷_, _++_}
 use Prim.Native.Nat.{ℕ, zero, suc, _≤_, _<_}
 use native.Mathlib.Omega.{arith}
 use native.Mathlib.Decide.{ℕ-discrete}
@@ -72,9 +72,18 @@ module _ {A : Type 0} (R : CommRing A) where
     sumList-ext f g [] h = refl
     sumList-ext f g (x ∷ l) h = ap₂ _⊕_ (h .0) (sumList-ext f g l (h .1))
 
+    -- no member's term is other than 0
+    pub sumList-none : (f : T → A) (l : List T) → All (λ x. f x ≡ 𝟘) l → sumList R f l ≡ 𝟘
+    sumList-none f [] h = refl
+    sumList-none f (x ∷ l) h = ap₂ _⊕_ (h .0) (sumList-none f l (h .1)) ∙ add-zero 𝟘
+
     pub sumList-scale : (c : A) (f : T → A) (l : List T) → sumList R (λ x. c ⊗ f x) l ≡ c ⊗ sumList R f l
     sumList-scale c f [] = sym (mul-zero R c)
     sumList-scale c f (x ∷ l) = ap (λ s. c ⊗ f x ⊕ s) (sumList-scale c f l) ∙ sym (mul-add c (f x) (sumList R f l))
+
+    pub sumList-append : (f : T → A) (l k : List T) → sumList R f (l ++ k) ≡ sumList R f l ⊕ sumList R f k
+    sumList-append f [] k = sym (zero-add R (sumList R f k))
+    sumList-append f (x ∷ l) k = ap (λ s. f x ⊕ s) (sumList-append f l k) ∙ sym (add-assoc (f x) (sumList R f l) (sumList R f k))
 
     pub sum-sumList : (n : ℕ) (f : T → ℕ → A) (l : List T) → sum R n (λ i. sumList R (λ x. f x i) l) ≡ sumList R (λ x. sum R n (f x)) l
     sum-sumList n f [] = sum-zero n

@@ -204,7 +204,7 @@ module _ (r c x : ℕ) (ea eb ec : List ℕ) where
       record { circuit = index-shape-fits (rows .0); z-length = eqb-true (length z) c (t .0); m-length = eqb-true (length m) (2 * c) (t .1 .0) }
 
 -- A call is judged in three parts: what it begins with, its lent slices, and its contents
-regroup : (s x y : Option Refusal) (l : List (Option Refusal)) → first (s ∷ first (x ∷ y ∷ []) ∷ l) ≡ first (first (s ∷ x ∷ []) ∷ y ∷ first l ∷ [])
+pub regroup : (s x y : Option Refusal) (l : List (Option Refusal)) → first (s ∷ first (x ∷ y ∷ []) ∷ l) ≡ first (first (s ∷ x ∷ []) ∷ y ∷ first l ∷ [])
 regroup none none none l = sym (first-only (first l))
 regroup none none (some r) l = refl
 regroup none (some r) y l = refl

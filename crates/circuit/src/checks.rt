@@ -27,7 +27,7 @@ use shared::scans::judge_words;
 use shared::six_sizes::is_public_size;
 
 // The most words of an entry list: three for each of 1,024 entries.
-const MAX_ENTRY_WORDS: usize = 3072;
+pub const MAX_ENTRY_WORDS: usize = 3072;
 
 // 4: |R|, |C|, |X| are sizes, and |X| is not above |C|.
 pub fn check_sizes(r: u32, c: u32, x: u32) -> Fault

@@ -1,4 +1,4 @@
--- The Lagrange value L_a(y) of a domain: 1 at a and 0 at the other elements, a·v_D(y) / (n(y - a)) off the domain, and
+-- The Lagrange value L_a(y) of a domain: 1 at a and 0 at the other elements, a·v_D(y) / (n(y - a)) off the domain, where it is not 0, and
 -- everywhere the value of one polynomial of length n. Assumes nothing.
 use mathlib.Core.Path.{_≡_, refl, sym, ap, _∙_}
 use mathlib.Core.Logic.{_≢_, inl, inr}
@@ -13,21 +13,22 @@ use Rattle.algebra.specs.Ring.{pow}
 use Rattle.algebra.specs.Sum.{sum}
 use Rattle.algebra.proofs.Choice.{pick-true, pick-false}
 use Rattle.algebra.proofs.RingLaws.{mul-zero, zero-mul, one-pow, mul-pow, pow-add, sub-zero→eq, eq→sub-zero}
-use Rattle.algebra.proofs.Solver.{_:-_, _:*_, :-_, :1, _:=_, _⊙_, _from_, ring-by}
+use Rattle.algebra.proofs.FieldLaws.{mul-not-zero}
+use Rattle.algebra.proofs.Solver.{_:-_, _:*_, :-_, :0, :1, _:=_, _⊙_, _from_, ring-by}
 use Rattle.algebra.proofs.SumLaws.{sum-ext, sum-scale, sum-const, geometric}
 use Rattle.algebra.proofs.PolynomialLaws.{eval-tabulate, length-tabulate}
 use Rattle.field.specs.Prime.{Prime}
 use Rattle.field.specs.Element.{Elem, of, 𝟘, 𝟙, _⊗_, _⊖_, equal}
 use Rattle.field.specs.Power.{reciprocal, _⊘_}
 use Rattle.field.proofs.ElementLaws.{primeRing, mul-comm, mul-one}
-use Rattle.field.proofs.Field.{no-zero-divisors, mul-reciprocal, cast-is-of, equal-true, equal-false, true-equal, false-equal}
+use Rattle.field.proofs.Field.{primeField, no-zero-divisors, mul-reciprocal, cast-is-of, equal-true, equal-false, true-equal, false-equal}
 use Rattle.domain.specs.Size.{isSize}
 use Rattle.domain.specs.Domain.{root, element, inside, Outside, vanishing, lagrange}
 use Rattle.domain.specs.Polynomial.{Poly, eval}
 use Rattle.domain.specs.Qualifies.{Qualifies}
 use Rattle.domain.proofs.SizeLaws.{size-not-zero}
-use Rattle.domain.proofs.DomainLaws.{domain-order, element-injective, element-power, inside-element}
-use Rattle.domain.proofs.DomainLaws.{inside-or-outside, vanishing-inside, inside-vanishing}
+use Rattle.domain.proofs.DomainLaws.{domain-order, element-injective, element-power, element-not-zero, inside-element}
+use Rattle.domain.proofs.DomainLaws.{inside-or-outside, vanishing-inside, inside-vanishing, vanishing-outside}
 use Rattle.domain.proofs.Divisors.{lagrange-divisor}
 use Rattle.domain.proofs.Interpolation.{IsPolynomial}
 
@@ -103,6 +104,15 @@ module _ {q : Prime} (Q : Qualifies q) (n : ℕ) (s : isSize n ≡ true) where
         step k l = ring-by (primeRing q)
             (pow (primeRing q) b k ∷ pow (primeRing q) y k ∷ pow (primeRing q) (b ⊗ y) k ∷ reciprocal (of n) ∷ [])
             (λ u v w m. u :* m :* v := m :* w from ((:- m) ⊙ (w := u :* v)) ∷ []) (mul-pow (primeRing q) b y k, tt) tt
+
+    -- L_a is not 0 off the domain
+    pub lagrange-not-zero : (y : Elem q) → Outside n y → lagrange n (element n i) y ≢ 𝟘
+    lagrange-not-zero y o e =
+        let d : Elem q = of n ⊗ (y ⊖ a) in
+        mul-not-zero (primeRing q) (primeField q) a (vanishing n y) (element-not-zero Q n s i) (vanishing-outside Q n s y o)
+        (ring-by (primeRing q) (a ∷ vanishing n y ∷ d ∷ reciprocal d ∷ [])
+        (λ a v d r. a :* v := :0 from (d ⊙ (a :* v :* r := :0)) ∷ ((:- (a :* v)) ⊙ (d :* r := :1)) ∷ [])
+        (sym (lagrange-off n a y o) ∙ e, (mul-reciprocal d (lagrange-divisor Q n s a y (inside-element Q n s i i<n) o), tt)) tt)
 
     value-outside : (y : Elem q) → Outside n y → powers y ⊘ of n ≡ a ⊗ vanishing n y ⊘ (of n ⊗ (y ⊖ a))
     value-outside y o =

@@ -1,4 +1,4 @@
--- A circuit's words as they are filled: words copied over zeros, the rows' counts entry by entry, and parts put one after the other up to
+-- A circuit's words as they are filled: words before zeros, the rows' counts entry by entry, and parts put one after the other up to
 -- the whole of a matrix and of a circuit. Assumes nothing.
 use mathlib.Core.Path.{_≡_, refl, sym, ap, ap₂, _∙_}
 use mathlib.Core.List.{List, [], _∷_, _++_, append-assoc, append-nil}
@@ -9,7 +9,7 @@ use borrow.Rule.Slice.PartMut.{putMid}
 use lib.Dec.{eqb}
 use lib.ListN.{length, getD, take, drop, set, replicate, length-append, length-drop, length-replicate}
 use lib.ListN.{replicate-append-replicate, drop-of-length-le}
-use lib.Seq.{take-suc, take-all, take-length, length-take-le, take-at, drop-at, paste, paste-suc, sets-eq}
+use lib.Seq.{take-suc, take-all, length-take-le, take-at, drop-at, sets-eq}
 use Rattle.algebra.specs.Lists.{tabulate}
 use Rattle.algebra.specs.Counting.{All}
 use Rattle.algebra.proofs.Counting.{all-map}
@@ -18,31 +18,21 @@ use Rattle.algebra.proofs.Keeping.{length-keep}
 use Rattle.algebra.proofs.PolynomialLaws.{getD-tabulate}
 use Rattle.domain.specs.Size.{maxSize}
 use Rattle.protocol.specs.Circuit.{Entry}
-use Rattle.protocol.specs.Calls.{entriesOf, circuitOf}
-use Rattle.protocol.specs.Grown.{wordsOfEntries, rowEntries, storedMatrix, stored, matrixWords, grownWords, emptyCircuit}
-use Rattle.protocol.proofs.EntryWords.{own-row, other-row}
+use Rattle.protocol.specs.Calls.{entriesOf, wordsOfEntries, circuitOf}
+use Rattle.protocol.specs.Grown.{rowEntries, storedMatrix, stored, matrixWords, grownWords, emptyCircuit}
+use Rattle.protocol.proofs.EntryWords.{entry-words-back, own-row, other-row}
 use Rattle.circuit.specs.Given.{given, Within}
 use Rattle.protocol.proofs.EntryLists.{length-entriesOf}
 
--- words that are copied over zeros, one by one
-module _ (d words : List ℕ) where
-  pub copied-more : (i : ℕ) → i < length d → i < length words → set (paste d 0 words i) i (getD words i 0) ≡ paste d 0 words (i + 1)
-  copied-more i in-d in-words =
-      let place : i ≡ 0 + i = omega arith in
-      ap (λ (k : ℕ). set (paste d 0 words i) k (getD words i 0)) place
-      ∙ paste-suc d 0 words i 0 (omega arith) in-words ∙ ap (paste d 0 words) (sym (add-one i))
-
-  pub copied-all : (n i : ℕ) → d ≡ replicate n 0 → length words ≤ n → i ≡ length words
-      → paste d 0 words i ≡ words ++ replicate (n - length words) 0
-  copied-all n i cleared fits all =
-      let m : ℕ = length words in
-      let place : 0 + m ≡ m = omega arith in
-      let cut : n ≡ m + (n - m) = omega arith in
-      let zeros : d ≡ replicate m 0 ++ replicate (n - m) 0 =
-      cleared ∙ ap (λ (k : ℕ). replicate k 0) cut ∙ sym (replicate-append-replicate m (n - m) 0) in
-      ap (paste d 0 words) all
-      ∙ ap₂ _++_ (take-length words)
-      (ap₂ drop place zeros ∙ drop-at (replicate m 0) (replicate (n - m) 0) m (length-replicate m 0))
+-- zeros that words stand before
+pub zeros-after : (d words : List ℕ) (n : ℕ) → d ≡ replicate n 0 → length words ≤ n
+    → words ++ drop (length words) d ≡ words ++ replicate (n - length words) 0
+zeros-after d words n cleared fits =
+    let m : ℕ = length words in
+    let cut : n ≡ m + (n - m) = omega arith in
+    let zeros : d ≡ replicate m 0 ++ replicate (n - m) 0 =
+    cleared ∙ ap (λ (k : ℕ). replicate k 0) cut ∙ sym (replicate-append-replicate m (n - m) 0) in
+    ap (λ (l : List ℕ). words ++ l) (ap (drop m) zeros ∙ drop-at (replicate m 0) (replicate (n - m) 0) m (length-replicate m 0))
 
 -- zeros made by a rule
 zero-counts : (n : ℕ) → tabulate n (λ j. 0) ≡ replicate {A = ℕ} n 0
@@ -121,15 +111,7 @@ matrix-filled out counts words t n m room many =
     ∙ ap (λ (l : List ℕ). ((total ++ counts) ++ words) ++ l) over
     ∙ append-nil ((total ++ counts) ++ words)
 
--- the entries of a list of whole entries have its words
-words-back : (l : List ℕ) → length l % 3 ≡ 0 → wordsOfEntries (entriesOf l) ≡ l
-unfolding wordsOfEntries entriesOf
-words-back [] whole = refl
-words-back (i ∷ []) whole = absurd (omega arith)
-words-back (i ∷ (k ∷ [])) whole = absurd (omega arith)
-words-back (i ∷ (k ∷ (v ∷ l))) whole = ap (λ (r : List ℕ). i ∷ k ∷ v ∷ r) (words-back l (omega arith))
-
--- so filled from such a list, they are the words of its entries
+-- filled from a list of whole entries, they are the words of its entries
 pub matrix-stored : (l counts words : List ℕ) (n m : ℕ) → length l % 3 ≡ 0 → n ≡ maxSize → m ≡ 3 * maxSize
     → counts ≡ tabulate n (λ i. length (rowEntries i (entriesOf l))) → words ≡ l ++ replicate (m - length l) 0
     → length l / 3 ∷ (counts ++ words) ≡ storedMatrix (entriesOf l)
@@ -140,7 +122,7 @@ matrix-stored l counts words n m whole rows room counted copied =
     let left : m - length l ≡ 3 * maxSize - 3 * length es = omega (arith, length-entriesOf l) in
     ap₂ _∷_ total
     (ap₂ _++_ (counted ∙ ap (λ (n : ℕ). tabulate n (λ i. length (rowEntries i es))) rows)
-    (copied ∙ ap₂ (λ (w : List ℕ) (k : ℕ). w ++ replicate k 0) (sym (words-back l whole)) left))
+    (copied ∙ ap₂ (λ (w : List ℕ) (k : ℕ). w ++ replicate k 0) (sym (entry-words-back l whole)) left))
 
 -- a circuit's words: the sizes, then the words of three matrices, m of each
 module _ (w : List ℕ) (r c x : ℕ) where

@@ -41,11 +41,7 @@ fn copy_words(words: &[u32], out: &mut [u32])
     ensures { λ _. ⌜ now (out .exit) ≡ now (words .entry) ++ replicate (length (now (out .entry)) - length (now (words .entry))) 0 ⌝ }
 {
     poly::clear(out);
-    let mut i = 0;
-    while i < words.len() {
-        out[i] = words[i];
-        i += 1;
-    }
+    poly::copy_front(words, out);
 }
 
 // A matrix's words: the total, the rows' counts and the entries.

@@ -2,9 +2,9 @@
 // their remainders. Results are field words.
 ghost use mathlib.Core.Path.{_≡_};
 ghost use mathlib.Core.Bool.{true};
-ghost use mathlib.Core.List.{map, tail};
+ghost use mathlib.Core.List.{_++_, map, tail};
 ghost use Prim.Native.Nat.{_+_, _-_, _^_, _<_, _≤_};
-ghost use lib.ListN.{length, getD, replicate};
+ghost use lib.ListN.{length, getD, drop, replicate};
 ghost use Rattle.field.specs.Prime.{Prime};
 ghost use Rattle.field.specs.Element.{of, 𝟘, words};
 ghost use Rattle.domain.specs.Size.{isSize};
@@ -147,6 +147,18 @@ pub fn copy_tail(words: &[u32], out: &mut [u32])
     let mut i = 0;
     while i < out.len() {
         out[i] = words[i + 1];
+        i += 1;
+    }
+}
+
+// The words over the front of the slice; what stands after them stays.
+pub fn copy_front(words: &[u32], out: &mut [u32])
+    requires { ⌜ length (now words) ≤ length (now out) ⌝ }
+    ensures { λ _. ⌜ now (out .exit) ≡ now (words .entry) ++ drop (length (now (words .entry))) (now (out .entry)) ⌝ }
+{
+    let mut i = 0;
+    while i < words.len() {
+        out[i] = words[i];
         i += 1;
     }
 }

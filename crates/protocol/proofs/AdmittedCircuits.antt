@@ -11,7 +11,7 @@ use lib.ListN.{length}
 use native.Mathlib.Omega.{arith}
 use borrow.Author.Tests.{ltb-true, leb-true, lt-ltb, le-leb, ne-eqb}
 use Rattle.algebra.specs.Counting.{All}
-use Rattle.algebra.proofs.Counting.{all-map, all-append, all-image}
+use Rattle.algebra.proofs.Counting.{all-map, all-append, append-all, all-image}
 use Rattle.field.specs.Prime.{Prime}
 use Rattle.domain.specs.Size.{maxSize, isSize}
 use Rattle.domain.proofs.SizeLaws.{size-bound}
@@ -82,6 +82,23 @@ unfolding circuitRefusals listRefusal countTests wordRefusal entryValues entryRe
 empty-admitted q r c x size =
     none-first (circuitRefusals q (emptyCircuit r c x) (countTests (emptyCircuit r c x)) []) (size, (refl, (refl, (refl, tt))))
 
+-- rows 4 to 7 with other lists that pass where the given ones do, and without the words after the circuit's
+pub rows-with-lists :
+    (q : Prime) (c : Circuit) (lists others : List Bool) (ws : List ℕ) → (All (λ t. t ≡ true) lists → All (λ t. t ≡ true) others)
+    → first (circuitRefusals q c lists ws) ≡ none → first (circuitRefusals q c others []) ≡ none
+unfolding circuitRefusals listRefusal
+rows-with-lists q c lists others ws pass free =
+    let (size, (list, (word, entry))) = first-none (circuitRefusals q c lists ws) free in
+    let Low : ℕ → Type 0 = λ w. w < q .p in
+    let (values, _) = append-all Low (entryValues c) ws (wordRefusal-none q (entryValues c ++ ws) word) in
+    none-first (circuitRefusals q c others []) (
+      size,
+      (
+        none-refuse 5 0 others (pass (refuse-none 5 0 lists list)),
+        (none-wordRefusal q (entryValues c ++ []) (all-append Low (entryValues c) [] values tt), entry),
+      ),
+    )
+
 -- lists of whole entries, not over 3 · 1,024 words long, hold not over 1,024 entries
 few-in-list : (l : List ℕ) → (eqb (length l % 3) 0 && leb (length l) (3 * maxSize)) ≡ true → leb (length (entriesOf l)) maxSize ≡ true
 few-in-list l t =
@@ -91,14 +108,10 @@ few-in-list l t =
 -- so a circuit in lists that the indexer accepts is let through
 pub lists-admitted :
     (q : Prime) (c : CircuitWords) → first (circuitRefusals q (circuitOf c) (entryListTests c) []) ≡ none → Admitted q (circuitOf c)
-unfolding circuitRefusals listRefusal countTests entryListTests circuitOf
-lists-admitted q c free =
-    let (size, (lists, rest)) = first-none (circuitRefusals q (circuitOf c) (entryListTests c) []) free in
-    let (a, (b, (d, _))) = refuse-none 5 0 (entryListTests c) lists in
-    let count : listRefusal (countTests (circuitOf c)) ≡ none =
-    none-refuse 5 0 (countTests (circuitOf c))
-    (few-in-list (c .matrices .a) a, (few-in-list (c .matrices .b) b, (few-in-list (c .matrices .c) d, tt))) in
-    none-first (circuitRefusals q (circuitOf c) (countTests (circuitOf c)) []) (size, (count, rest))
+unfolding countTests entryListTests circuitOf
+lists-admitted q c =
+    rows-with-lists q (circuitOf c) (entryListTests c) (countTests (circuitOf c)) []
+    (λ t. (few-in-list (c .matrices .a) (t .0), (few-in-list (c .matrices .b) (t .1 .0), (few-in-list (c .matrices .c) (t .1 .1 .0), tt))))
 
 -- what the new one has and all of three have, all have after one is replaced
 replaced-have :

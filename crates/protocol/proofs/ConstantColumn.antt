@@ -1,10 +1,10 @@
 -- Column 0 is the constant: the proofs of specs/ConstantColumn. Assumes nothing.
 use mathlib.Core.Path.{_≡_, refl, sym, _∙_, subst}
 use mathlib.Core.Logic.{_≢_}
-use mathlib.Core.Bool.{Bool, true, false}
+use mathlib.Core.Bool.{Bool}
 use mathlib.Core.List.{List, [], _∷_, _++_, map, tail}
 use mathlib.Core.Option.{Option, none, some}
-use Prim.Native.Nat.{ℕ, suc, _<_}
+use Prim.Native.Nat.{ℕ, _<_}
 use lib.Dec.{eqb, ltb}
 use lib.ListN.{length, getD}
 use native.Mathlib.Omega.{arith}
@@ -18,13 +18,14 @@ use Rattle.domain.specs.Domain.{sumOver}
 use Rattle.domain.specs.Polynomial.{eval}
 use Rattle.protocol.specs.Circuit.{Circuit, Sizes}
 use Rattle.protocol.specs.Checks.{Transcript, Openings, Verdict, withα, withη, withβ, withδ, withγ}
-use Rattle.protocol.specs.Refusals.{Refusal, first, refuse, beginsWithOne, sizeTests, sixSizeTests, entryTests, sizeRefusal, listRefusal, wordRefusal, entryRefusal, maskRefusal, constantRefusal, assignmentRefusal}
-use Rattle.protocol.specs.Admission.{entryValues, circuitRefusals, refusalsAfterCircuit, proverRefusal}
+use Rattle.protocol.specs.Refusals.{Refusal, first, beginsWithOne, sixSizeTests}
+use Rattle.protocol.specs.Refusals.{sizeRefusal, listRefusal, wordRefusal, maskRefusal, constantRefusal, assignmentRefusal}
+use Rattle.protocol.specs.Admission.{refusalsAfterCircuit, proverRefusal}
 use Rattle.protocol.specs.Session.{Session, Stepped, Answer, Taken, Judged, Refused, Step, Open, Alpha, Eta, Beta, Delta, Gamma, Last, unopened, unless, onward}
 use Rattle.protocol.specs.Session.{openRefusals, openRefusal, alphaRefusal, etaRefusal, betaRefusal, deltaRefusal, gammaRefusal, openingsRefusal, verdictOf}
 use Rattle.protocol.specs.Session.{openStep, alphaStep, etaStep, betaStep, deltaStep, gammaStep, openingsStep, stepped, after}
 use Rattle.protocol.specs.ConstantColumn.{OpensWithoutOne, ConstantColumn}
-use Rattle.protocol.proofs.RefusalLaws.{first-none, none-first, words-below}
+use Rattle.protocol.proofs.RefusalLaws.{first-none, none-first, words-below, past, past-circuit}
 use Rattle.protocol.proofs.AdmissionLaws.{rows-satisfied, satisfied-rows}
 use Rattle.protocol.proofs.Sessions.{judged, open-takes, openings-turn}
 
@@ -56,13 +57,6 @@ heard-quiet (some r) s t without = refused-quiet s r without
 same-x : (o : Option Refusal) (s : Session) (t : Transcript ℕ) (a : Answer) → unless o s (onward s t a) .session .x ≡ s .x
 same-x none s t a = refl
 same-x (some r) s t a = refl
-
--- where the first refusal has another number than a row, that row passes, and the refusal is the first of the rows after it
-past : (number n : ℕ) (tests : List Bool) (rows : List (Option Refusal)) (f : Refusal)
-    → first (refuse number n tests ∷ rows) ≡ some f → f .number ≢ number → All (λ t. t ≡ true) tests × (first rows ≡ some f)
-past number n [] rows f e other = (tt, e)
-past number n (true ∷ tests) rows f e other = let (passes, rest) = past number (suc n) tests rows f e other in ((refl, passes), rest)
-past number n (false ∷ tests) rows f e other = absurd (other cc)
 
 module _ (q : Prime) where
   opening-refused :
@@ -102,16 +96,9 @@ module _ (q : Prime) where
       (refusal : proverRefusal q c lists z r m challenges points ≡ some f) where
     -- the rows 4 to 7 are past
     after-circuit : 7 < f .number → first (refusalsAfterCircuit q c z m points) ≡ some f
-    unfolding proverRefusal circuitRefusals sizeRefusal listRefusal wordRefusal entryRefusal
+    unfolding proverRefusal
     after-circuit later =
-        let ws : List ℕ = entryValues c ++ (z ++ (r ∷ (m ++ challenges))) in
-        let entries : List Bool = entryTests c (c .matrices .a) ++ (entryTests c (c .matrices .b) ++ entryTests c (c .matrices .c)) in
-        let rows7 : List (Option Refusal) = entryRefusal c ∷ refusalsAfterCircuit q c z m points in
-        let rows5 : List (Option Refusal) = listRefusal lists ∷ wordRefusal q ws ∷ rows7 in
-        let from5 = past 4 0 (sizeTests (c .|R|) (c .|C|) (c .|X|) []) rows5 f refusal (λ e. omega arith) .1 in
-        let from6 = past 5 0 lists (wordRefusal q ws ∷ rows7) f from5 (λ e. omega arith) .1 in
-        let from7 = past 6 0 (map (λ w. ltb w (q .p)) ws) rows7 f from6 (λ e. omega arith) .1 in
-        past 7 0 entries (refusalsAfterCircuit q c z m points) f from7 (λ e. omega arith) .1
+        past-circuit q c lists (z ++ (r ∷ (m ++ challenges))) (refusalsAfterCircuit q c z m points) f refusal later .1
 
     -- 8 is past: the mask adds to 0, and the refusal is one of the rows after it
     after-mask : 8 < f .number → (sumOver (c .|C|) (eval {q = q} (map of m)) ≡ 𝟘) × (first (tail (refusalsAfterCircuit q c z m points)) ≡ some f)

@@ -1,7 +1,8 @@
--- Demands 2 and 3, what is known where a verdict is answered, that no divisor is 0, that column 0 is the constant, and what growing
--- circuits are, proved: for every prime that qualifies, and so for the module's prime. Assumes nothing.
+-- Demands 2 and 3, what is known where a verdict is answered, that no divisor is 0, that column 0 is the constant, what growing circuits
+-- are, and what blinding does, proved: for every prime that qualifies, and so for the module's prime. Assumes nothing.
 use Rattle.field.specs.Prime.{Prime}
 use Rattle.domain.specs.BabyBear.{babyBear}
+use Rattle.domain.specs.Qualifies.{Qualifies}
 use Rattle.domain.proofs.Qualification.{babyBear-qualifies}
 use Rattle.protocol.specs.Demand2.{Demand2, Demand2Holds}
 use Rattle.protocol.specs.Demand3.{Setting, Demand3, Demand3Holds}
@@ -9,6 +10,8 @@ use Rattle.protocol.specs.Verdicts.{Verdicts}
 use Rattle.protocol.specs.Divisors.{Divisors}
 use Rattle.protocol.specs.ConstantColumn.{ConstantColumn}
 use Rattle.protocol.specs.Growing.{Growing}
+use Rattle.protocol.specs.Blinding.{Blinding}
+use Rattle.protocol.proofs.Blinding as proofs
 use Rattle.protocol.proofs.CallsProve.{calls-give-proof, calls-accepted}
 use Rattle.protocol.proofs.ConstantColumn.{constant-column}
 use Rattle.protocol.proofs.Divisors.{divisors}
@@ -51,6 +54,10 @@ demand3 q Q S =
 pub verdicts : (q : Prime) → Verdicts q
 verdicts q = record { verdicts-allowed = verdicts-allowed q; steps-pass = steps-pass q; only-steps-pass = only-steps-pass q }
 
+-- blinding, with demand 3 for what it says of a blinded circuit
+pub blinding : (q : Prime) → Qualifies q → Blinding q
+blinding = proofs.blinding demand3
+
 -- for the prime of domain/specs/BabyBear.antt
 pub module-demand2 : Demand2 babyBear
 module-demand2 = demand2 babyBear babyBear-qualifies
@@ -69,3 +76,6 @@ module-constant-column = constant-column babyBear
 
 pub module-growing : Growing babyBear
 module-growing = growing babyBear
+
+pub module-blinding : Blinding babyBear
+module-blinding = blinding babyBear babyBear-qualifies

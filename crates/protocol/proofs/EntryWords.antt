@@ -2,7 +2,7 @@
 use mathlib.Core.Path.{_≡_, refl, sym, ap, _∙_}
 use mathlib.Core.Logic.{_≢_}
 use mathlib.Core.List.{List, [], _∷_, _++_, append-assoc}
-use Prim.Native.Nat.{ℕ, zero, suc, _+_, _-_, _*_, _<_, _≤_}
+use Prim.Native.Nat.{ℕ, zero, suc, _+_, _-_, _*_, _%_, _<_, _≤_}
 use native.Mathlib.Omega.{arith}
 use lib.Dec.{eqb}
 use lib.ListN.{length, getD, drop, replicate, length-append, length-replicate}
@@ -13,9 +13,10 @@ use Rattle.algebra.proofs.ListLaws.{slice-at}
 use Rattle.algebra.proofs.Keeping.{keep-without, length-keep-with}
 use Rattle.algebra.proofs.PolynomialLaws.{length-tabulate}
 use Rattle.domain.specs.Size.{maxSize}
-use Rattle.protocol.specs.Circuit.{Entry}
-use Rattle.protocol.specs.Calls.{entriesOf}
-use Rattle.protocol.specs.Grown.{wordsOfEntries, rowEntries, storedMatrix, matrixWords, inserted, removed}
+use Rattle.protocol.specs.Circuit.{Entry, Circuit}
+use Rattle.protocol.specs.Calls.{entriesOf, wordsOfEntries, circuitOf}
+use Rattle.protocol.specs.Grown.{rowEntries, storedMatrix, matrixWords, inserted, removed}
+use Rattle.protocol.specs.Growing.{handedOver}
 
 -- the words of entries
 pub length-words : (es : List Entry) → length (wordsOfEntries es) ≡ 3 * length es
@@ -32,6 +33,18 @@ pub entries-back : (es : List Entry) → entriesOf (wordsOfEntries es) ≡ es
 unfolding wordsOfEntries entriesOf
 entries-back [] = refl
 entries-back (e ∷ es) = ap (λ r. e ∷ r) (entries-back es)
+
+pub circuit-back : (k : Circuit) → circuitOf (handedOver k) ≡ k
+unfolding circuitOf
+circuit-back k = simp entries-back
+
+-- and in a list of whole entries the words of its entries are all there is
+pub entry-words-back : (l : List ℕ) → length l % 3 ≡ 0 → wordsOfEntries (entriesOf l) ≡ l
+unfolding wordsOfEntries entriesOf
+entry-words-back [] whole = refl
+entry-words-back (i ∷ []) whole = absurd (omega arith)
+entry-words-back (i ∷ (k ∷ [])) whole = absurd (omega arith)
+entry-words-back (i ∷ (k ∷ (v ∷ l))) whole = ap (λ (r : List ℕ). i ∷ k ∷ v ∷ r) (entry-words-back l (omega arith))
 
 pub column-word : (es : List Entry) (k : ℕ) (z : Entry) → k < length es → getD (wordsOfEntries es) (3 * k + 1) 0 ≡ getD es k z .column
 unfolding wordsOfEntries

@@ -15,8 +15,8 @@ use Rattle.protocol.specs.Three.{MatrixName, at}
 use Rattle.protocol.specs.Circuit.{Entry, Circuit}
 use Rattle.protocol.specs.Refusals.{Outcome, Done, Refused, judged, first, refuse, sizeTests, sizeRefusal}
 use Rattle.protocol.specs.Admission.{Admitted, circuitRefusals}
-use Rattle.protocol.specs.Calls.{CircuitWords, circuitOf, entryListTests, indexCall}
-use Rattle.protocol.specs.Grown.{wordsOfEntries, rowEntries, stored, totalPlace, countsPlace, entriesPlace, rowStart, rowLength, grownLists, grownCircuit, hasRow, emptyCircuit, beginCall, beginFromCall, addEntryCall, removeEntryCall, findRowCall, rowCall, grownIndexCall}
+use Rattle.protocol.specs.Calls.{CircuitWords, wordsOfEntries, circuitOf, entryListTests, indexCall}
+use Rattle.protocol.specs.Grown.{rowEntries, stored, totalPlace, countsPlace, entriesPlace, rowStart, rowLength, grownLists, grownCircuit, hasRow, emptyCircuit, beginCall, beginFromCall, addEntryCall, removeEntryCall, findRowCall, rowCall, grownIndexCall}
 use Rattle.protocol.specs.Growing.{number, changed, standsAt, entriesWith, Correct, Beginning, Empty, From, begun, Change, Add, Remove, change, left, afterChanges, addAll, entriesIn, Growing}
 use Rattle.protocol.proofs.AdmissionLaws.{WellFormed, admitted-well-formed}
 use Rattle.protocol.proofs.AdmittedCircuits.{few-admitted, empty-admitted, lists-admitted}

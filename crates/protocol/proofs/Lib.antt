@@ -34,6 +34,7 @@ pub mod ConstantColumn
 pub mod EntryOrder
 pub mod RowPlaces
 pub mod AdmittedCircuits
+pub mod AdmittedJobs
 pub mod EntryWords
 pub mod StoredCircuits
 pub mod StoredRows
@@ -41,5 +42,13 @@ pub mod GrownRefusals
 pub mod GrownCalls
 pub mod AdditionOrder
 pub mod Growing
+pub mod PrivateColumns
+pub mod BlindableCircuits
+pub mod BlindedAssignments
+pub mod BlindedCircuits
+pub mod BlindedJobs
+pub mod BlindedSums
+pub mod BlindCalls
+pub mod Blinding
 pub mod Demands
 pub mod ProverForms

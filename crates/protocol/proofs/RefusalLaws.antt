@@ -1,7 +1,9 @@
--- What it means that nothing is refused: every row, and every test of a row, passes, and the call has its result. Assumes nothing.
+-- What it means that nothing is refused: every row, and every test of a row, passes, and the call has its result. And what a refusal says
+-- of the rows before it: they pass. Assumes nothing.
 use mathlib.Core.Path.{_≡_, refl, ap₂}
+use mathlib.Core.Logic.{_≢_}
 use mathlib.Core.Bool.{Bool, true, false, _&&_}
-use mathlib.Core.List.{List, [], _∷_, map}
+use mathlib.Core.List.{List, [], _∷_, _++_, map, tail}
 use mathlib.Core.Option.{Option, none, some}
 use Prim.Native.Nat.{ℕ, suc, _<_, _≤_}
 use lib.Dec.{leb, ltb}
@@ -9,7 +11,10 @@ use native.Mathlib.Omega.{arith}
 use borrow.Author.Tests.{ltb-true, lt-ltb, le-leb}
 use Rattle.algebra.specs.Counting.{All}
 use Rattle.field.specs.Prime.{Prime}
-use Rattle.protocol.specs.Refusals.{Refusal, Done, judged, first, refuse, pairs, beginsWithOne, wordRefusal, constantRefusal, lengthRefusal}
+use Rattle.protocol.specs.Circuit.{Circuit}
+use Rattle.protocol.specs.Refusals.{Refusal, Done, Refused, judged, first, refuse, pairs, beginsWithOne, sizeTests, entryTests}
+use Rattle.protocol.specs.Refusals.{sizeRefusal, listRefusal, wordRefusal, entryRefusal, constantRefusal, lengthRefusal}
+use Rattle.protocol.specs.Admission.{entryValues, circuitRefusals}
 use Rattle.protocol.specs.Session.{all}
 
 some-not-none : {T : Type 0} {x : T} → some x ≡ none → ⊥
@@ -94,3 +99,36 @@ none-lengthRefusal declared table h = none-refuse 11 0 (pairs leb declared table
 pub judged-done : {T : Type 0} (o : Option Refusal) (w : T) {v : T} → judged o w ≡ Done v → (o ≡ none) × (w ≡ v)
 judged-done none w {v} e = (refl, cc)
 judged-done (some r) w {v} e = let z : _≡_ {A = ℕ} 0 1 = cc in absurd (omega arith)
+
+-- a call that is refused has that refusal
+pub judged-refused : {T : Type 0} (o : Option Refusal) (w : T) {f : Refusal} → judged o w ≡ Refused f → o ≡ some f
+judged-refused none w {f} e = let z : _≡_ {A = ℕ} 0 1 = cc in absurd (omega arith)
+judged-refused (some r) w {f} e = cc
+
+-- where the first refusal has another number than a row, that row passes, and the refusal is the first of the rows after it
+pub past :
+    (number n : ℕ) (tests : List Bool) (rows : List (Option Refusal)) (f : Refusal) → first (refuse number n tests ∷ rows) ≡ some f
+    → f .number ≢ number → All (λ t. t ≡ true) tests × (first rows ≡ some f)
+past number n [] rows f e other = (tt, e)
+past number n (true ∷ tests) rows f e other = let (passes, rest) = past number (suc n) tests rows f e other in ((refl, passes), rest)
+past number n (false ∷ tests) rows f e other = absurd (other cc)
+
+-- the same for 4 to 7, the rows of a circuit
+pub past-circuit :
+    (q : Prime) (c : Circuit) (lists : List Bool) (ws : List ℕ) (rows : List (Option Refusal)) (f : Refusal)
+    → first (circuitRefusals q c lists ws ++ rows) ≡ some f → 7 < f .number
+    → (first (circuitRefusals q c lists ws) ≡ none) × (first rows ≡ some f)
+unfolding circuitRefusals sizeRefusal listRefusal wordRefusal entryRefusal
+past-circuit q c lists ws rows f refusal later =
+    let sizes : List Bool = sizeTests (c .|R|) (c .|C|) (c .|X|) [] in
+    let words : List Bool = map (λ w. ltb w (q .p)) (entryValues c ++ ws) in
+    let entries : List Bool = entryTests c (c .matrices .a) ++ (entryTests c (c .matrices .b) ++ entryTests c (c .matrices .c)) in
+    let table : List (Option Refusal) = circuitRefusals q c lists ws ++ rows in
+    let (size, from5) = past 4 0 sizes (tail table) f refusal (λ e. omega arith) in
+    let (list, from6) = past 5 0 lists (tail (tail table)) f from5 (λ e. omega arith) in
+    let (word, from7) = past 6 0 words (tail (tail (tail table))) f from6 (λ e. omega arith) in
+    let (entry, rest) = past 7 0 entries rows f from7 (λ e. omega arith) in
+    let free : first (circuitRefusals q c lists ws) ≡ none =
+    none-first (circuitRefusals q c lists ws)
+    (none-refuse 4 0 sizes size, (none-refuse 5 0 lists list, (none-refuse 6 0 words word, (none-refuse 7 0 entries entry, tt)))) in
+    (free, rest)

@@ -16,10 +16,10 @@ use Rattle.algebra.proofs.PolynomialLaws.{getD-tabulate}
 use Rattle.domain.specs.Size.{maxSize}
 use Rattle.protocol.specs.Three.{MatrixName, A, B, C, at}
 use Rattle.protocol.specs.Circuit.{Entry, Circuit}
-use Rattle.protocol.specs.Calls.{circuitOf}
-use Rattle.protocol.specs.Grown.{wordsOfEntries, rowEntries, storedMatrix, stored, totalPlace, countsPlace, entriesPlace, inserted, removed, total, rowStart, columnAt, entryWordsIn, grownLists, grownCircuit}
+use Rattle.protocol.specs.Calls.{wordsOfEntries, circuitOf}
+use Rattle.protocol.specs.Grown.{rowEntries, storedMatrix, stored, totalPlace, countsPlace, entriesPlace, inserted, removed, total, rowStart, columnAt, entryWordsIn, grownLists, grownCircuit}
 use Rattle.protocol.specs.Growing.{number, changed, handedOver}
-use Rattle.protocol.proofs.EntryWords.{length-words, words-append, entries-back, column-word, counts, zeros, length-counts, matrix-then, length-stored-matrix, inserted-between, removed-between, one-more, own-row, other-row, three-zeros}
+use Rattle.protocol.proofs.EntryWords.{length-words, words-append, circuit-back, column-word, counts, zeros, length-counts, matrix-then, length-stored-matrix, inserted-between, removed-between, one-more, own-row, other-row, three-zeros}
 
 -- the words before a matrix and after it, whatever stands in it
 unfoldable pub head : Circuit → MatrixName → List ℕ
@@ -232,12 +232,4 @@ module _ (k : Circuit) (few : (M : MatrixName) → length (at (k .matrices) M) �
       }
 
   pub circuit-stored : grownCircuit (stored k) ≡ k
-  unfolding circuitOf
-  circuit-stored = ap circuitOf lists-stored ∙ (λ i.
-      record {
-        |R| = k .|R|;
-        |C| = k .|C|;
-        |X| = k .|X|;
-        matrices =
-            record { a = entries-back (k .matrices .a) i; b = entries-back (k .matrices .b) i; c = entries-back (k .matrices .c) i };
-      })
+  circuit-stored = ap circuitOf lists-stored ∙ circuit-back k

@@ -16,7 +16,8 @@ use Rattle.domain.specs.Size.{maxSize}
 use Rattle.domain.proofs.SizeLaws.{size-bound}
 use Rattle.protocol.specs.Three.{MatrixName, at}
 use Rattle.protocol.specs.Circuit.{Entry, Circuit}
-use Rattle.protocol.specs.Grown.{wordsOfEntries, rowEntries, stored, entriesPlace, firstNotBelow, rowStart, rowLength, columnAt, placeOf, occupied, withEntry, withoutEntry}
+use Rattle.protocol.specs.Calls.{wordsOfEntries}
+use Rattle.protocol.specs.Grown.{rowEntries, stored, entriesPlace, firstNotBelow, rowStart, rowLength, columnAt, placeOf, occupied, withEntry, withoutEntry}
 use Rattle.protocol.specs.Growing.{number, changed, standsAt, entriesWith, entriesWithout}
 use Rattle.protocol.proofs.AdmissionLaws.{WellFormed}
 use Rattle.protocol.proofs.EntryOrder.{lower, upper, split-at-place, stands-true, taken-splits}

@@ -39,6 +39,10 @@ entriesOf (i ∷ []) = []
 entriesOf (i ∷ (k ∷ [])) = []
 entriesOf (i ∷ (k ∷ (v ∷ l))) = record { row = i; column = k; value = v } ∷ entriesOf l
 
+unfoldable pub wordsOfEntries : List Entry → List ℕ
+wordsOfEntries [] = []
+wordsOfEntries (e ∷ es) = e .row ∷ e .column ∷ e .value ∷ wordsOfEntries es
+
 unfoldable pub circuitOf : CircuitWords → Circuit
 circuitOf c = record { |R| = c .|R|; |C| = c .|C|; |X| = c .|X|; matrices = mapThree entriesOf (c .matrices) }
 

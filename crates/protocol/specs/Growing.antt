@@ -14,8 +14,8 @@ use Rattle.protocol.specs.Circuit.{Entry, Circuit}
 use Rattle.protocol.specs.Index.{Index}
 use Rattle.protocol.specs.Refusals.{Outcome, Done, Refused, mapOutcome, judged, first, refuse, listRefusal, wordRefusal, rises, fits}
 use Rattle.protocol.specs.Admission.{Admitted}
-use Rattle.protocol.specs.Calls.{CircuitWords, indexCall}
-use Rattle.protocol.specs.Grown.{wordsOfEntries, rowEntries, stored, totalPlace, countsPlace, grownCircuit, beginCall, beginFromCall, addEntryCall, removeEntryCall, findRowCall, rowCall, grownIndexCall}
+use Rattle.protocol.specs.Calls.{CircuitWords, wordsOfEntries, indexCall}
+use Rattle.protocol.specs.Grown.{rowEntries, stored, totalPlace, countsPlace, grownCircuit, beginCall, beginFromCall, addEntryCall, removeEntryCall, findRowCall, rowCall, grownIndexCall}
 
 -- the number by which calls name a matrix
 abbrev pub number : MatrixName → ℕ

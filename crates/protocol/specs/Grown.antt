@@ -16,12 +16,7 @@ use Rattle.protocol.specs.Circuit.{Entry, Circuit}
 use Rattle.protocol.specs.Index.{Index}
 use Rattle.protocol.specs.Refusals.{Refusal, Outcome, Done, Refused, judged, first, refuse, sizeTests, sizeRefusal, listRefusal, wordRefusal, fits}
 use Rattle.protocol.specs.Admission.{circuitRefusals}
-use Rattle.protocol.specs.Calls.{CircuitWords, circuitOf, entryListTests, indexCall}
-
--- the words of entries, as a call has them: row, column, value
-unfoldable pub wordsOfEntries : List Entry → List ℕ
-wordsOfEntries [] = []
-wordsOfEntries (e ∷ es) = e .row ∷ e .column ∷ e .value ∷ wordsOfEntries es
+use Rattle.protocol.specs.Calls.{CircuitWords, wordsOfEntries, circuitOf, entryListTests, indexCall}
 
 -- the entries of row i, in order
 abbrev pub rowEntries : ℕ → List Entry → List Entry

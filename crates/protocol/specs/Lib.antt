@@ -19,3 +19,5 @@ pub mod Divisors
 pub mod ConstantColumn
 pub mod Grown
 pub mod Growing
+pub mod Blinded
+pub mod Blinding

@@ -3,6 +3,7 @@
 // sets the position; a refusal changes no other memory, but for the verdict, which a refused last step sets to 0, none. A slice is a
 // pointer and a length, an array and a number a pointer.
 pub mod arithmetic;
+pub mod blinder;
 pub mod circuits;
 pub mod indexer;
 pub mod polynomials;

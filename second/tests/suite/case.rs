@@ -134,6 +134,17 @@ impl Case {
         lend([a, a, a, a, b, b, b, b, c, c, c, c], call).map(|(polynomials, ())| polynomials)
     }
 
+    /// The case with the blinded circuit and the blinded assignment.
+    pub fn blinded(&self, rho: [u32; 3]) -> Result<Case, Refusal> {
+        let [a, b, c] = self.lists().map(|list| list.len() + 3);
+        let columns = if self.sizes[1] <= 1024 { self.sizes[1] as usize } else { 0 };
+        let call = |[a, b, c, z]: [&mut [u32]; 4]| {
+            second::blind(self.sizes, self.lists(), &self.assignment, rho, [a, b, c], z)
+        };
+        let ([a, b, c, assignment], ()) = lend([a, b, c, columns], call)?;
+        Ok(Case { entries: [a, b, c], assignment, ..self.clone() })
+    }
+
     pub fn proof(&self) -> Result<Proof, Refusal> {
         let [w, h0] = self.first_round()?;
         let s = self.second_round()?.to_vec();

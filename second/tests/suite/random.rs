@@ -161,9 +161,14 @@ impl Random {
 
     fn case_of(&mut self, sizes: [u32; 3], a: Vec<u32>, b: Vec<u32>, assignment: Vec<u32>) -> Case {
         let c = self.closing_matrix(sizes[0], &a, &b, &assignment);
-        let mut case = Case {
+        self.with_challenges(sizes, [a, b, c], assignment)
+    }
+
+    /// A case of this circuit and assignment, with random masks and allowed challenges.
+    pub fn with_challenges(&mut self, sizes: [u32; 3], entries: [Vec<u32>; 3], assignment: Vec<u32>) -> Case {
+        let case = Case {
             sizes,
-            entries: [a, b, c],
+            entries,
             assignment,
             mask_word: self.word(),
             mask: self.mask(sizes[1] as usize),
@@ -173,8 +178,12 @@ impl Random {
             delta: self.three(),
             gamma: 0,
         };
-        case.gamma = self.outside(case.largest_places());
-        case
+        self.with_gamma(case)
+    }
+
+    /// The case with another γ, outside its K.
+    pub fn with_gamma(&mut self, case: Case) -> Case {
+        Case { gamma: self.outside(case.largest_places()), ..case }
     }
 
     /// Three sizes, each up to 2^most, the third at most the second.

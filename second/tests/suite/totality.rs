@@ -65,7 +65,7 @@ fn check<Answer>(answer: Result<Answer, Refusal>, lent: &[&[u32]]) {
     assert!(if answer.is_err() { !touched } else { touched || long });
 }
 
-/// All prover calls and the indexer, with lent slices of their own lengths.
+/// All prover calls, the indexer and the blinding, with lent slices of their own lengths.
 fn call_all(random: &mut Random, case: &Case) {
     let (s, l, z, r, m) = (case.sizes, case.lists(), &case.assignment[..], case.mask_word, &case.mask[..]);
     let (alpha, eta, beta, delta) = (case.alpha, case.eta, case.beta, case.delta);
@@ -83,6 +83,9 @@ fn call_all(random: &mut Random, case: &Case) {
     let mut index: [Vec<u32>; 12] = std::array::from_fn(|place| lent(random, case.places()[place / 4] as usize));
     let answer = second::index(s, l, index.each_mut().map(Vec::as_mut_slice));
     check(answer, &index.each_ref().map(Vec::as_slice));
+    let mut blinded = [l[0].len() + 3, l[1].len() + 3, l[2].len() + 3, z.len()].map(|length| lent(random, length));
+    let [a, b, c, blinded_z] = blinded.each_mut().map(Vec::as_mut_slice);
+    check(second::blind(s, l, z, eta, [a, b, c], blinded_z), &blinded.each_ref().map(Vec::as_slice));
 }
 
 #[test]
