@@ -77,7 +77,7 @@
  * target. It uses the base instruction set with SSE2 registers and the red zone below the stack pointer, is position independent, and has
  * no variables: calls that write separate memory may run at the same time. It calls memcpy and memset and nothing else: no heap, no files,
  * no system calls. The stack is measured, not proved: tests/c/stack.c runs every call on more than single words at the largest sizes.
- * varuna_openings took the most, 62,480 bytes, then varuna_third_round, 50,072; a step of the session took at most 4,696.
+ * varuna_openings took the most, 62,480 bytes, then varuna_third_round, 50,056; a step of the session took at most 4,696.
  */
 #ifndef VARUNA_H
 #define VARUNA_H
@@ -92,9 +92,9 @@ extern "C" {
 /* The version of what this file declares. The first number rises when a program that used the calls as described here has to change, the
  * second when calls or constants are added, the third when only text, speed or stack change. The archive belongs to the file it came with
  * and holds no version of its own. */
-#define VARUNA_VERSION "3.2.0"
+#define VARUNA_VERSION "3.3.0"
 #define VARUNA_VERSION_MAJOR 3
-#define VARUNA_VERSION_MINOR 2
+#define VARUNA_VERSION_MINOR 3
 #define VARUNA_VERSION_PATCH 0
 
 /* p, the number of elements of the field. */
@@ -107,7 +107,7 @@ extern "C" {
 #define VARUNA_ENTRY_WORDS 3
 #define VARUNA_MAX_ENTRY_LIST 3072
 
-/* The most words that varuna_evaluate takes. */
+/* The most words that varuna_evaluate takes, and varuna_evaluate_part in one part. */
 #define VARUNA_MAX_COEFFICIENTS 2048
 
 /* The words of a circuit that grows; what they mean is said above its calls. The matrices by number, and the places among the circuit's
@@ -198,6 +198,15 @@ uint32_t varuna_list_domain(uint32_t n, uint32_t *elements, size_t elements_leng
 /* *result = the value at the point of the polynomial with these coefficients (list 0, 0 to 2,048 words). Refusals 5, 6: the coefficients,
  * then the point. */
 uint32_t varuna_evaluate(const uint32_t *coefficients, size_t coefficients_length, uint32_t point, uint32_t *result, size_t *position);
+
+/* Evaluation taken up midway, with the next part of a list of coefficients (list 0, 0 to 2,048 words): *next_sum = sum + power * the
+ * part's value at the point, and *next_power = power * the point once for each word of the part. Begun with sum 0 and power 1, and given
+ * the parts of a list in order, each with what the one before it gave, it ends at the value of the whole list and at the point to the
+ * power of its length, however the list is cut, empty parts included; so a list may have more than 2,048 words in all. sum and power are
+ * passed by value: next_sum and next_power may point to the variables that hold them. Refusals 5, 6: sum 0, power 1, point 2, then the
+ * part from 3 on; a refusal changes neither result. */
+uint32_t varuna_evaluate_part(uint32_t sum, uint32_t power, uint32_t point, const uint32_t *part, size_t part_length, uint32_t *next_sum,
+                              uint32_t *next_power, size_t *position);
 
 /* Fills coefficients (list 1, n words) with the polynomial that has these values (list 0, n words) on the domain of size n, in order.
  * Refusals 4, 5, 6. */

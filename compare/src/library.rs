@@ -30,6 +30,16 @@ extern "C" {
         result: *mut u32,
         position: *mut usize,
     ) -> u32;
+    fn varuna_evaluate_part(
+        sum: u32,
+        power: u32,
+        point: u32,
+        part: *const u32,
+        part_length: usize,
+        next_sum: *mut u32,
+        next_power: *mut u32,
+        position: *mut usize,
+    ) -> u32;
     fn varuna_interpolate(
         n: u32,
         values: *const u32,
@@ -448,6 +458,16 @@ pub fn evaluate(coefficients: &[u32], point: u32) -> Result<u32, Refusal> {
     let (place, length) = (coefficients.as_ptr(), coefficients.len());
     // SAFETY: place and length are those of the slice, the others those of the result and of the position.
     result(|word, position| unsafe { varuna_evaluate(place, length, point, word, position) })
+}
+
+/// The next sum and the next power.
+pub fn evaluate_part(sum: u32, power: u32, point: u32, part: &[u32]) -> Result<(u32, u32), Refusal> {
+    let (place, length) = (part.as_ptr(), part.len());
+    // SAFETY: place and length are those of the slice, the others those of the two results and of the position.
+    let answer = results(|words, position| unsafe {
+        varuna_evaluate_part(sum, power, point, place, length, words, words.add(1), position)
+    });
+    answer.map(|[next_sum, next_power]| (next_sum, next_power))
 }
 
 pub fn interpolate(size: u32, values: &[u32], lent_coefficients: &mut [u32]) -> Result<(), Refusal> {

@@ -5,7 +5,7 @@ use crate::domain::Domain;
 use crate::field::{self, Element};
 use crate::refusal::{self, Refusal};
 
-/// The most words that the call `evaluate` takes.
+/// The most words that the call `evaluate` takes, and `evaluate_part` in one part.
 const EVALUATE_LIMIT: usize = 2048;
 
 pub(crate) type Polynomial = Vec<Element>;
@@ -96,6 +96,18 @@ pub fn evaluate(coefficients: &[u32], point: u32) -> Result<u32, Refusal> {
     refusal::words(coefficients.iter().copied().chain([point]))?;
     let polynomial = field::elements(coefficients);
     Ok(value_at(&polynomial, Element::new(point)).word())
+}
+
+/// Evaluation taken up midway (document 02, request 5): the next sum and the next power. No power is carried
+/// along: each coefficient is multiplied by the power of the point that belongs to its place.
+pub fn evaluate_part(sum: u32, power: u32, point: u32, part: &[u32]) -> Result<(u32, u32), Refusal> {
+    refusal::lists(&[part.len() <= EVALUATE_LIMIT])?;
+    refusal::words([sum, power, point].into_iter().chain(part.iter().copied()))?;
+    let [sum, power, point] = [sum, power, point].map(Element::new);
+    let terms = (0..).zip(part).map(|(place, &word)| Element::new(word) * point.power(place));
+    let value: Element = terms.sum();
+    let next_power = power * point.power(part.len() as u32);
+    Ok(((sum + power * value).word(), next_power.word()))
 }
 
 pub fn interpolate(size: u32, values: &[u32], lent_coefficients: &mut [u32]) -> Result<(), Refusal> {

@@ -157,6 +157,82 @@ static void test_evaluate(void)
     test("evaluate", is_done(number, position) && result == 19);
 }
 
+static int gives_part(uint32_t sum, uint32_t power, uint32_t point, const uint32_t *part, size_t part_length, uint32_t expected_sum,
+                      uint32_t expected_power)
+{
+    uint32_t next_sum = 77, next_power = 78;
+    size_t position = NOWHERE;
+    uint32_t number = varuna_evaluate_part(sum, power, point, part, part_length, &next_sum, &next_power, &position);
+    return is_done(number, position) && next_sum == expected_sum && next_power == expected_power;
+}
+
+static int refuses_part(uint32_t sum, uint32_t power, uint32_t point, const uint32_t *part, size_t part_length, uint32_t expected_number,
+                        size_t expected_position)
+{
+    uint32_t next_sum = 77, next_power = 78;
+    size_t position = NOWHERE;
+    uint32_t number = varuna_evaluate_part(sum, power, point, part, part_length, &next_sum, &next_power, &position);
+    return is_refused(number, position, expected_number, expected_position) && next_sum == 77 && next_power == 78;
+}
+
+/* The digits of 54,203, the lowest first. */
+static const uint32_t digits[5] = {3, 0, 2, 4, 5};
+
+static void test_evaluate_part(void)
+{
+    static uint32_t long_list[VARUNA_MAX_COEFFICIENTS + 1];
+    const uint32_t wrong[2] = {1, P};
+    for (size_t i = 0; i < COUNT(long_list); i++)
+        long_list[i] = 1;
+    test("evaluate_part", gives_part(0, 1, 10, digits, 3, 203, 1000) && gives_part(203, 1000, 10, digits + 3, 2, 54203, 100000));
+    test("evaluate_part of an empty part", gives_part(5, 9, 10, none, 0, 5, 9) && gives_part(5, 9, 0, none, 0, 5, 9));
+    test("evaluate_part at 0 and at p-1", gives_part(2, 5, 0, digits, 2, 17, 0) && gives_part(0, 1, P - 1, digits, 5, 6, P - 1));
+    test("evaluate_part of 2048 words", gives_part(1, 2, 1, long_list, VARUNA_MAX_COEFFICIENTS, 4097, 2));
+    test("evaluate_part refuses 2049 words", refuses_part(0, 1, 1, long_list, COUNT(long_list), VARUNA_REFUSED_LENGTH, 0) &&
+                                                 refuses_part(P, P, P, long_list, COUNT(long_list), VARUNA_REFUSED_LENGTH, 0));
+    test("evaluate_part refuses a sum", refuses_part(P, P, P, wrong, 2, VARUNA_REFUSED_WORD, 0));
+    test("evaluate_part refuses a power", refuses_part(0, P, P, wrong, 2, VARUNA_REFUSED_WORD, 1));
+    test("evaluate_part refuses a point", refuses_part(0, 1, P, wrong, 2, VARUNA_REFUSED_WORD, 2));
+    test("evaluate_part refuses a coefficient", refuses_part(0, 1, 1, wrong, 2, VARUNA_REFUSED_WORD, 4) &&
+                                                    refuses_part(0, 1, 1, wrong + 1, 1, VARUNA_REFUSED_WORD, 3));
+}
+
+/* A list in three parts, the second of them empty, with a refused one before each: sum and power stand in the same variables before and
+ * after a call. */
+static void test_parts(void)
+{
+    static const size_t starts[4] = {0, 3, 3, 5};
+    static const uint32_t sums[3] = {203, 203, 54203}, powers[3] = {1000, 1000, 100000}, wrong[2] = {4, P};
+    uint32_t sum = 0, power = 1, number, result = 77;
+    size_t position = NOWHERE;
+    int all = 1;
+    for (size_t i = 0; i < 3; i++) {
+        number = varuna_evaluate_part(sum, power, 10, wrong, 2, &sum, &power, &position);
+        all = all && is_refused(number, position, VARUNA_REFUSED_WORD, 4);
+        number = varuna_evaluate_part(sum, power, 10, digits + starts[i], starts[i + 1] - starts[i], &sum, &power, &position);
+        all = all && is_done(number, position) && sum == sums[i] && power == powers[i];
+    }
+    number = varuna_evaluate(digits, 5, 10, &result, &position);
+    test("a list in three parts", all && is_done(number, position) && result == sum);
+}
+
+/* 5,000 ones at 2, which are 2^5000 - 1: more words than a call takes at once. */
+static void test_long_list(void)
+{
+    static uint32_t list[5000];
+    uint32_t sum = 0, power = 1, number, expected = 77;
+    size_t position = NOWHERE;
+    int all = 1;
+    for (size_t i = 0; i < COUNT(list); i++)
+        list[i] = 1;
+    for (size_t start = 0; start < COUNT(list); start += 1000) {
+        number = varuna_evaluate_part(sum, power, 2, list + start, 1000, &sum, &power, &position);
+        all = all && is_done(number, position);
+    }
+    number = varuna_power(2, 5000, &expected, &position);
+    test("a list of 5000 words in parts", all && is_done(number, position) && power == expected && sum == expected - 1);
+}
+
 static void test_interpolate(void)
 {
     const uint32_t values[2] = {9, 3};
@@ -1111,6 +1187,9 @@ int main(void)
     test_words();
     test_domains();
     test_evaluate();
+    test_evaluate_part();
+    test_parts();
+    test_long_list();
     test_interpolate();
     test_jobs();
     test_beginnings();

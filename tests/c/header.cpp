@@ -42,6 +42,16 @@ static int gives_and_refuses()
         && varuna_read_record(bytes, sizeof bytes, sizes, &position) == VARUNA_REFUSED_END && position == 0;
 }
 
+static int evaluates_in_parts()
+{
+    const uint32_t list[5] = {3, 0, 2, 4, 5};
+    uint32_t sum = 0, power = 1;
+    size_t position = 99;
+    return varuna_evaluate_part(sum, power, 10, list, 3, &sum, &power, &position) == VARUNA_DONE && sum == 203 && power == 1000
+        && varuna_evaluate_part(sum, VARUNA_MODULUS, 10, list + 3, 2, &sum, &power, &position) == VARUNA_REFUSED_WORD && position == 1
+        && varuna_evaluate_part(sum, power, 10, list + 3, 2, &sum, &power, &position) == VARUNA_DONE && sum == 54203 && power == 100000;
+}
+
 static int grows()
 {
     static uint32_t circuit[VARUNA_CIRCUIT_WORDS];
@@ -69,6 +79,7 @@ void test_header()
 {
     test("the header's verifier, in C++", accepts());
     test("calls from C++", gives_and_refuses());
+    test("a list in parts from C++", evaluates_in_parts());
     test("a circuit that grows from C++", grows());
     test("blinding from C++", blinds());
 }

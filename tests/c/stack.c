@@ -48,6 +48,12 @@ static void evaluate(void)
     number = varuna_evaluate(m, 2 * N, 3, &value, &position);
 }
 
+static void evaluate_part(void)
+{
+    uint32_t next_sum, next_power;
+    number = varuna_evaluate_part(1, 2, 3, m, 2 * N, &next_sum, &next_power, &position);
+}
+
 static void interpolate(void)
 {
     number = varuna_interpolate(N, z, N, w, N, &position);
@@ -236,6 +242,7 @@ static const struct {
 } calls[] = {
     {"list_domain", list_domain},
     {"evaluate", evaluate},
+    {"evaluate_part", evaluate_part},
     {"interpolate", interpolate},
     {"index", indexing},
     {"circuit_begin", circuit_begin},

@@ -1,7 +1,7 @@
 /*
- * A refused call stops at its first refusal: slices of 2^31 words in memory that may not be read or written are refused by a size or a
- * length, so a call that looked at one of their words would end this program. And the calls on a circuit keep to its words, whatever these
- * are: it stands at the very beginning and at the very end of memory, with such memory before it and after it.
+ * A refused call stops at its first refusal: slices of up to 2^31 words in memory that may not be read or written are refused by a size, a
+ * length or a field word before them, so a call that looked at one of their words would end this program. And the calls on a circuit keep
+ * to its words, whatever these are: it stands at the very beginning and at the very end of memory, with such memory before it and after it.
  */
 #define _DEFAULT_SOURCE /* for MAP_ANONYMOUS and MAP_NORESERVE */
 #include "../../include/varuna.h"
@@ -24,7 +24,7 @@ static void test_calls(uint32_t *huge)
 {
     static const uint32_t allowed[VARUNA_SIZES] = {1, 2, 1, 1, 1, 1}, not_allowed[VARUNA_SIZES] = {3, 2, 1, 1, 1, 1};
     static const uint32_t rho[3] = {VARUNA_MODULUS, VARUNA_MODULUS, VARUNA_MODULUS};
-    uint32_t session[VARUNA_SESSION_WORDS], result;
+    uint32_t session[VARUNA_SESSION_WORDS], result, power;
     size_t position = 99;
     varuna_session_new(session);
     uint32_t number = varuna_session_open(session, not_allowed, huge, WORDS, &position);
@@ -33,6 +33,10 @@ static void test_calls(uint32_t *huge)
     test("opening with too long an x reads none of it", refused(number, position, VARUNA_REFUSED_LENGTH, 0));
     number = varuna_evaluate(huge, WORDS, VARUNA_MODULUS, &result, &position);
     test("evaluating too many words reads none", refused(number, position, VARUNA_REFUSED_LENGTH, 0));
+    number = varuna_evaluate_part(VARUNA_MODULUS, VARUNA_MODULUS, VARUNA_MODULUS, huge, WORDS, &result, &power, &position);
+    test("evaluating too long a part reads none of it", refused(number, position, VARUNA_REFUSED_LENGTH, 0));
+    number = varuna_evaluate_part(0, 1, VARUNA_MODULUS, huge, 4, &result, &power, &position);
+    test("evaluating a part at point p reads none of it", refused(number, position, VARUNA_REFUSED_WORD, 2));
     number = varuna_interpolate(3, huge, WORDS, huge, WORDS, &position);
     test("interpolating on no size reads nothing", refused(number, position, VARUNA_REFUSED_SIZE, 0));
     number = varuna_interpolate(2, huge, 2, huge, WORDS, &position);

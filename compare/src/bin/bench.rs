@@ -2,9 +2,10 @@
 //!
 //!     cargo run --release --bin bench
 //!
-//! Each size n stands for |R| = |C| = n, n entries in each matrix and |X| = n/4. Times are medians in microseconds, of more runs
-//! where a run is short. Every run begins with lent buffers cleared to zero, which is not timed. The ratio is the library's time
-//! over the second implementation's. The exponent e says that from the last size but one to the last the time grew as n^e.
+//! Each size n stands for |R| = |C| = n, n entries in each matrix and |X| = n/4. Evaluated is the mask polynomial, 2n words at β,
+//! whole and in parts of at most 64 words. Times are medians in microseconds, of more runs where a run is short. Every run begins
+//! with lent buffers cleared to zero, which is not timed. The ratio is the library's time over the second implementation's. The
+//! exponent e says that from the last size but one to the last the time grew as n^e.
 
 #![forbid(unsafe_code)]
 
@@ -20,6 +21,8 @@ const SIZES: [u32; 4] = [16, 64, 256, 1024];
 /// The time that the runs of one measurement fill, and the least and most of them.
 const FILLED: Duration = Duration::from_millis(500);
 const RUNS: (usize, usize) = (5, 1001);
+/// The most words of a part in which a list is evaluated.
+const PART: usize = 64;
 
 /// The lent slices of all calls.
 struct Buffers {
@@ -65,7 +68,9 @@ impl Work {
 /// What is timed: its name, and one run of it. A run fails where a call is refused.
 type Task = (&'static str, fn(Side, &Work, &mut Buffers));
 
-const TASKS: [Task; 11] = [
+const TASKS: [Task; 13] = [
+    ("evaluate", evaluate),
+    ("in parts", evaluate_parts),
     ("index", index),
     ("round 1", first_round),
     ("round 2", second_round),
@@ -78,6 +83,23 @@ const TASKS: [Task; 11] = [
     ("write record", write_record),
     ("read record", read_record),
 ];
+
+fn evaluate(side: Side, work: &Work, _: &mut Buffers) {
+    let call = match side {
+        Side::Library => library::evaluate,
+        Side::Second => second::evaluate,
+    };
+    black_box(call(&work.case.mask, work.case.beta()).expect("done"));
+}
+
+fn evaluate_parts(side: Side, work: &Work, _: &mut Buffers) {
+    let call = match side {
+        Side::Library => library::evaluate_part,
+        Side::Second => second::evaluate_part,
+    };
+    let next = |(sum, power), part: &[u32]| call(sum, power, work.case.beta(), part).expect("done");
+    black_box(work.case.mask.chunks(PART).fold((0, 1), next));
+}
 
 fn index(side: Side, work: &Work, buffers: &mut Buffers) {
     calls::index(side, &work.case, buffers.index.each_mut().map(Vec::as_mut_slice)).expect("done");

@@ -20,6 +20,7 @@ mod examples;
 mod forged;
 mod growing;
 mod jobs;
+mod parts;
 mod positions;
 mod program;
 mod records;

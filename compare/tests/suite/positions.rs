@@ -57,7 +57,7 @@ fn words_of_calls() {
     }
 }
 
-/// 6 at coefficients, values and public words.
+/// 6 at coefficients, of a list and of a part of one, at values and at public words.
 #[test]
 fn words_of_lists() {
     let words = Random::new(91).words(2048);
@@ -67,6 +67,8 @@ fn words_of_lists() {
         let refused = Refusal { number: 6, position: place };
         let answers = [library::evaluate(&bad, 1), second::evaluate(&bad, 1)];
         assert_eq!(answers, [Err(refused); 2]);
+        let answers = [library::evaluate_part, second::evaluate_part].map(|call| call(0, 1, 1, &bad));
+        assert_eq!(answers, [Err(Refusal { number: 6, position: 3 + place }); 2]);
         if place < 1024 {
             let answers =
                 [library::interpolate, second::interpolate].map(|call| call(1024, &bad[..1024], &mut [0; 1024]));
@@ -76,6 +78,10 @@ fn words_of_lists() {
     }
     let answers = [library::evaluate(&words, MODULUS), second::evaluate(&words, MODULUS)];
     assert_eq!(answers, [Err(Refusal { number: 6, position: 2048 }); 2]);
+    for (position, [sum, power, point]) in [[MODULUS, 1, 1], [0, MODULUS, 1], [0, 1, MODULUS]].into_iter().enumerate() {
+        let answers = [library::evaluate_part, second::evaluate_part].map(|call| call(sum, power, point, &words));
+        assert_eq!(answers, [Err(Refusal { number: 6, position }); 2]);
+    }
 }
 
 /// 7 at entries of all three matrices, by each of its conditions; those of C are at 1,624 and after.

@@ -4,6 +4,7 @@ pub mod FieldLaws
 pub mod Counting
 pub mod SumLaws
 pub mod PolynomialLaws
+pub mod PartLaws
 pub mod RootBound
 pub mod Division
 pub mod Unity

@@ -2,10 +2,21 @@
 use mathlib.Core.List.{List, [], _∷_}
 use Prim.Native.Nat.{ℕ, zero, suc}
 use lib.ListN.{length, take, drop, replicate}
-use Rattle.algebra.specs.Ring.{CommRing}
+use Rattle.algebra.specs.Ring.{CommRing, pow}
+
+-- an evaluation under way: the sum so far, and the power of the point that the next coefficient is multiplied by
+pub record Running (A : Type 0) : Type 0 where
+  pub sum : A
+  pub power : A
+
+abbrev pub running : {A : Type 0} → A → A → Running A
+running sum power = record { sum = sum; power = power }
+
+abbrev pub mapRunning : {A B : Type 0} → (A → B) → Running A → Running B
+mapRunning f r = running (f (r .sum)) (f (r .power))
 
 module _ {A : Type 0} (R : CommRing A) where
-  open CommRing R using (𝟘, _⊕_, _⊗_)
+  open CommRing R using (𝟘, 𝟙, _⊕_, _⊗_)
 
   infixl 75 _⊕_
   infixl 80 _⊗_
@@ -13,6 +24,20 @@ module _ {A : Type 0} (R : CommRing A) where
   abbrev pub eval : List A → A → A
   eval [] x = 𝟘
   eval (c ∷ f) x = c ⊕ x ⊗ eval f x
+
+  -- evaluation taken up midway, with the next part of a list: "the sum plus power times the part's value, and the power times the
+  -- point once per coefficient" (document 02, request 5)
+  abbrev pub evalPart : Running A → A → List A → Running A
+  evalPart r x part = running (r .sum ⊕ r .power ⊗ eval part x) (r .power ⊗ pow R x (length part))
+
+  -- "begun with 0 and 1"
+  abbrev pub begun : Running A
+  begun = running 𝟘 𝟙
+
+  -- one part after the other
+  abbrev pub evalParts : Running A → A → List (List A) → Running A
+  evalParts r x [] = r
+  evalParts r x (part ∷ parts) = evalParts (evalPart r x part) x parts
 
   -- f + g, as long as the longer of the two
   abbrev pub add : List A → List A → List A

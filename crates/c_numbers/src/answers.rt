@@ -1,12 +1,14 @@
 // The answers of the public calls, handed over in numbers.
 ghost use mathlib.Core.Path.{_≡_};
+ghost use Rattle.algebra.specs.Polynomial.{running};
 ghost use Rattle.shared.specs.Meanings.{verdictMeaning};
 ghost use Rattle.record.specs.Answers.{readingMeaning};
 ghost use Rattle.shared.specs.Answers.{placeMeaning};
-ghost use Rattle.varuna.specs.Answers.{wordMeaning, threeMeaning, filledMeaning, openingsMeaning};
+ghost use Rattle.varuna.specs.Answers.{wordMeaning, evaluatedMeaning, threeMeaning, filledMeaning, openingsMeaning};
 ghost use Rattle.verifier.specs.Session.{steppedMeaning, finishedMeaning};
 ghost use Rattle.c_numbers.specs.Answers.{told, answered, threeListed, sizesListed, stepAnswered, lastAnswered, verdictNumber};
 use varuna::answers::Check;
+use varuna::answers::Evaluated;
 use varuna::answers::Filled;
 use varuna::answers::Openings;
 use varuna::answers::Place;
@@ -31,6 +33,30 @@ pub fn give_word(answer: Word, result: &mut u32, position: &mut usize) -> u32
             0
         }
         Word::Refused(number, at) => {
+            *position = at;
+            number
+        }
+    }
+}
+
+// The next sum and the next power of an evaluation under way.
+pub fn give_evaluated(
+    answer: Evaluated,
+    sum: &mut u32,
+    power: &mut u32,
+    position: &mut usize,
+) -> u32
+    ensures { λ n. ⌜ told n (now (position .exit)) (running (now (sum .exit)) (now (power .exit)))
+        ≡ answered (evaluatedMeaning answer) (running (now (sum .entry)) (now (power .entry))) ⌝ }
+{
+    match answer {
+        Evaluated::Value(r) => {
+            *sum = r.sum;
+            *power = r.power;
+            *position = 0;
+            0
+        }
+        Evaluated::Refused(number, at) => {
             *position = at;
             number
         }

@@ -11,4 +11,5 @@ pub mod Interpolation
 pub mod Lagrange
 pub mod Division
 pub mod Fill
+pub mod RunningWords
 pub mod ExactDivision

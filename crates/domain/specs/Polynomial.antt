@@ -5,6 +5,7 @@ use Prim.Native.Nat.{ℕ, _-_, _*_}
 use lib.ListN.{getD, replicate}
 use Rattle.algebra.specs.Lists.{tabulate}
 use Rattle.algebra.specs.Sum.{sum}
+use Rattle.algebra.specs.Polynomial.{Running}
 use Rattle.algebra.specs.Polynomial as Coefficients
 use Rattle.field.specs.Prime.{Prime}
 use Rattle.field.specs.Element.{Elem, of, 𝟘, 𝟙, _⊗_, neg}
@@ -23,6 +24,16 @@ module _ {q : Prime} where
   -- f(y)
   abbrev pub eval : Poly q → Elem q → Elem q
   eval = Coefficients.eval (primeRing q)
+
+  -- evaluation taken up midway, one part after the other, and what it begins with
+  abbrev pub evalPart : Running (Elem q) → Elem q → Poly q → Running (Elem q)
+  evalPart = Coefficients.evalPart (primeRing q)
+
+  abbrev pub evalParts : Running (Elem q) → Elem q → List (Poly q) → Running (Elem q)
+  evalParts = Coefficients.evalParts (primeRing q)
+
+  abbrev pub begun : Running (Elem q)
+  begun = Coefficients.begun (primeRing q)
 
   abbrev pub constant : Elem q → Poly q
   constant a = a ∷ []

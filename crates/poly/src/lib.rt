@@ -5,24 +5,49 @@ ghost use mathlib.Core.Bool.{true};
 ghost use mathlib.Core.List.{_++_, map, tail};
 ghost use Prim.Native.Nat.{_+_, _-_, _^_, _<_, _≤_};
 ghost use lib.ListN.{length, getD, drop, replicate};
+ghost use Rattle.algebra.specs.Polynomial.{mapRunning};
 ghost use Rattle.field.specs.Prime.{Prime};
-ghost use Rattle.field.specs.Element.{of, 𝟘, words};
+ghost use Rattle.field.specs.Element.{of, 𝟘, wordOf, words};
 ghost use Rattle.domain.specs.Size.{isSize};
 ghost use Rattle.domain.specs.Domain.{root};
-ghost use Rattle.domain.specs.Polynomial.{eval, _⊞_, _·_, _⊠_, quotient, remainder, interpolate as interpolation};
+ghost use Rattle.domain.specs.Polynomial.{eval, evalPart, _⊞_, _·_, _⊠_, quotient, remainder, interpolate as interpolation};
+ghost use Rattle.poly.specs.Meanings.{underWay};
 
-// f(x)
+// An evaluation under way: the sum so far, and the power of the point that the next coefficient is multiplied by.
+pub struct Running {
+    pub sum: u32,
+    pub power: u32,
+}
+
+// Evaluation at x taken up midway, with the next part of a list: each coefficient takes the power as it stands, and the power is then
+// multiplied once by x. The sum and the power are words below p.
+pub fn evaluate_part(p: u32, running: Running, x: u32, part: &[u32]) -> Running
+    requires { ⌜ 0 < p ⌝ }
+    ensures { λ r. ⌜ ((q : Prime) → q .p ≡ p → (running .sum < p) × (running .power < p)
+        → underWay r ≡ mapRunning wordOf (evalPart (mapRunning of (underWay running)) (of {q = q} x) (map of (now (part .entry))))) ⌝ }
+{
+    let mut sum = running.sum;
+    let mut power = running.power;
+    let mut i = 0;
+    while i < part.len() {
+        sum = field::add(p, sum, field::multiply(p, power, part[i]));
+        power = field::multiply(p, power, x);
+        i += 1;
+    }
+    Running {
+        sum: sum,
+        power: power,
+    }
+}
+
+// f(x): evaluation begun with 0 and 1.
 pub fn evaluate(p: u32, f: &[u32], x: u32) -> u32
     requires { ⌜ 0 < p ⌝ }
     ensures { λ r. ⌜ ((q : Prime) → q .p ≡ p → r ≡ (eval (map of (now (f .entry))) (of {q = q} x)) .word) ⌝ }
 {
-    let mut value: u32 = 0;
-    let mut i = f.len();
-    while 0 < i {
-        i -= 1;
-        value = field::add(p, f[i], field::multiply(p, x, value));
-    }
-    value
+    let begun = Running { sum: 0, power: 1 };
+    let end = evaluate_part(p, begun, x, f);
+    end.sum
 }
 
 // The word of s at i, 0 past its end.

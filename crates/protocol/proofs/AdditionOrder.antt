@@ -8,10 +8,10 @@ use native.Mathlib.Omega.{arith}
 use Rattle.field.specs.Prime.{Prime}
 use Rattle.protocol.specs.Three.{MatrixName, A, B, C, Three, at}
 use Rattle.protocol.specs.Circuit.{Entry, Circuit}
-use Rattle.protocol.specs.Refusals.{Outcome, Done, Refused, fits}
+use Rattle.protocol.specs.Refusals.{Outcome, Done, Refused, onwards, fits}
 use Rattle.protocol.specs.Admission.{Admitted}
 use Rattle.protocol.specs.Grown.{stored, addEntryCall}
-use Rattle.protocol.specs.Growing.{replace, changed, entriesWith, onwards, addAll}
+use Rattle.protocol.specs.Growing.{replace, changed, entriesWith, addAll}
 use Rattle.protocol.proofs.AdmissionLaws.{Rising, admitted-well-formed}
 use Rattle.protocol.proofs.EntryOrder.{length-with, with-with}
 use Rattle.protocol.proofs.GrownCalls.{Addable, circuitWith, addition-admitted, adds-entry, added}

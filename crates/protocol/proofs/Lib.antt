@@ -50,5 +50,6 @@ pub mod BlindedJobs
 pub mod BlindedSums
 pub mod BlindCalls
 pub mod Blinding
+pub mod EvaluationInParts
 pub mod Demands
 pub mod ProverForms

@@ -7,12 +7,13 @@ use mathlib.Core.Option.{Option, Option·map}
 use Prim.Native.Nat.{ℕ, _+_, _*_, _%_}
 use lib.Dec.{eqb, leb, ltb}
 use lib.ListN.{length, getD}
+use Rattle.algebra.specs.Polynomial.{Running, mapRunning}
 use Rattle.field.specs.Prime.{Prime}
 use Rattle.field.specs.Element.{Elem, of, wordOf, words, _⊕_, _⊗_, _⊖_}
 use Rattle.field.specs.Power.{power, inverse}
 use Rattle.domain.specs.Size.{maxSize, isSize}
 use Rattle.domain.specs.Domain.{domain}
-use Rattle.domain.specs.Polynomial.{Poly, eval, interpolate}
+use Rattle.domain.specs.Polynomial.{Poly, eval, evalPart, interpolate}
 use Rattle.protocol.specs.Three.{MatrixName, Three, at, each, listed, mapThree}
 use Rattle.protocol.specs.Circuit.{Entry, Circuit, Sizes, sizesOf, publicPart}
 use Rattle.protocol.specs.Index.{Index, mapIndex, index}
@@ -83,10 +84,20 @@ module _ (q : Prime) where
   unfoldable pub domainCall : ℕ → ℕ → Outcome (List ℕ)
   domainCall n lent = judged (first (sizeRefusal (isSize n ∷ []) ∷ listRefusal (eqb lent n ∷ []) ∷ [])) (words (domain {q = q} n))
 
+  -- the refusal of n coefficients to evaluate, where these are the field words
+  abbrev pub evaluationRefusal : ℕ → List ℕ → Option Refusal
+  evaluationRefusal n ws = first (listRefusal (leb n maxWords ∷ []) ∷ wordRefusal q ws ∷ [])
+
   -- a polynomial's value
   unfoldable pub evaluateCall : List ℕ → ℕ → Outcome ℕ
-  evaluateCall f y =
-      judged (first (listRefusal (leb (length f) maxWords ∷ []) ∷ wordRefusal q (f ++ (y ∷ [])) ∷ [])) (eval {q = q} (map of f) (of y) .word)
+  evaluateCall f y = judged (evaluationRefusal (length f) (f ++ (y ∷ []))) (eval {q = q} (map of f) (of y) .word)
+
+  -- evaluation taken up midway (document 02, request 5): the words in order are sum, power, point, then the part
+  unfoldable pub evaluatePartCall : Running ℕ → ℕ → List ℕ → Outcome (Running ℕ)
+  evaluatePartCall r y part =
+      judged
+      (evaluationRefusal (length part) (r .sum ∷ r .power ∷ y ∷ part))
+      (mapRunning wordOf (evalPart {q = q} (mapRunning of r) (of y) (map of part)))
 
   -- the polynomial with given values on the domain of size n into a lent slice
   unfoldable pub interpolateCall : ℕ → List ℕ → ℕ → Outcome (List ℕ)

@@ -12,7 +12,7 @@ use Rattle.domain.specs.Size.{maxSize}
 use Rattle.protocol.specs.Three.{MatrixName, A, B, C, Three, at, mapThree}
 use Rattle.protocol.specs.Circuit.{Entry, Circuit}
 use Rattle.protocol.specs.Index.{Index}
-use Rattle.protocol.specs.Refusals.{Outcome, Done, Refused, mapOutcome, judged, first, refuse, listRefusal, wordRefusal, rises, fits}
+use Rattle.protocol.specs.Refusals.{Outcome, Done, Refused, mapOutcome, onwards, judged, first, refuse, listRefusal, wordRefusal, rises, fits}
 use Rattle.protocol.specs.Admission.{Admitted}
 use Rattle.protocol.specs.Calls.{CircuitWords, wordsOfEntries, indexCall}
 use Rattle.protocol.specs.Grown.{rowEntries, stored, totalPlace, countsPlace, grownCircuit, beginCall, beginFromCall, addEntryCall, removeEntryCall, findRowCall, rowCall, grownIndexCall}
@@ -97,10 +97,6 @@ afterChanges q w [] = w
 afterChanges q w (c ∷ cs) = afterChanges q (left w (change q w c)) cs
 
 -- additions one after the other, each of them taken: the memory, or the first refusal
-abbrev pub onwards : (List ℕ → Outcome (List ℕ)) → Outcome (List ℕ) → Outcome (List ℕ)
-onwards f (Done w) = f w
-onwards f (Refused r) = Refused r
-
 abbrev pub addAll : Prime → List ℕ → List (ℕ × Entry) → Outcome (List ℕ)
 addAll q w [] = Done w
 addAll q w (first ∷ rest) = onwards (λ next. addAll q next rest) (addEntryCall q w (first .0) (first .1))

@@ -21,3 +21,4 @@ pub mod Grown
 pub mod Growing
 pub mod Blinded
 pub mod Blinding
+pub mod EvaluationInParts

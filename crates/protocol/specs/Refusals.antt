@@ -30,6 +30,11 @@ abbrev pub mapOutcome : {S T : Type 0} → (S → T) → Outcome S → Outcome T
 mapOutcome f (Done result) = Done (f result)
 mapOutcome f (Refused r) = Refused r
 
+-- what comes after a call that is done, from its result; a refusal stays
+abbrev pub onwards : {S T : Type 0} → (S → Outcome T) → Outcome S → Outcome T
+onwards f (Done result) = f result
+onwards f (Refused r) = Refused r
+
 abbrev pub judged : {T : Type 0} → Option Refusal → T → Outcome T
 judged none result = Done result
 judged (some r) result = Refused r

@@ -3,11 +3,12 @@ use mathlib.Core.Path.{_≡_, sym, ap, ap₂, _∙_}
 use mathlib.Core.Bool.{Bool, true, false}
 use mathlib.Core.List.{List, [], _∷_, _++_, map}
 use mathlib.Core.Option.{Option, none}
-use Prim.Native.Nat.{ℕ, _+_, _≤_}
-use native.Mathlib.Omega.{arith}
+use Prim.Native.Nat.{ℕ, _+_, _<_, _≤_}
+use native.Mathlib.Nat.{zero-add}
 use lib.Dec.{eqb, leb, ltb}
 use lib.ListN.{length}
 use borrow.Author.Tests.{le-leb, eq-eqb, eqb-true}
+use Rattle.algebra.specs.Counting.{All}
 use Rattle.algebra.specs.Lists.{tabulate}
 use Rattle.algebra.specs.Ring.{pow}
 use Rattle.field.specs.Prime.{Prime}
@@ -19,8 +20,8 @@ use Rattle.domain.specs.Domain.{root, element, domain}
 use Rattle.shared.specs.declared.Fault.{Fault}
 use Rattle.shared.specs.Meanings.{faultRefusal, isFine}
 use Rattle.protocol.specs.Refusals.{Refusal, first, refuse, sizeRefusal, listRefusal, wordRefusal}
-use Rattle.protocol.specs.Calls.{maxWords}
-use Rattle.protocol.proofs.RefusalLaws.{first-none, refuse-none}
+use Rattle.protocol.specs.Calls.{maxWords, evaluationRefusal}
+use Rattle.protocol.proofs.RefusalLaws.{first-none, refuse-none, wordRefusal-none}
 use Rattle.protocol.proofs.Rows.{first-only, refuse-map-append}
 use Rattle.shared.proofs.EarlyReturns.{stops, goes-on, last-answer}
 
@@ -34,27 +35,29 @@ module _ (q : Prime) where
   abbrev pub below : ℕ → Bool
   below w = ltb w (q .p)
 
-  module _ (f : List ℕ) (y : ℕ) (few : length f ≤ maxWords) (r : Fault) (e : faultRefusal r ≡ refuse 6 0 (map below f)) where
-    parts : first (refuse 6 0 (map below f) ∷ refuse 6 (0 + length f) (map below (y ∷ [])) ∷ [])
-        ≡ first (listRefusal (leb (length f) maxWords ∷ []) ∷ wordRefusal q (f ++ (y ∷ [])) ∷ [])
+  -- 5 for n coefficients, then 6 for the words in two scans; r is the answer of the first one
+  module _ (n : ℕ) (front back : List ℕ) (few : n ≤ maxWords) (r : Fault) (e : faultRefusal r ≡ refuse 6 0 (map below front)) where
+    scans : first (refuse 6 0 (map below front) ∷ refuse 6 (0 + length front) (map below back) ∷ []) ≡ evaluationRefusal q n (front ++ back)
     unfolding listRefusal wordRefusal
-    parts =
+    scans =
         sym
-        (ap (λ (t : Bool). first (refuse 5 0 (t ∷ []) ∷ wordRefusal q (f ++ (y ∷ [])) ∷ [])) (le-leb (length f) maxWords few)
-        ∙ first-only (wordRefusal q (f ++ (y ∷ []))) ∙ refuse-map-append 6 0 below f (y ∷ []))
+        (ap (λ (t : Bool). first (refuse 5 0 (t ∷ []) ∷ wordRefusal q (front ++ back) ∷ [])) (le-leb n maxWords few)
+        ∙ first-only (wordRefusal q (front ++ back)) ∙ refuse-map-append 6 0 below front back)
 
-    pub evaluation-stops : isFine r ≡ false
-        → faultRefusal r ≡ first (listRefusal (leb (length f) maxWords ∷ []) ∷ wordRefusal q (f ++ (y ∷ [])) ∷ [])
-    evaluation-stops stop = stops r e (refuse 6 (0 + length f) (map below (y ∷ [])) ∷ []) stop ∙ parts
+    pub evaluation-stops : isFine r ≡ false → faultRefusal r ≡ evaluationRefusal q n (front ++ back)
+    evaluation-stops stop = stops r e (refuse 6 (0 + length front) (map below back) ∷ []) stop ∙ scans
 
-    -- then the point decides
-    pub evaluation-goes : isFine r ≡ true → (t : Bool) → ltb y (q .p) ≡ t
-        → refuse 6 (length f) (t ∷ []) ≡ first (listRefusal (leb (length f) maxWords ∷ []) ∷ wordRefusal q (f ++ (y ∷ [])) ∷ [])
-    evaluation-goes fine t known =
-        let n : length f ≡ 0 + length f = omega arith in
-        goes-on r e (refuse 6 (0 + length f) (map below (y ∷ [])) ∷ []) fine
-        (last-answer (ap₂ (λ (k : ℕ) (t : Bool). refuse 6 k (t ∷ [])) n (sym known)))
-        ∙ parts
+    -- then the second scan decides
+    pub evaluation-goes : isFine r ≡ true → {o : Option Refusal} → o ≡ refuse 6 (length front) (map below back) → o ≡ evaluationRefusal q n (front ++ back)
+    evaluation-goes fine {o} answer =
+        goes-on r e (refuse 6 (0 + length front) (map below back) ∷ []) fine
+        (last-answer (answer ∙ ap (λ (k : ℕ). refuse 6 k (map below back)) (sym (zero-add (length front)))))
+        ∙ scans
+
+  -- where nothing is refused every word is a field word
+  pub evaluation-free : (n : ℕ) (ws : List ℕ) → evaluationRefusal q n ws ≡ none → All (λ w. w < q .p) ws
+  evaluation-free n ws e =
+      wordRefusal-none q ws (first-none (listRefusal (leb n maxWords ∷ []) ∷ wordRefusal q ws ∷ []) e .1 .0)
 
 module _ (n values lent : ℕ) (o : Option Refusal) where
   pub interpolation-goes : isSize n ≡ true → values ≡ n → lent ≡ n

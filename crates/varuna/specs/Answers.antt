@@ -2,6 +2,8 @@
 use mathlib.Core.Path.{_≡_, refl}
 use mathlib.Core.List.{List, [], _∷_, _++_}
 use Prim.Native.Nat.{ℕ}
+use Rattle.algebra.specs.Polynomial.{Running}
+use Rattle.poly.specs.Meanings.{underWay}
 use Rattle.shared.specs.declared.Opened.{Opened}
 use Rattle.protocol.specs.Three.{Three}
 use Rattle.protocol.specs.Checks.{listOpenings}
@@ -11,6 +13,8 @@ use Rattle.shared.specs.Meanings as meanings
 use Rattle.openings.specs.OpeningsGiven.{messageList, indexList}
 use Rattle.varuna.specs.declared.answers.Word.{Word}
 use Rattle.varuna.specs.declared.answers.Word.the-variants as word
+use Rattle.varuna.specs.declared.answers.Evaluated.{Evaluated}
+use Rattle.varuna.specs.declared.answers.Evaluated.the-variants as evaluated
 use Rattle.varuna.specs.declared.answers.ThreeWords.{ThreeWords}
 use Rattle.varuna.specs.declared.answers.ThreeWords.the-variants as three-words
 use Rattle.varuna.specs.declared.answers.Filled.{Filled}
@@ -23,6 +27,10 @@ use Rattle.varuna.specs.declared.answers.Openings.the-variants as openin
 abbrev pub wordMeaning : Word → Outcome ℕ
 wordMeaning (word.Value w) = Done w
 wordMeaning (word.Refused number position) = Refused (record { number = number; position = position })
+
+abbrev pub evaluatedMeaning : Evaluated → Outcome (Running ℕ)
+evaluatedMeaning (evaluated.Value r) = Done (underWay r)
+evaluatedMeaning (evaluated.Refused number position) = Refused (record { number = number; position = position })
 
 abbrev pub threeMeaning : ThreeWords → Outcome (Three ℕ)
 threeMeaning (three-words.Value t) = Done (three t)

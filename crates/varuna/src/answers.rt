@@ -3,6 +3,7 @@
 ghost use mathlib.Core.Path.{_≡_};
 ghost use Rattle.varuna.specs.Answers.{indexArrays};
 pub use openings::IndexOpened;
+pub use poly::Running;
 pub use record::Reading;
 pub use shared::Check;
 pub use shared::Opened;
@@ -14,6 +15,12 @@ pub use shared::Verdict;
 // One word.
 pub enum Word {
     Value(u32),
+    Refused(u32, usize),
+}
+
+// An evaluation under way, after one part more.
+pub enum Evaluated {
+    Value(Running),
     Refused(u32, usize),
 }
 

@@ -1,17 +1,20 @@
 // Public calls on domains and polynomials. Refusals 4 for a size, 5 for a length, 6 for a word of p or more.
 ghost use mathlib.Core.Path.{_≡_};
 ghost use mathlib.Core.List.{[], _∷_, _++_};
-ghost use lib.Dec.{eqb, leb};
+ghost use lib.Dec.{eqb};
 ghost use lib.ListN.{length};
 ghost use Rattle.domain.specs.BabyBear.{babyBear};
 ghost use Rattle.domain.specs.Size.{isSize};
+ghost use Rattle.poly.specs.Meanings.{underWay};
 ghost use Rattle.protocol.specs.Refusals.{first, sizeRefusal, listRefusal, wordRefusal};
-ghost use Rattle.protocol.specs.Calls.{maxWords, domainCall, evaluateCall, interpolateCall};
+ghost use Rattle.protocol.specs.Calls.{domainCall, evaluationRefusal, evaluateCall, evaluatePartCall, interpolateCall};
 ghost use Rattle.shared.specs.Meanings.{faultRefusal};
-ghost use Rattle.varuna.specs.Answers.{wordMeaning, filledMeaning, filling, fills};
+ghost use Rattle.varuna.specs.Answers.{wordMeaning, evaluatedMeaning, filledMeaning, filling, fills};
+use crate::answers::Evaluated;
 use crate::answers::Filled;
 use crate::answers::Word;
 use field::MODULE_PRIME;
+use poly::Running;
 use shared::Fault;
 use shared::is_fine;
 use shared::scans::judge_words;
@@ -35,8 +38,7 @@ pub fn list_domain(n: u32, out: &mut [u32]) -> Filled
 
 // 5 for the coefficients, then 6 for a coefficient, then 6 for the point.
 fn judge_evaluation(f: &[u32], y: u32) -> Fault
-    ensures { λ r. ⌜ faultRefusal r
-        ≡ first (listRefusal (leb (length (now (f .entry))) maxWords ∷ []) ∷ wordRefusal babyBear (now (f .entry) ++ (y ∷ [])) ∷ []) ⌝ }
+    ensures { λ r. ⌜ faultRefusal r ≡ evaluationRefusal babyBear (length (now (f .entry))) (now (f .entry) ++ (y ∷ [])) ⌝ }
 {
     if f.len() > MAX_WORDS {
         return Fault::Refused(5, 0);
@@ -60,6 +62,34 @@ pub fn evaluate(f: &[u32], y: u32) -> Word
     match fault {
         Fault::Fine => Word::Value(poly::evaluate(MODULE_PRIME, f, y)),
         Fault::Refused(number, position) => Word::Refused(number, position),
+    }
+}
+
+// 5 for the part, then 6 for the sum, the power and the point, then 6 for a coefficient.
+fn judge_part(running: Running, y: u32, part: &[u32]) -> Fault
+    ensures { λ r. ⌜ faultRefusal r
+        ≡ evaluationRefusal babyBear (length (now (part .entry))) (running .sum ∷ running .power ∷ y ∷ now (part .entry)) ⌝ }
+{
+    if part.len() > MAX_WORDS {
+        return Fault::Refused(5, 0);
+    }
+    let words = [running.sum, running.power, y];
+    let fault = judge_words(MODULE_PRIME, 0, &words);
+    if !is_fine(fault) {
+        return fault;
+    }
+    judge_words(MODULE_PRIME, 3, part)
+}
+
+// Evaluation at y taken up midway, with the next part of a list, from any sum and power: the next sum and the next power. Begun with 0
+// and 1 and given the parts of a list in order, it ends at the list's value. Refusals: 5 over 2,048 words, 6 for a word.
+pub fn evaluate_part(running: Running, y: u32, part: &[u32]) -> Evaluated
+    ensures { λ r. ⌜ evaluatedMeaning r ≡ evaluatePartCall babyBear (underWay running) y (now (part .entry)) ⌝ }
+{
+    let fault = judge_part(running, y, part);
+    match fault {
+        Fault::Fine => Evaluated::Value(poly::evaluate_part(MODULE_PRIME, running, y, part)),
+        Fault::Refused(number, position) => Evaluated::Refused(number, position),
     }
 }
 

@@ -1,11 +1,14 @@
 // Calls on domains and polynomials.
 ghost use mathlib.Core.Path.{_≡_};
 ghost use lib.ListN.{length};
+ghost use Rattle.algebra.specs.Polynomial.{running};
 ghost use Rattle.domain.specs.BabyBear.{babyBear};
-ghost use Rattle.protocol.specs.Calls.{domainCall, evaluateCall, interpolateCall};
+ghost use Rattle.protocol.specs.Calls.{domainCall, evaluateCall, evaluatePartCall, interpolateCall};
 ghost use Rattle.c_numbers.specs.Answers.{told, answered};
+use c_numbers::answers::give_evaluated;
 use c_numbers::answers::give_filled;
 use c_numbers::answers::give_word;
+use varuna::answers::Running;
 
 // The n elements of the domain of size n. Refusals 4, 5.
 #[no_mangle]
@@ -30,6 +33,32 @@ pub extern "C" fn varuna_evaluate(
     give_word(
         varuna::polynomials::evaluate(coefficients, point),
         result,
+        position,
+    )
+}
+
+// Evaluation taken up midway: the next sum and the next power, after the next part of a list. Refusals 5, 6.
+#[no_mangle]
+pub extern "C" fn varuna_evaluate_part(
+    sum: u32,
+    power: u32,
+    point: u32,
+    part: &[u32],
+    nextSum: &mut u32,
+    nextPower: &mut u32,
+    position: &mut usize,
+) -> u32
+    ensures { λ number. ⌜ told number (now (position .exit)) (running (now (nextSum .exit)) (now (nextPower .exit)))
+        ≡ answered (evaluatePartCall babyBear (running sum power) point (now (part .entry))) (running (now (nextSum .entry)) (now (nextPower .entry))) ⌝ }
+{
+    let so_far = Running {
+        sum: sum,
+        power: power,
+    };
+    give_evaluated(
+        varuna::polynomials::evaluate_part(so_far, point, part),
+        nextSum,
+        nextPower,
         position,
     )
 }

@@ -88,6 +88,92 @@ fn evaluate() {
 }
 
 #[test]
+fn evaluate_part() {
+    assert_eq!(second::evaluate_part(0, 1, 10, &[3, 0, 2]), Ok((203, 1000)));
+    assert_eq!(second::evaluate_part(203, 1000, 10, &[4, 5]), Ok((54_203, 100_000)));
+    assert_eq!(second::evaluate_part(5, 9, 7, &[]), Ok((5, 9)));
+    assert_eq!(second::evaluate_part(2, 3, 0, &[]), Ok((2, 3)));
+    assert_eq!(second::evaluate_part(2, 3, 0, &[5, 6]), Ok((17, 0)));
+    assert_eq!(second::evaluate_part(2, 0, 10, &[5, 6]), Ok((2, 0)));
+    assert_eq!(second::evaluate_part(LAST, LAST, LAST, &[LAST; 2]), Ok((LAST, LAST)));
+    assert_eq!(second::evaluate_part(LAST, LAST, LAST, &[LAST; 3]), Ok((0, 1)));
+    assert_eq!(second::evaluate_part(1, 2, 1, &[1; 2047]), Ok((4095, 2)));
+    assert_eq!(second::evaluate_part(1, 2, 1, &[1; 2048]), Ok((4097, 2)));
+}
+
+#[test]
+fn evaluate_part_refusals() {
+    assert_eq!(refusal(second::evaluate_part(0, 1, 1, &[0; 2049])), Some((5, 0)));
+    for word in [LAST + 1, LAST + 2, u32::MAX] {
+        assert_eq!(refusal(second::evaluate_part(word, word, word, &[word; 2049])), Some((5, 0)));
+        assert_eq!(refusal(second::evaluate_part(word, word, word, &[word; 2048])), Some((6, 0)));
+        assert_eq!(refusal(second::evaluate_part(0, word, word, &[word, word])), Some((6, 1)));
+        assert_eq!(refusal(second::evaluate_part(0, 0, word, &[word, word])), Some((6, 2)));
+        assert_eq!(refusal(second::evaluate_part(0, 0, 0, &[word, word])), Some((6, 3)));
+        assert_eq!(refusal(second::evaluate_part(0, 0, 0, &[0, word])), Some((6, 4)));
+        assert_eq!(refusal(second::evaluate_part(0, 0, word, &[])), Some((6, 2)));
+        let mut part = [LAST; 2048];
+        part[2047] = word;
+        assert_eq!(refusal(second::evaluate_part(LAST, LAST, LAST, &part)), Some((6, 2050)));
+    }
+}
+
+/// What the parts of a list end at, one after the other, begun with 0 and 1.
+fn carried<'a>(point: u32, parts: impl IntoIterator<Item = &'a [u32]>) -> (u32, u32) {
+    let next = |(sum, power), part| second::evaluate_part(sum, power, point, part).expect("field words");
+    parts.into_iter().fold((0, 1), next)
+}
+
+/// Every cut into three parts, which may be empty, of the digits of 654,321; and no part at all.
+#[test]
+fn digits_in_parts() {
+    let digits = [1, 2, 3, 4, 5, 6];
+    for last in 0..=digits.len() {
+        for middle in 0..=last {
+            let parts = [&digits[..middle], &digits[middle..last], &digits[last..]];
+            assert_eq!(carried(10, parts), (654_321, 1_000_000), "{parts:?}");
+        }
+    }
+    assert_eq!(carried(10, digits.chunks(1)), (654_321, 1_000_000));
+    assert_eq!(carried(10, []), (0, 1));
+}
+
+/// Lists of more words than a call takes: 1 - 1 + 1 .. over 5,001 words, and any words in parts of any length.
+#[test]
+fn long_lists_in_parts() {
+    assert_eq!(carried(LAST, [1; 5001].chunks(2048)), (1, LAST));
+    let mut random = Random::new(32);
+    let mut checked = Checked::default();
+    for _ in 0..count(20) {
+        let list = random.words(5000);
+        let (point, length) = (random.word(), 1 + random.below(2048) as usize);
+        let value = arithmetic::value_at(&list, u64::from(point));
+        let power = arithmetic::power(u64::from(point), 5000);
+        assert_eq!(carried(point, list.chunks(length)), (value as u32, power as u32), "parts of {length} words");
+        checked.one();
+    }
+}
+
+/// From any sum and power, not those of a list's beginning alone.
+#[test]
+fn parts_taken_up_anywhere() {
+    let mut random = Random::new(33);
+    let mut checked = Checked::default();
+    for _ in 0..count(1000) {
+        let [sum, power, point] = [random.word(), random.word(), random.word()];
+        let length = random.below(20) as usize;
+        let part = random.words(length);
+        let [wide_sum, wide_power, wide_point] = [sum, power, point].map(u64::from);
+        let value = arithmetic::value_at(&part, wide_point);
+        let next_sum = arithmetic::plus(wide_sum, arithmetic::times(wide_power, value));
+        let next_power = arithmetic::times(wide_power, arithmetic::power(wide_point, length as u64));
+        let answer = second::evaluate_part(sum, power, point, &part);
+        assert_eq!(answer, Ok((next_sum as u32, next_power as u32)), "{sum} {power} {point} {part:?}");
+        checked.one();
+    }
+}
+
+#[test]
 fn interpolate_refusals() {
     let mut lent = [5; 2];
     assert_eq!(refusal(second::interpolate(3, &[0; 3], &mut lent)), Some((4, 0)));
@@ -102,7 +188,7 @@ fn interpolate_gives_the_values() {
     let mut random = Random::new(2);
     for place in 0..11 {
         let size = 1 << place;
-        let values: Vec<u32> = (0..size).map(|_| random.word()).collect();
+        let values = random.words(size);
         let mut lent = vec![0; size];
         assert_eq!(second::interpolate(size as u32, &values, &mut lent), Ok(()));
         for (element, value) in arithmetic::elements(size).into_iter().zip(values) {

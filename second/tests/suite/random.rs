@@ -79,7 +79,7 @@ impl Random {
         (1 + self.below(P - 1)) as u32
     }
 
-    fn words(&mut self, count: usize) -> Vec<u32> {
+    pub fn words(&mut self, count: usize) -> Vec<u32> {
         (0..count).map(|_| self.word()).collect()
     }
 
