@@ -77,7 +77,7 @@
  * target. It uses the base instruction set with SSE2 registers and the red zone below the stack pointer, is position independent, and has
  * no variables: calls that write separate memory may run at the same time. It calls memcpy and memset and nothing else: no heap, no files,
  * no system calls. The stack is measured, not proved: tests/c/stack.c runs every call on more than single words at the largest sizes.
- * varuna_openings took the most, 62,480 bytes, then varuna_third_round, 50,056; a step of the session took at most 4,696.
+ * varuna_openings took the most, 70,144 bytes, then varuna_third_round, 54,416; a step of the session took at most 4,696.
  */
 #ifndef VARUNA_H
 #define VARUNA_H
@@ -92,9 +92,9 @@ extern "C" {
 /* The version of what this file declares. The first number rises when a program that used the calls as described here has to change, the
  * second when calls or constants are added, the third when only text, speed or stack change. The archive belongs to the file it came with
  * and holds no version of its own. */
-#define VARUNA_VERSION "3.3.0"
+#define VARUNA_VERSION "3.4.0"
 #define VARUNA_VERSION_MAJOR 3
-#define VARUNA_VERSION_MINOR 3
+#define VARUNA_VERSION_MINOR 4
 #define VARUNA_VERSION_PATCH 0
 
 /* p, the number of elements of the field. */
@@ -208,10 +208,15 @@ uint32_t varuna_evaluate(const uint32_t *coefficients, size_t coefficients_lengt
 uint32_t varuna_evaluate_part(uint32_t sum, uint32_t power, uint32_t point, const uint32_t *part, size_t part_length, uint32_t *next_sum,
                               uint32_t *next_power, size_t *position);
 
-/* Fills coefficients (list 1, n words) with the polynomial that has these values (list 0, n words) on the domain of size n, in order.
- * Refusals 4, 5, 6. */
+/* Fills coefficients (list 1, n words) with the polynomial that has these values (list 0, n words) on the domain of size n, in order. This
+ * call and varuna_evaluate_on_domain undo each other. Refusals 4, 5, 6. */
 uint32_t varuna_interpolate(uint32_t n, const uint32_t *values, size_t values_length, uint32_t *coefficients, size_t coefficients_length,
                             size_t *position);
+
+/* Fills values (list 1, n words) with the values of the polynomial with these coefficients (list 0, n words) on the domain of size n, in
+ * order. This call and varuna_interpolate undo each other. Refusals 4, 5, 6. */
+uint32_t varuna_evaluate_on_domain(uint32_t n, const uint32_t *coefficients, size_t coefficients_length, uint32_t *values,
+                                   size_t values_length, size_t *position);
 
 /* The indexer. */
 

@@ -48,6 +48,14 @@ extern "C" {
         coefficients_length: usize,
         position: *mut usize,
     ) -> u32;
+    fn varuna_evaluate_on_domain(
+        n: u32,
+        coefficients: *const u32,
+        coefficients_length: usize,
+        values: *mut u32,
+        values_length: usize,
+        position: *mut usize,
+    ) -> u32;
     fn varuna_index(
         r: u32,
         c: u32,
@@ -474,6 +482,12 @@ pub fn interpolate(size: u32, values: &[u32], lent_coefficients: &mut [u32]) -> 
     let (place, length) = (lent_coefficients.as_mut_ptr(), lent_coefficients.len());
     // SAFETY: places and lengths are those of the slices.
     answer(|position| unsafe { varuna_interpolate(size, values.as_ptr(), values.len(), place, length, position) })
+}
+
+pub fn evaluate_on_domain(size: u32, coefficients: &[u32], lent_values: &mut [u32]) -> Result<(), Refusal> {
+    let ((coefficients, count), (place, length)) = (given(coefficients), lent(lent_values));
+    // SAFETY: places and lengths are those of the slices.
+    answer(|position| unsafe { varuna_evaluate_on_domain(size, coefficients, count, place, length, position) })
 }
 
 /// A call of the C interface with some inputs, then slices, each as its place and length, then the position.

@@ -35,7 +35,7 @@ pub use growing::{begin, begin_from, GrowingCircuit, CIRCUIT_WORDS};
 pub use index::index;
 pub use job::prove;
 pub use memory::CircuitWords;
-pub use polynomial::{evaluate, evaluate_part, interpolate};
+pub use polynomial::{evaluate, evaluate_on_domain, evaluate_part, interpolate};
 pub use prover::{fifth_round, first_round, fourth_round, openings, second_round, third_round};
 pub use record::{read_record, section, write_record};
 pub use refusal::Refusal;

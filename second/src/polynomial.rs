@@ -1,5 +1,5 @@
-//! Polynomials as coefficient lists, constant first: schoolbook product, Lagrange interpolation, long
-//! division by v_D.
+//! Polynomials as coefficient lists, constant first: schoolbook product, Lagrange interpolation, evaluation
+//! element by element, long division by v_D.
 
 use crate::domain::Domain;
 use crate::field::{self, Element};
@@ -91,6 +91,11 @@ pub(crate) fn interpolation(domain: &Domain, values: &[Element]) -> Polynomial {
     result
 }
 
+/// The values on D in the order of its elements, each by an evaluation of its own.
+fn values_on(domain: &Domain, polynomial: &[Element]) -> Vec<Element> {
+    domain.elements().iter().map(|&element| value_at(polynomial, element)).collect()
+}
+
 pub fn evaluate(coefficients: &[u32], point: u32) -> Result<u32, Refusal> {
     refusal::lists(&[coefficients.len() <= EVALUATE_LIMIT])?;
     refusal::words(coefficients.iter().copied().chain([point]))?;
@@ -117,5 +122,15 @@ pub fn interpolate(size: u32, values: &[u32], lent_coefficients: &mut [u32]) -> 
     refusal::words(values.iter().copied())?;
     let polynomial = interpolation(&Domain::new(size), &field::elements(values));
     field::fill(lent_coefficients, &polynomial);
+    Ok(())
+}
+
+pub fn evaluate_on_domain(size: u32, coefficients: &[u32], lent_values: &mut [u32]) -> Result<(), Refusal> {
+    refusal::sizes(&[size])?;
+    let length = size as usize;
+    refusal::lists(&[coefficients.len() == length, lent_values.len() == length])?;
+    refusal::words(coefficients.iter().copied())?;
+    let values = values_on(&Domain::new(size), &field::elements(coefficients));
+    field::fill(lent_values, &values);
     Ok(())
 }

@@ -253,6 +253,102 @@ static void test_interpolate(void)
     test("interpolate", is_done(number, position) && same(coefficients, expected, 2));
 }
 
+static int refuses_on_domain(uint32_t n, const uint32_t *coefficients, size_t coefficients_length, size_t values_length,
+                             uint32_t expected_number, size_t expected_position)
+{
+    static uint32_t values[VARUNA_MAX_SIZE], kept[VARUNA_MAX_SIZE];
+    size_t position = NOWHERE;
+    for (size_t i = 0; i < VARUNA_MAX_SIZE; i++)
+        values[i] = kept[i] = 77;
+    uint32_t number = varuna_evaluate_on_domain(n, coefficients, coefficients_length, values, values_length, &position);
+    return is_refused(number, position, expected_number, expected_position) && same(values, kept, VARUNA_MAX_SIZE);
+}
+
+/* Each refusal alone, and with those after it in the order. */
+static void test_evaluate_on_domain(void)
+{
+    static uint32_t long_list[VARUNA_MAX_SIZE];
+    const uint32_t coefficients[3] = {6, 3, 0};
+    const uint32_t wrong[3] = {6, P, P};
+    long_list[VARUNA_MAX_SIZE - 1] = P;
+    test("evaluate_on_domain refuses size 2048", refuses_on_domain(2048, coefficients, 2, 2, VARUNA_REFUSED_SIZE, 0));
+    test("evaluate_on_domain refuses sizes 0, 3 and 65538", refuses_on_domain(0, none, 0, 0, VARUNA_REFUSED_SIZE, 0) &&
+                                                                refuses_on_domain(3, wrong, 2, 1, VARUNA_REFUSED_SIZE, 0) &&
+                                                                refuses_on_domain(65538, coefficients, 2, 2, VARUNA_REFUSED_SIZE, 0));
+    test("evaluate_on_domain refuses a list", refuses_on_domain(2, coefficients, 1, 2, VARUNA_REFUSED_LENGTH, 0) &&
+                                                  refuses_on_domain(2, wrong, 3, 3, VARUNA_REFUSED_LENGTH, 0));
+    test("evaluate_on_domain refuses a slice", refuses_on_domain(2, coefficients, 2, 1, VARUNA_REFUSED_LENGTH, 1) &&
+                                                   refuses_on_domain(2, wrong, 2, 3, VARUNA_REFUSED_LENGTH, 1));
+    test("evaluate_on_domain refuses a word", refuses_on_domain(2, wrong, 2, 2, VARUNA_REFUSED_WORD, 1) &&
+                                                  refuses_on_domain(2, wrong + 1, 2, 2, VARUNA_REFUSED_WORD, 0) &&
+                                                  refuses_on_domain(1, wrong + 2, 1, 1, VARUNA_REFUSED_WORD, 0));
+    test("evaluate_on_domain refuses the last of 1024 words",
+         refuses_on_domain(VARUNA_MAX_SIZE, long_list, VARUNA_MAX_SIZE, VARUNA_MAX_SIZE, VARUNA_REFUSED_WORD, VARUNA_MAX_SIZE - 1));
+}
+
+/* Either of the two calls between coefficients and values. */
+typedef uint32_t (*transform)(uint32_t, const uint32_t *, size_t, uint32_t *, size_t, size_t *);
+
+static int gives_words(transform f, uint32_t n, const uint32_t *words, const uint32_t *expected)
+{
+    static uint32_t found[VARUNA_MAX_SIZE + 2];
+    size_t position = NOWHERE;
+    for (size_t i = 0; i < n + 2; i++)
+        found[i] = 77;
+    uint32_t number = f(n, words, n, found + 1, n, &position);
+    return is_done(number, position) && same(found + 1, expected, n) && found[0] == 77 && found[n + 1] == 77;
+}
+
+static int are_transforms(uint32_t n, const uint32_t *coefficients, const uint32_t *values)
+{
+    return gives_words(varuna_evaluate_on_domain, n, coefficients, values) && gives_words(varuna_interpolate, n, values, coefficients);
+}
+
+/* On 1 and -1 the values of 6 + 3Y are 6 + 3 and 6 - 3, those of 1 - Y are 0 and 2. On the domain of size 8 the squares are 1, i, -1, -i
+ * twice, and Y^2 + 2Y^6 is 1 + 2, i - 2i, -1 - 2, -i + 2i, twice. On that of size 1,024 the sum of all powers of Y is 1,024 at 1 and 0
+ * elsewhere, and Y has the elements as its values. */
+static void test_transforms(void)
+{
+    const uint32_t i = 1728404513;
+    const uint32_t seven[1] = {7}, coefficients[2] = {6, 3}, values[2] = {9, 3}, difference[2] = {1, P - 1}, difference_values[2] = {0, 2};
+    const uint32_t even[8] = {0, 0, 1, 0, 0, 0, 2, 0}, even_values[8] = {3, P - i, P - 3, i, 3, P - i, P - 3, i};
+    static uint32_t ones[VARUNA_MAX_SIZE], at_one[VARUNA_MAX_SIZE], y[VARUNA_MAX_SIZE], elements[VARUNA_MAX_SIZE];
+    size_t position = NOWHERE;
+    for (size_t place = 0; place < VARUNA_MAX_SIZE; place++)
+        ones[place] = 1;
+    at_one[0] = VARUNA_MAX_SIZE;
+    y[1] = 1;
+    uint32_t number = varuna_list_domain(VARUNA_MAX_SIZE, elements, VARUNA_MAX_SIZE, &position);
+    test("transforms at size 1", are_transforms(1, seven, seven));
+    test("transforms at size 2", are_transforms(2, coefficients, values) && are_transforms(2, difference, difference_values));
+    test("transforms at size 8", are_transforms(8, even, even_values));
+    test("transforms at size 1024", is_done(number, position) && are_transforms(VARUNA_MAX_SIZE, ones, at_one) &&
+                                        are_transforms(VARUNA_MAX_SIZE, y, elements));
+}
+
+static int comes_back(transform first, transform then, uint32_t n, const uint32_t *words)
+{
+    static uint32_t there[VARUNA_MAX_SIZE];
+    size_t position = NOWHERE;
+    uint32_t number = first(n, words, n, there, n, &position);
+    return is_done(number, position) && gives_words(then, n, there, words);
+}
+
+/* Squares counted down from p - 1 on, there and back in both orders at every size; the words given stay as they were. */
+static void test_round_trips(void)
+{
+    static uint32_t words[VARUNA_MAX_SIZE], kept[VARUNA_MAX_SIZE];
+    int back = 1, forth = 1;
+    for (uint32_t i = 0; i < VARUNA_MAX_SIZE; i++)
+        words[i] = kept[i] = P - 1 - i * i;
+    for (uint32_t n = 1; n <= VARUNA_MAX_SIZE; n *= 2) {
+        back = back && comes_back(varuna_interpolate, varuna_evaluate_on_domain, n, words);
+        forth = forth && comes_back(varuna_evaluate_on_domain, varuna_interpolate, n, words);
+    }
+    test("evaluate_on_domain undoes interpolate at every size", back && same(words, kept, VARUNA_MAX_SIZE));
+    test("interpolate undoes evaluate_on_domain at every size", forth && same(words, kept, VARUNA_MAX_SIZE));
+}
+
 /* The job of the square case; a refusal is tried by one change of it. */
 
 struct job {
@@ -1191,6 +1287,9 @@ int main(void)
     test_parts();
     test_long_list();
     test_interpolate();
+    test_evaluate_on_domain();
+    test_transforms();
+    test_round_trips();
     test_jobs();
     test_beginnings();
     test_growing();

@@ -52,6 +52,16 @@ static int evaluates_in_parts()
         && varuna_evaluate_part(sum, power, 10, list + 3, 2, &sum, &power, &position) == VARUNA_DONE && sum == 54203 && power == 100000;
 }
 
+static int transforms()
+{
+    const uint32_t coefficients[2] = {6, 3};
+    uint32_t values[2] = {77, 78}, back[2] = {77, 78};
+    size_t position = 99;
+    return varuna_evaluate_on_domain(2, coefficients, 2, values, 1, &position) == VARUNA_REFUSED_LENGTH && position == 1 && values[0] == 77
+        && varuna_evaluate_on_domain(2, coefficients, 2, values, 2, &position) == VARUNA_DONE && values[0] == 9 && values[1] == 3
+        && varuna_interpolate(2, values, 2, back, 2, &position) == VARUNA_DONE && back[0] == 6 && back[1] == 3;
+}
+
 static int grows()
 {
     static uint32_t circuit[VARUNA_CIRCUIT_WORDS];
@@ -80,6 +90,7 @@ void test_header()
     test("the header's verifier, in C++", accepts());
     test("calls from C++", gives_and_refuses());
     test("a list in parts from C++", evaluates_in_parts());
+    test("values on a domain and back from C++", transforms());
     test("a circuit that grows from C++", grows());
     test("blinding from C++", blinds());
 }

@@ -59,6 +59,11 @@ static void interpolate(void)
     number = varuna_interpolate(N, z, N, w, N, &position);
 }
 
+static void evaluate_on_domain(void)
+{
+    number = varuna_evaluate_on_domain(N, z, N, w, N, &position);
+}
+
 static void indexing(void)
 {
     uint32_t(*i)[N] = index_polynomials;
@@ -244,6 +249,7 @@ static const struct {
     {"evaluate", evaluate},
     {"evaluate_part", evaluate_part},
     {"interpolate", interpolate},
+    {"evaluate_on_domain", evaluate_on_domain},
     {"index", indexing},
     {"circuit_begin", circuit_begin},
     {"circuit_begin_from with 1,024 entries in each list", circuit_begin_from},

@@ -41,6 +41,12 @@ static void test_calls(uint32_t *huge)
     test("interpolating on no size reads nothing", refused(number, position, VARUNA_REFUSED_SIZE, 0));
     number = varuna_interpolate(2, huge, 2, huge, WORDS, &position);
     test("interpolating into a wrong length reads nothing", refused(number, position, VARUNA_REFUSED_LENGTH, 1));
+    number = varuna_evaluate_on_domain(3, huge, WORDS, huge, WORDS, &position);
+    test("evaluating on no domain reads nothing", refused(number, position, VARUNA_REFUSED_SIZE, 0));
+    number = varuna_evaluate_on_domain(2, huge, WORDS, huge, 2, &position);
+    test("evaluating too many words on a domain reads none", refused(number, position, VARUNA_REFUSED_LENGTH, 0));
+    number = varuna_evaluate_on_domain(2, huge, 2, huge, WORDS, &position);
+    test("evaluating on a domain into a wrong length reads nothing", refused(number, position, VARUNA_REFUSED_LENGTH, 1));
     number = varuna_list_domain(2, huge, WORDS, &position);
     test("listing into a wrong length writes nothing", refused(number, position, VARUNA_REFUSED_LENGTH, 0));
     number = varuna_circuit_begin(huge, 3, 2, 1, &position);

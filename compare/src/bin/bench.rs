@@ -3,9 +3,10 @@
 //!     cargo run --release --bin bench
 //!
 //! Each size n stands for |R| = |C| = n, n entries in each matrix and |X| = n/4. Evaluated is the mask polynomial, 2n words at β,
-//! whole and in parts of at most 64 words. Times are medians in microseconds, of more runs where a run is short. Every run begins
-//! with lent buffers cleared to zero, which is not timed. The ratio is the library's time over the second implementation's. The
-//! exponent e says that from the last size but one to the last the time grew as n^e.
+//! whole and in parts of at most 64 words. The assignment, n words, is interpolated on C, and its words are taken as coefficients and
+//! evaluated on C. Times are medians in microseconds, of more runs where a run is short. Every run begins with lent buffers cleared
+//! to zero, which is not timed. The ratio is the library's time over the second implementation's. The exponent e says that from the
+//! last size but one to the last the time grew as n^e.
 
 #![forbid(unsafe_code)]
 
@@ -26,6 +27,7 @@ const PART: usize = 64;
 
 /// The lent slices of all calls.
 struct Buffers {
+    transformed: Vec<u32>,
     sections: [Vec<u32>; 11],
     index: [Vec<u32>; 12],
     record: Vec<u8>,
@@ -35,6 +37,7 @@ impl Buffers {
     fn new(case: &Case) -> Buffers {
         let words: usize = case.lent_sections.iter().sum();
         Buffers {
+            transformed: vec![0; case.assignment.len()],
             sections: case.lent_sections.map(|length| vec![0; length]),
             index: case.lent_index.map(|length| vec![0; length]),
             record: vec![0; 4 * words + 72],
@@ -42,6 +45,7 @@ impl Buffers {
     }
 
     fn clear(&mut self) {
+        self.transformed.fill(0);
         self.sections.iter_mut().chain(&mut self.index).for_each(|slice| slice.fill(0));
         self.record.fill(0);
     }
@@ -68,9 +72,11 @@ impl Work {
 /// What is timed: its name, and one run of it. A run fails where a call is refused.
 type Task = (&'static str, fn(Side, &Work, &mut Buffers));
 
-const TASKS: [Task; 13] = [
+const TASKS: [Task; 15] = [
     ("evaluate", evaluate),
     ("in parts", evaluate_parts),
+    ("interpolate", interpolate),
+    ("on domain", evaluate_on_domain),
     ("index", index),
     ("round 1", first_round),
     ("round 2", second_round),
@@ -99,6 +105,22 @@ fn evaluate_parts(side: Side, work: &Work, _: &mut Buffers) {
     };
     let next = |(sum, power), part: &[u32]| call(sum, power, work.case.beta(), part).expect("done");
     black_box(work.case.mask.chunks(PART).fold((0, 1), next));
+}
+
+fn interpolate(side: Side, work: &Work, buffers: &mut Buffers) {
+    let call = match side {
+        Side::Library => library::interpolate,
+        Side::Second => second::interpolate,
+    };
+    call(work.case.sizes[1], &work.case.assignment, &mut buffers.transformed).expect("done");
+}
+
+fn evaluate_on_domain(side: Side, work: &Work, buffers: &mut Buffers) {
+    let call = match side {
+        Side::Library => library::evaluate_on_domain,
+        Side::Second => second::evaluate_on_domain,
+    };
+    call(work.case.sizes[1], &work.case.assignment, &mut buffers.transformed).expect("done");
 }
 
 fn index(side: Side, work: &Work, buffers: &mut Buffers) {
@@ -219,7 +241,7 @@ fn medians(task: Task, work: &Work) -> [f64; 2] {
 
 /// A line of the table: a name, a number for each size, and the exponent of growth.
 fn print_line(name: &str, side: &str, numbers: &[f64], exponent: bool) {
-    let cells: String = numbers.iter().map(|number| format!("{number:>14.2}")).collect();
+    let cells: String = numbers.iter().map(|number| format!("{number:>14.3}")).collect();
     let [.., before, last] = numbers else {
         unreachable!("there are four sizes");
     };

@@ -1,6 +1,6 @@
-//! Calls on words, domains and polynomials.
+//! Calls on words and domains, and evaluation.
 
-use compare::calls::{lend, Outcome};
+use compare::calls::lend;
 use compare::library;
 use compare::random::{count, Compared, Random, BOUNDARY_WORDS, NO_SIZES, SIZES};
 use second::{Refusal, MODULUS};
@@ -129,49 +129,6 @@ fn evaluations() {
             words[place] = random.damaged();
         }
         compare_evaluate(&words, if random.one_in(3) { random.damaged() } else { random.word() });
-        compared.one();
-    }
-}
-
-type Interpolate = fn(u32, &[u32], &mut [u32]) -> Result<(), Refusal>;
-
-fn compare_interpolate(size: u32, values: &[u32], length: usize) -> Outcome {
-    let interpolate =
-        |call: Interpolate| lend([length], |[coefficients]| call(size, values, coefficients).map(|()| Vec::new()));
-    let [ours, theirs] = [library::interpolate, second::interpolate].map(interpolate);
-    assert_eq!(ours, theirs, "interpolate on {size}, {length} words lent, values {values:?}");
-    ours
-}
-
-#[test]
-fn interpolations() {
-    let mut random = Random::new(4);
-    for size in SIZES {
-        let right = size as usize;
-        let values = random.words(right);
-        assert!(compare_interpolate(size, &values, right).answer.is_ok());
-        for (given, lent) in [(right - 1, right), (right + 1, right), (right, right - 1), (right, right + 1)] {
-            compare_interpolate(size, &random.words(given), lent);
-        }
-        compare_interpolate(size, &vec![MODULUS; right + 1], right + 1);
-        for place in [0, right / 2, right - 1] {
-            let mut bad = values.clone();
-            bad[place..].fill(MODULUS);
-            compare_interpolate(size, &bad, right);
-        }
-    }
-    for size in NO_SIZES {
-        for length in [0, 1, 3, 1024, 2048] {
-            compare_interpolate(size, &vec![MODULUS; length], length);
-        }
-    }
-    let mut compared = Compared::default();
-    for _ in 0..count(1_000) {
-        let size = 1 << random.below(7);
-        let mut values = random.words(size as usize);
-        let place = random.place(size as usize);
-        values[place] = random.damaged();
-        compare_interpolate(size, &values, size as usize);
         compared.one();
     }
 }

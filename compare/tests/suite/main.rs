@@ -28,3 +28,4 @@ mod sessions;
 mod sheet;
 mod tampered;
 mod texts;
+mod transforms;

@@ -57,7 +57,7 @@ fn words_of_calls() {
     }
 }
 
-/// 6 at coefficients, of a list and of a part of one, at values and at public words.
+/// 6 at coefficients, of a list and of a part of one, at coefficients and values on a domain, and at public words.
 #[test]
 fn words_of_lists() {
     let words = Random::new(91).words(2048);
@@ -70,9 +70,12 @@ fn words_of_lists() {
         let answers = [library::evaluate_part, second::evaluate_part].map(|call| call(0, 1, 1, &bad));
         assert_eq!(answers, [Err(Refusal { number: 6, position: 3 + place }); 2]);
         if place < 1024 {
-            let answers =
-                [library::interpolate, second::interpolate].map(|call| call(1024, &bad[..1024], &mut [0; 1024]));
-            assert_eq!(answers, [Err(refused); 2]);
+            for calls in
+                [[library::interpolate, second::interpolate], [library::evaluate_on_domain, second::evaluate_on_domain]]
+            {
+                let answers = calls.map(|call| call(1024, &bad[..1024], &mut [0; 1024]));
+                assert_eq!(answers, [Err(refused); 2]);
+            }
             assert_eq!(Pair::unopened().take(&Step::Open([1024; 6], bad[..1024].to_vec())), Err(refused));
         }
     }

@@ -11,3 +11,4 @@ pub mod Unity
 pub mod Choice
 pub mod Keeping
 pub mod ListLaws
+pub mod HalvingLaws

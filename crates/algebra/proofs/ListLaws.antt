@@ -1,5 +1,6 @@
--- Laws of lists: a part between two others, a store past the seam of two lists, and one into a list that `tabulate` makes. Assumes nothing.
-use mathlib.Core.Path.{_≡_, sym, ap, ap₂, _∙_, fun-ext}
+-- Laws of lists: a part between two others, a store past the seam of two lists, and lists that `tabulate` makes: by rules that agree, one
+-- after the other, and with a store into them. Assumes nothing.
+use mathlib.Core.Path.{_≡_, refl, sym, ap, ap₂, _∙_, fun-ext}
 use mathlib.Core.Logic.{_≢_}
 use mathlib.Core.List.{List, [], _∷_, _++_, append-assoc}
 use Prim.Native.Nat.{ℕ, zero, suc, _+_, _<_}
@@ -30,3 +31,17 @@ set-tabulate (suc n) zero f g v l here others =
 set-tabulate (suc n) (suc i) f g v l here others =
     ap₂ _∷_ (sym (others 0 (λ e. omega arith)))
     (set-tabulate n i (λ k. f (suc k)) (λ k. g (suc k)) v (omega arith) here (λ k other. others (suc k) (λ e. other (suc-inj e))))
+
+-- two rules that agree below n
+pub tabulate-ext : {T : Type 0} (n : ℕ) (f g : ℕ → T) → ((i : ℕ) → i < n → f i ≡ g i) → tabulate n f ≡ tabulate n g
+tabulate-ext zero f g same = refl
+tabulate-ext (suc n) f g same =
+    ap₂ _∷_ (same 0 (omega arith)) (tabulate-ext n (λ i. f (suc i)) (λ i. g (suc i)) (λ i l. same (suc i) (omega arith)))
+
+-- the first m members of a list made by a rule, then the others
+pub tabulate-append : {T : Type 0} (m n : ℕ) (f : ℕ → T) → tabulate m f ++ tabulate n (λ i. f (m + i)) ≡ tabulate (m + n) f
+tabulate-append zero n f = rw zero-add (tabulate-ext n _ f (λ i l. rw zero-add refl))
+tabulate-append (suc m) n f =
+    rw suc-add
+    (ap (λ l. f 0 ∷ l)
+    (ap (λ l. tabulate m (λ i. f (suc i)) ++ l) (tabulate-ext n _ _ (λ i l. rw suc-add refl)) ∙ tabulate-append m n (λ i. f (suc i))))

@@ -10,7 +10,7 @@ use Rattle.algebra.specs.Lists.{tabulate}
 use Rattle.algebra.specs.Counting.{All}
 use Rattle.algebra.specs.Sum.{sum}
 use Rattle.algebra.specs.Polynomial.{eval, add, scale, mul}
-use Rattle.algebra.proofs.RingLaws.{zero-add, mul-left-comm, mul-zero, zero-mul}
+use Rattle.algebra.proofs.RingLaws.{zero-add, one-mul, mul-left-comm, mul-zero, zero-mul}
 use Rattle.algebra.proofs.Solver.{_:+_, _:*_, :0, :1, _:=_, _⊙_, _from_, ring, ring-by}
 use Rattle.algebra.proofs.SumLaws.{sum-ext, sum-scale, sum-first}
 
@@ -24,7 +24,7 @@ getD-tabulate (suc n) zero f d l = refl
 getD-tabulate (suc n) (suc i) f d l = getD-tabulate n i (λ i. f (suc i)) d (omega arith)
 
 module _ {A : Type 0} (R : CommRing A) where
-  open CommRing R using (𝟘, _⊕_, _⊗_, add-zero, mul-one)
+  open CommRing R using (𝟘, 𝟙, _⊕_, _⊗_, add-zero, mul-one)
 
   infixl 75 _⊕_
   infixl 80 _⊗_
@@ -82,6 +82,11 @@ module _ {A : Type 0} (R : CommRing A) where
   pub eval-sum : (f : List A) (x : A) → eval R f x ≡ sum R (length f) (λ i. getD f i 𝟘 ⊗ pow R x i)
   eval-sum [] x = refl
   eval-sum (a ∷ f) x = ap (λ v. a ⊕ x ⊗ v) (eval-sum f x) ∙ horner (length f) (λ i. getD (a ∷ f) i 𝟘) x
+
+  -- 1 · f
+  pub scale-one : (f : List A) → scale R 𝟙 f ≡ f
+  scale-one [] = refl
+  scale-one (a ∷ f) = ap₂ _∷_ (one-mul R a) (scale-one f)
 
   pub length-scale : (k : A) (f : List A) → length (scale R k f) ≡ length f
   length-scale k [] = refl

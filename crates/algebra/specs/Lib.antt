@@ -3,3 +3,4 @@ pub mod Lists
 pub mod Counting
 pub mod Sum
 pub mod Polynomial
+pub mod Halving

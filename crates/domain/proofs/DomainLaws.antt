@@ -1,17 +1,17 @@
 -- Domains of a prime that qualifies. The elements are the n powers of a root of order n, and are exactly the points at which
 -- v_D is 0; a smaller domain lies in a larger; most points lie outside; and the laws of sums over a domain. Assumes nothing.
-use mathlib.Core.Path.{_≡_, refl, sym, ap, _∙_}
+use mathlib.Core.Path.{_≡_, refl, sym, ap, ap₂, _∙_}
 use mathlib.Core.Logic.{_≢_, _⊎_, inl, inr}
 use mathlib.Core.Bool.{Bool, true, false, true≢false}
 use mathlib.Core.List.{[], _∷_, _++_}
-use Prim.Native.Nat.{ℕ, suc, _+_, _-_, _*_, _/_, _≤_, _<_}
+use Prim.Native.Nat.{ℕ, suc, _+_, _-_, _*_, _/_, _%_, _≤_, _<_}
 use lib.ListN.{length, replicate, length-append, length-replicate}
 use native.Mathlib.Omega.{arith}
-use native.Mathlib.Nat.{mul-assoc, mul-comm, mod-eq-of-lt, div-eq-of-eq-mul-right}
+use native.Mathlib.Nat.{mul-assoc, mul-comm, mod-add-div', mod-eq-of-lt, div-eq-of-eq-mul-right}
 use Rattle.algebra.specs.Lists.{tabulate}
 use Rattle.algebra.specs.Counting.{AtMost, MoreThan}
 use Rattle.algebra.specs.Ring.{Order, pow}
-use Rattle.algebra.proofs.RingLaws.{zero-mul, neg-neg, neg-zero, sub-zero→eq, eq→sub-zero, pow-mul, one-pow}
+use Rattle.algebra.proofs.RingLaws.{zero-mul, neg-neg, neg-zero, sub-zero→eq, eq→sub-zero, pow-add, pow-mul, one-pow}
 use Rattle.algebra.proofs.Solver.{_:+_, _:*_, :0, :1, _:=_, _⊙_, _from_, ring-by}
 use Rattle.algebra.proofs.SumLaws.{sum-ext, sum-add, sum-scale}
 use Rattle.algebra.proofs.PolynomialLaws.{eval-append, eval-replicate-zero, length-tabulate}
@@ -19,8 +19,9 @@ use Rattle.algebra.proofs.RootBound.{root-bound}
 use Rattle.algebra.proofs.Counting.{all-of, at-most-mono, distinct-tabulate, more-than-rest}
 use Rattle.algebra.proofs.Unity.{powers-distinct, power-root, root-is-power}
 use Rattle.field.specs.Prime.{Prime}
-use Rattle.field.specs.Element.{Elem, of, 𝟘, 𝟙, _⊕_, _⊗_, _⊖_, neg, equal}
-use Rattle.field.proofs.ElementLaws.{add-comm, one-not-zero, decide, primeRing}
+use Rattle.field.specs.Element.{Elem, of, 𝟘, 𝟙, _⊕_, _⊗_, _⊖_, neg, equal, words}
+use Rattle.field.proofs.ElementLaws.{add-comm, mul-one, one-not-zero, decide, primeRing}
+use Rattle.field.proofs.Words.{of-result}
 use Rattle.field.proofs.Field.{no-zero-divisors, power-is-pow, equal-true, true-equal}
 use Rattle.domain.specs.Size.{isSize}
 use Rattle.domain.specs.Domain.{root, element, domain, inside, Outside, vanishing, sumOver}
@@ -53,6 +54,12 @@ unfolding vanishingPoly vanishing
 eval-vanishingPoly {q} n pos y =
     let positive : suc (n - 1) ≡ n = omega arith in
     add-comm (neg 𝟙) _ ∙ ap (λ x. x ⊖ 𝟙) (ap (λ x. y ⊗ x) (eval-monomial (n - 1) y) ∙ ap (pow (primeRing q) y) positive)
+
+-- the powers of the root are the domain
+pub powers-domain : (q : Prime) (n g lent : ℕ) → lent ≡ n → g ≡ root {q = q} n .word
+    → words (tabulate lent (pow (primeRing q) (of g))) ≡ words (domain {q = q} n)
+unfolding domain element
+powers-domain q n g lent same e = ap₂ (λ k a. words (tabulate k (pow (primeRing q) a))) same (of-result (root n) e)
 
 module _ {q : Prime} where
   -- sums over a domain
@@ -91,6 +98,13 @@ module _ {q : Prime} (Q : Qualifies q) (n : ℕ) (s : isSize n ≡ true) where
   pub element-power : (i : ℕ) → pow (primeRing q) (element n i) n ≡ 𝟙
   unfolding element
   element-power = power-root (primeRing q) (no-zero-divisors q) n (root n) domain-order
+
+  -- past the last the elements begin again
+  pub element-remainder : (i : ℕ) → element {q = q} n (i % n) ≡ element n i
+  unfolding element
+  element-remainder i =
+      sym (mul-one _) ∙ ap (λ y. element n (i % n) ⊗ y) (sym (element-power (i / n)) ∙ sym (pow-mul (primeRing q) (root n) (i / n) n))
+      ∙ sym (pow-add (primeRing q) (root n) (i % n) (i / n * n)) ∙ ap (pow (primeRing q) (root n)) (mod-add-div' i n)
 
   pub element-not-zero : (i : ℕ) → element {q = q} n i ≢ 𝟘
   element-not-zero i e =

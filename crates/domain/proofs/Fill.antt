@@ -3,6 +3,7 @@
 use mathlib.Core.Path.{_≡_, refl, sym, ap, _∙_}
 use mathlib.Core.List.{List, [], _∷_, _++_}
 use Prim.Native.Nat.{ℕ, _+_, _≤_, _<_}
+use native.Mathlib.Omega.{arith}
 use native.Mathlib.Numerals.{add-one}
 use native.Mathlib.Nat.{zero-mod}
 use lib.ListN.{length, take, set, getD, length-map, List·getD-map}
@@ -47,3 +48,14 @@ module _ {q : Prime} where
 
   pub rule-word-at : (n : ℕ) (f : ℕ → Elem q) (i : ℕ) → i < n → getD (words (tabulate n f)) i 0 ≡ f i .word
   rule-word-at n f i l = word-at (tabulate n f) i ∙ ap (λ (a : Elem q). a .word) (getD-tabulate n i f 𝟘 l)
+
+  -- a turn of a loop that fills a slice with them, and its end
+  pub rule-turn : (n : ℕ) (f : ℕ → Elem q) (l : List ℕ) (i v : ℕ) → length l ≡ n → i < n → Filled (words (tabulate n f)) l i
+      → v ≡ f i .word → Filled (words (tabulate n f)) (set l i v) (i + 1)
+  rule-turn n f l i v same below before e =
+      fill-turn (words (tabulate n f)) l i v (omega arith) (omega (arith, length-rule-words n f)) before
+      (e ∙ sym (rule-word-at n f i below))
+
+  pub rule-end : (n : ℕ) (f : ℕ → Elem q) (l : List ℕ) (i : ℕ) → length l ≡ n → n ≤ i → Filled (words (tabulate n f)) l i
+      → l ≡ words (tabulate n f)
+  rule-end n f l i same past = fill-end (words (tabulate n f)) l i (omega arith) (omega (arith, length-rule-words n f))

@@ -10,9 +10,10 @@ use Rattle.algebra.specs.Lists.{tabulate}
 use Rattle.algebra.specs.Counting.{All}
 use Rattle.algebra.specs.Ring.{CommRing, cast, pow}
 use Rattle.algebra.specs.Sum.{sum, sumList}
+use Rattle.algebra.proofs.RingLaws.{pow-mul}
 use Rattle.algebra.proofs.Solver.{_:*_, :1, _:=_, _⊙_, _from_, ring, ring-by}
 use Rattle.algebra.proofs.SumLaws.{sum-ext, sum-scale}
-use Rattle.algebra.proofs.PolynomialLaws.{eval-add, eval-scale, eval-replicate-zero, eval-tabulate}
+use Rattle.algebra.proofs.PolynomialLaws.{eval-add, eval-scale, eval-replicate-zero, eval-tabulate, eval-sum}
 use Rattle.algebra.proofs.PolynomialLaws.{length-add, length-scale, length-tabulate, getD-tabulate}
 use Rattle.algebra.proofs.RootBound.{agree-equal}
 use Rattle.algebra.proofs.Counting.{all-tabulate}
@@ -26,7 +27,7 @@ use Rattle.domain.specs.Size.{isSize}
 use Rattle.domain.specs.Domain.{root, element, domain}
 use Rattle.domain.specs.Polynomial.{Poly, eval, _⊞_, _·_, valuesOn, interpolate, agreeing}
 use Rattle.domain.specs.Qualifies.{Qualifies}
-use Rattle.domain.proofs.ListLaws.{map-tabulate}
+use Rattle.domain.proofs.ListLaws.{map-tabulate, equal-entries}
 use Rattle.domain.proofs.SizeLaws.{size-not-zero}
 use Rattle.domain.proofs.DomainLaws.{domain-order}
 
@@ -51,6 +52,17 @@ module _ {q : Prime} where
   pub length-interpolate : (n : ℕ) (vs : List (Elem q)) → length (interpolate n vs) ≡ n
   unfolding interpolate
   length-interpolate n vs = length-tabulate n _
+
+  -- coefficient i: the value at g^(n-i) of the polynomial whose coefficients are the given values, divided by n
+  pub interpolate-at : (n : ℕ) (vs : List (Elem q)) (i : ℕ) → length vs ≡ n → i < n
+      → getD (interpolate n vs) i 𝟘 ≡ eval vs (element n (n - i)) ⊘ of n
+  unfolding interpolate element
+  interpolate-at n vs i e below =
+      getD-tabulate n i (λ i. sum (primeRing q) n (λ j. getD vs j 𝟘 ⊗ element n ((n - i) * j)) ⊘ of n) 𝟘 below
+      ∙ ap (λ (a : Elem q). a ⊘ of n)
+      (sum-ext (primeRing q) n _ _ (λ j l. ap (λ (a : Elem q). getD vs j 𝟘 ⊗ a) (pow-mul (primeRing q) (root n) (n - i) j))
+      ∙ ap (λ (m : ℕ). sum (primeRing q) m (λ j. getD vs j 𝟘 ⊗ pow (primeRing q) (element n (n - i)) j)) (sym e)
+      ∙ sym (eval-sum (primeRing q) vs (element n (n - i))))
 
   pub length-agreeing : (n : ℕ) (F : Elem q → Elem q) → length (agreeing n F) ≡ n
   unfolding agreeing
@@ -120,6 +132,16 @@ module _ {q : Prime} (Q : Qualifies q) (n : ℕ) (s : isSize n ≡ true) where
   pub interpolate-unique : (f : Poly q) (vs : List (Elem q)) → length f ≡ n → ((i : ℕ) → i < n → eval f (element n i) ≡ getD vs i 𝟘)
       → f ≡ interpolate n vs
   interpolate-unique f vs e h = equal-on-domain f (interpolate n vs) e (length-interpolate n vs) (λ i l. h i l ∙ sym (eval-interpolate vs i l))
+
+  -- values on the domain and interpolation undo each other
+  pub values-interpolate : (vs : List (Elem q)) → length vs ≡ n → valuesOn n (interpolate n vs) ≡ vs
+  values-interpolate vs e =
+      equal-entries 𝟘 _ _ (length-valuesOn n _ ∙ sym e) (λ i l.
+      let below : i < n = omega (arith, length-valuesOn n (interpolate n vs)) in
+      getD-valuesOn n i (interpolate n vs) below ∙ eval-interpolate vs i below)
+
+  pub interpolate-values : (f : Poly q) → length f ≡ n → interpolate n (valuesOn n f) ≡ f
+  interpolate-values f e = sym (interpolate-unique f (valuesOn n f) e (λ i l. sym (getD-valuesOn n i f l)))
 
   pub eval-agreeing : (F : Elem q → Elem q) (i : ℕ) → i < n → eval (agreeing n F) (element n i) ≡ F (element n i)
   unfolding agreeing

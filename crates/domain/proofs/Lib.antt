@@ -8,6 +8,7 @@ pub mod DomainLaws
 pub mod Membership
 pub mod Divisors
 pub mod Interpolation
+pub mod TransformLaws
 pub mod Lagrange
 pub mod Division
 pub mod Fill

@@ -1,6 +1,7 @@
 pub mod Size
 pub mod Domain
 pub mod Polynomial
+pub mod Transform
 pub mod Qualifies
 pub mod BabyBear
 pub mod GeneratorTable

@@ -2,7 +2,7 @@
 // remainders.
 ghost use mathlib.Core.Path.{_≡_};
 ghost use mathlib.Core.Bool.{true};
-ghost use Prim.Native.Nat.{_<_};
+ghost use Prim.Native.Nat.{ℕ, _<_};
 ghost use lib.ListN.{length};
 ghost use Rattle.algebra.specs.Lists.{tabulate};
 ghost use Rattle.algebra.specs.Ring.{pow};
@@ -10,7 +10,7 @@ ghost use Rattle.field.specs.Prime.{Prime};
 ghost use Rattle.field.specs.Element.{of, words};
 ghost use Rattle.field.proofs.ElementLaws.{primeRing};
 ghost use Rattle.domain.specs.Size.{isSize, sizeFor};
-ghost use Rattle.domain.specs.Domain.{root, inside, vanishing, lagrange};
+ghost use Rattle.domain.specs.Domain.{root, element, domain, inside, vanishing, lagrange};
 ghost use Rattle.domain.specs.Qualifies.{Qualifies};
 ghost use Rattle.domain.specs.Known.{Known, InDomain};
 
@@ -75,6 +75,15 @@ pub fn fill_powers(p: u32, g: u32, out: &mut [u32])
         power = field::multiply(p, power, g);
         i += 1;
     }
+}
+
+// Element i of a domain from the list of its elements: past the last they begin again.
+pub fn listed_element(elements: &[u32], i: u32) -> u32
+    requires { ⌜ 0 < length (now elements) ⌝ }
+    ensures { λ r. ⌜ ((q : Prime) → Qualifies q → (n : ℕ) → isSize n ≡ true → now (elements .entry) ≡ words (domain {q = q} n)
+        → r ≡ (element {q = q} n i) .word) ⌝ }
+{
+    elements[i as usize % elements.len()]
 }
 
 // v_D(y) = y^n - 1

@@ -3,8 +3,9 @@
 use mathlib.Core.Path.{_≡_, refl, sym, ap, ap₂, _∙_, subst, subst⁻¹}
 use mathlib.Core.Logic.{_≢_}
 use mathlib.Core.List.{List, [], _∷_, map}
-use Prim.Native.Nat.{ℕ, _+_, _-_, _*_, _%_, _^_, _<_}
-use native.Mathlib.Nat.{mod-eq-of-lt, le-of-lt, lt-of-le-of-lt, mul-le-mul-left, mul-lt-mul-of-pos-right}
+use Prim.Native.Nat.{ℕ, _+_, _-_, _*_, _%_, _^_, _≤_, _<_}
+use native.Mathlib.Omega.{arith}
+use native.Mathlib.Nat.{mod-eq-of-lt, add-mod-right, le-of-lt, lt-of-le-of-lt, mul-le-mul-left, mul-lt-mul-of-pos-right}
 use lib.Pow.{pow-pos, pow-add}
 use Rattle.algebra.specs.Counting.{All}
 use Rattle.field.specs.Prime.{Prime}
@@ -33,6 +34,29 @@ module _ (q : Prime) where
   pub word-subtract : (m n : ℕ) → (of {q = q} m ⊖ of n) .word ≡ (m + (q .p - n % q .p)) % q .p
   unfolding of neg
   word-subtract m n = word-add m (q .p - n % q .p)
+
+-- sums and differences of numbers below p, with no remainder taken
+module _ (q : Prime) (m n : ℕ) (m-below : m < q .p) (n-below : n < q .p) where
+  pub sum-below : m + n < q .p → (of {q = q} m ⊕ of n) .word ≡ m + n
+  sum-below l = word-add q m n ∙ mod-eq-of-lt l
+
+  pub sum-above : q .p ≤ m + n → (of {q = q} m ⊕ of n) .word ≡ m + n - q .p
+  sum-above le =
+      let e : m + n ≡ m + n - q .p + q .p = omega arith in
+      word-add q m n ∙ ap (λ (k : ℕ). k % q .p) e ∙ add-mod-right (m + n - q .p) (q .p) ∙ mod-eq-of-lt (omega arith)
+
+  word-difference : (of {q = q} m ⊖ of n) .word ≡ (m + (q .p - n)) % q .p
+  word-difference = word-subtract q m n ∙ ap (λ (k : ℕ). (m + (q .p - k)) % q .p) (mod-eq-of-lt n-below)
+
+  pub difference-above : n ≤ m → (of {q = q} m ⊖ of n) .word ≡ m - n
+  difference-above le =
+      let e : m + (q .p - n) ≡ m - n + q .p = omega arith in
+      word-difference ∙ ap (λ (k : ℕ). k % q .p) e ∙ add-mod-right (m - n) (q .p) ∙ mod-eq-of-lt (omega arith)
+
+  pub difference-below : m < n → (of {q = q} m ⊖ of n) .word ≡ q .p - (n - m)
+  difference-below l =
+      let e : m + (q .p - n) ≡ q .p - (n - m) = omega arith in
+      word-difference ∙ ap (λ (k : ℕ). k % q .p) e ∙ mod-eq-of-lt (omega arith)
 
 module _ {q : Prime} where
   -- the element of a number that is an element's word

@@ -52,6 +52,29 @@ pub fn multiply(p: u32, a: u32, b: u32) -> u32
     reduce(p, wide(a) * wide(b))
 }
 
+// a + b of words below p, with no division.
+pub fn add_reduced(p: u32, a: u32, b: u32) -> u32
+    ensures { λ r. ⌜ ((q : Prime) → q .p ≡ p → (a < p) × (b < p) → r ≡ (of {q = q} a ⊕ of b) .word) ⌝ }
+{
+    let room = std::num::wrapping_sub_u32(p, b);
+    if a < room {
+        std::num::wrapping_add_u32(a, b)
+    } else {
+        a - room
+    }
+}
+
+// a - b of words below p, with no division.
+pub fn subtract_reduced(p: u32, a: u32, b: u32) -> u32
+    ensures { λ r. ⌜ ((q : Prime) → q .p ≡ p → (a < p) × (b < p) → r ≡ (of {q = q} a ⊖ of b) .word) ⌝ }
+{
+    if b <= a {
+        a - b
+    } else {
+        std::num::wrapping_sub_u32(p, b - a)
+    }
+}
+
 // a^n, by squaring.
 pub fn raise(p: u32, a: u32, n: u32) -> u32
     requires { ⌜ 1 < p ⌝ }

@@ -1,1 +1,1 @@
-pub mod IndexParts
+pub mod IndexValues

@@ -1,127 +1,103 @@
 // The indexer: the four index polynomials of a matrix.
 ghost use mathlib.Core.Path.{_≡_};
 ghost use mathlib.Core.Bool.{true};
-ghost use Prim.Native.Nat.{_<_, _≤_};
+ghost use mathlib.Core.List.{map};
+ghost use Prim.Native.Nat.{_<_};
 ghost use lib.ListN.{length};
-ghost use Rattle.algebra.specs.Lists.{tabulate};
 ghost use Rattle.field.specs.Prime.{Prime};
-ghost use Rattle.field.specs.Element.{words};
-ghost use Rattle.domain.specs.Size.{isSize, maxSize, sizeFor};
-ghost use Rattle.domain.specs.Domain.{root};
+ghost use Rattle.field.specs.Element.{of, words};
+ghost use Rattle.domain.specs.Size.{isSize, sizeFor};
+ghost use Rattle.domain.specs.Polynomial.{interpolate};
+ghost use Rattle.domain.specs.Qualifies.{Qualifies};
 ghost use Rattle.domain.specs.Known.{Known};
 ghost use Rattle.protocol.specs.Three.{MatrixName, at};
 ghost use Rattle.protocol.specs.Circuit.{Circuit};
 ghost use Rattle.protocol.specs.Index.{mapIndex, index};
-ghost use Rattle.protocol.proofs.IndexPolynomials.{entryIndex};
 ghost use Rattle.protocol.specs.Calls.{entriesOf};
-ghost use Rattle.circuit.specs.Given.{entryWords, EntryWords};
+ghost use Rattle.circuit.specs.Given.{EntryWords};
 ghost use Rattle.circuit.specs.IndexLists.{indexLists, IndexLengths};
-ghost use Rattle.index.specs.IndexParts.{indexPart};
+ghost use Rattle.index.specs.IndexValues.{indexValues, Listed};
 
-// The index polynomials of a matrix in order.
-const ROW: u32 = 0;
-
-const COL: u32 = 1;
-
-const ROWCOL: u32 = 2;
-
-const ROWCOLVAL: u32 = 3;
-
-// The value of an index polynomial at place i of K_M. Past the last entry row, column and value are taken as 0: g^0 is 1 and the
-// weighted value 0, as document 01 has it.
-fn index_value(p: u32, gr: u32, gc: u32, which: u32, entries: &[u32], i: usize) -> u32
-    requires { ⌜ 1 < p ⌝ }
-    requires { ⌜ (which < 4) × (i < maxSize) ⌝ }
-    ensures { λ v. ⌜ ((q : Prime) → q .p ≡ p → (k : Circuit) → gr ≡ (root {q = q} (k .|R|)) .word → gc ≡ (root {q = q} (k .|C|)) .word
-        → v ≡ (indexPart (entryIndex {q = q} k (entryWords (now (entries .entry)) i)) which) .word) ⌝ }
-{
-    let place = 3 * i;
-    let row = field::raise(p, gr, poly::word_or_zero(entries, place));
-    if which == ROW {
-        return row;
-    }
-    let column = field::raise(p, gc, poly::word_or_zero(entries, place + 1));
-    if which == COL {
-        return column;
-    }
-    let product = field::multiply(p, row, column);
-    if which == ROWCOL {
-        return product;
-    }
-    field::multiply(p, product, poly::word_or_zero(entries, place + 2))
-}
-
-// The values of an index polynomial on K_M into the slice.
-fn fill_index_values(p: u32, gr: u32, gc: u32, which: u32, entries: &[u32], out: &mut [u32])
-    requires { ⌜ 1 < p ⌝ }
-    requires { ⌜ (which < 4) × (length (now out) ≤ maxSize) ⌝ }
-    ensures { λ _. ⌜ ((q : Prime) → q .p ≡ p → (k : Circuit) → gr ≡ (root {q = q} (k .|R|)) .word → gc ≡ (root {q = q} (k .|C|)) .word
-        → now (out .exit)
-        ≡ words (tabulate (length (now (out .entry)))
-        (λ i. indexPart (entryIndex {q = q} k (entryWords (now (entries .entry)) i)) which))) ⌝ }
+// The values of the four index polynomials on K_M into the slices, from lists of the elements of R and C. Past the last entry row,
+// column and value are taken as 0: g^0 is 1 and the weighted value 0, as document 01 has it.
+fn fill_index_values(
+    p: u32,
+    rows: &[u32],
+    columns: &[u32],
+    entries: &[u32],
+    row: &mut [u32],
+    col: &mut [u32],
+    rowcol: &mut [u32],
+    rowcolval: &mut [u32],
+)
+    requires { ⌜ 0 < p ⌝ }
+    requires { ⌜ (0 < length (now rows)) × (0 < length (now columns)) ⌝ }
+    requires { ⌜ IndexLengths (length (now row)) (now row) (now col) (now rowcol) (now rowcolval) ⌝ }
+    ensures { λ _. ⌜ ((q : Prime) → Qualifies q → q .p ≡ p → (k : Circuit) → Listed q k (now (rows .entry)) (now (columns .entry))
+        → indexLists (now (row .exit)) (now (col .exit)) (now (rowcol .exit)) (now (rowcolval .exit))
+        ≡ mapIndex words (indexValues {q = q} k (now (entries .entry)) (length (now (row .entry))))) ⌝ }
 {
     let mut i = 0;
-    while i < out.len() {
-        out[i] = index_value(p, gr, gc, which, entries, i);
+    while i < row.len() {
+        let place = 3 * i;
+        let by_row = domain::listed_element(rows, poly::word_or_zero(entries, place));
+        let by_column = domain::listed_element(columns, poly::word_or_zero(entries, place + 1));
+        let product = field::multiply(p, by_row, by_column);
+        row[i] = by_row;
+        col[i] = by_column;
+        rowcol[i] = product;
+        rowcolval[i] = field::multiply(p, product, poly::word_or_zero(entries, place + 2));
         i += 1;
     }
 }
 
-// One index polynomial into the slice; its values on K_M are made in `values`.
-fn index_polynomial(
-    p: u32,
-    r: u32,
-    c: u32,
-    which: u32,
-    entries: &[u32],
-    values: &mut [u32],
-    out: &mut [u32],
-)
-    requires { ⌜ 1 < p ⌝ }
-    requires { ⌜ (isSize r ≡ true) × (isSize c ≡ true) ⌝ }
-    requires { ⌜ (which < 4) × EntryWords (now entries) ⌝ }
-    requires { ⌜ (length (now values) ≡ sizeFor (length (entriesOf (now entries))))
-        × (length (now out) ≡ sizeFor (length (entriesOf (now entries)))) ⌝ }
-    ensures { λ _. ⌜ ((q : Prime) → Known q p → (k : Circuit) (M : MatrixName) → k .|R| ≡ r → k .|C| ≡ c
-        → at (k .matrices) M ≡ entriesOf (now (entries .entry))
-        → now (out .exit) ≡ words (indexPart (index {q = q} k M) which)) ⌝ }
-{
-    fill_index_values(
-        p,
-        domain::root_of(p, r),
-        domain::root_of(p, c),
-        which,
-        entries,
-        values,
-    );
-    poly::interpolate_into(p, domain::root_of(p, values.len() as u32), values, out);
-}
-
-// The four index polynomials of a matrix, with working memory lent.
-fn index_with(
+// The same from |R| and |C|: the list of the elements of each is made once.
+fn index_values_into(
     p: u32,
     r: u32,
     c: u32,
     entries: &[u32],
-    values: &mut [u32],
     row: &mut [u32],
     col: &mut [u32],
     rowcol: &mut [u32],
     rowcolval: &mut [u32],
 )
     requires { ⌜ 1 < p ⌝ }
-    requires { ⌜ (isSize r ≡ true) × ((isSize c ≡ true) × EntryWords (now entries)) ⌝ }
-    requires { ⌜ length (now values) ≡ sizeFor (length (entriesOf (now entries))) ⌝ }
-    requires { ⌜ IndexLengths (sizeFor (length (entriesOf (now entries)))) (now row) (now col) (now rowcol) (now rowcolval) ⌝ }
-    ensures { λ _. ⌜ ((q : Prime) → Known q p → (k : Circuit) (M : MatrixName) → k .|R| ≡ r → k .|C| ≡ c
-        → at (k .matrices) M ≡ entriesOf (now (entries .entry))
+    requires { ⌜ (isSize r ≡ true) × (isSize c ≡ true) ⌝ }
+    requires { ⌜ IndexLengths (length (now row)) (now row) (now col) (now rowcol) (now rowcolval) ⌝ }
+    ensures { λ _. ⌜ ((q : Prime) → Known q p → (k : Circuit) → k .|R| ≡ r → k .|C| ≡ c
         → indexLists (now (row .exit)) (now (col .exit)) (now (rowcol .exit)) (now (rowcolval .exit))
-        ≡ mapIndex words (index {q = q} k M)) ⌝ }
+        ≡ mapIndex words (indexValues {q = q} k (now (entries .entry)) (length (now (row .entry))))) ⌝ }
 {
-    index_polynomial(p, r, c, ROW, entries, values, row);
-    index_polynomial(p, r, c, COL, entries, values, col);
-    index_polynomial(p, r, c, ROWCOL, entries, values, rowcol);
-    index_polynomial(p, r, c, ROWCOLVAL, entries, values, rowcolval);
+    let row_count = r as usize;
+    let column_count = c as usize;
+    let mut rows = [0u32; 1024];
+    let mut columns = [0u32; 1024];
+    domain::fill_powers(p, domain::root_of(p, r), &mut rows[..row_count]);
+    domain::fill_powers(p, domain::root_of(p, c), &mut columns[..column_count]);
+    fill_index_values(
+        p,
+        &rows[..row_count],
+        &columns[..column_count],
+        entries,
+        row,
+        col,
+        rowcol,
+        rowcolval,
+    );
+}
+
+// Values on the domain of size n, in a slice of n words, replaced by the coefficients of their polynomial.
+fn interpolate_in_place(p: u32, out: &mut [u32])
+    requires { ⌜ 1 < p ⌝ }
+    requires { ⌜ isSize (length (now out)) ≡ true ⌝ }
+    ensures { λ _. ⌜ ((q : Prime) → Known q p
+        → now (out .exit) ≡ words (interpolate (length (now (out .entry))) (map (of {q = q}) (now (out .entry))))) ⌝ }
+{
+    let n = out.len();
+    let mut values = [0u32; 1024];
+    poly::copy_front(out, &mut values);
+    transform::interpolate_into(p, domain::root_of(p, n as u32), &values[..n], out);
 }
 
 // The indexer: the four index polynomials of a matrix into slices of length |K_M|.
@@ -143,17 +119,9 @@ pub fn index_matrix_into(
         → indexLists (now (row .exit)) (now (col .exit)) (now (rowcol .exit)) (now (rowcolval .exit))
         ≡ mapIndex words (index {q = q} k M)) ⌝ }
 {
-    let n = row.len();
-    let mut values = [0u32; 1024];
-    index_with(
-        p,
-        r,
-        c,
-        entries,
-        &mut values[..n],
-        row,
-        col,
-        rowcol,
-        rowcolval,
-    );
+    index_values_into(p, r, c, entries, row, col, rowcol, rowcolval);
+    interpolate_in_place(p, row);
+    interpolate_in_place(p, col);
+    interpolate_in_place(p, rowcol);
+    interpolate_in_place(p, rowcolval);
 }

@@ -108,7 +108,7 @@ fn ratio_into(p: u32, r: u32, c: u32, entries: &[u32], alpha: u32, beta: u32, ou
     let mut values = [0u32; 1024];
     terms_into(p, r, c, entries, alpha, beta, &mut values[..n]);
     let root = domain::root_of(p, n as u32);
-    poly::interpolate_into(p, root, &values[..n], out);
+    transform::interpolate_into(p, root, &values[..n], out);
 }
 
 // g_M: the ratio is ω_M/|K_M| + Y·g_M.

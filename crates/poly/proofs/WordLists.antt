@@ -2,21 +2,14 @@
 -- coefficient that its contract names. Assumes nothing.
 use mathlib.Core.Path.{_≡_, refl, sym, ap, _∙_}
 use mathlib.Core.List.{List, [], _∷_, _++_, map, tail}
-use Prim.Native.Nat.{ℕ, zero, suc, _+_, _-_, _*_, _≤_, _<_}
+use Prim.Native.Nat.{ℕ, zero, suc, _+_, _≤_}
 use native.Mathlib.Omega.{arith}
 use lib.ListN.{length, take, drop, getD, replicate, List·getD-map}
-use Rattle.algebra.specs.Ring.{pow}
-use Rattle.algebra.specs.Sum.{sum}
-use Rattle.algebra.proofs.RingLaws.{pow-mul}
-use Rattle.algebra.proofs.SumLaws.{sum-ext}
-use Rattle.algebra.proofs.PolynomialLaws.{getD-tabulate, eval-sum}
 use Rattle.field.specs.Prime.{Prime}
-use Rattle.field.specs.Element.{Elem, of, 𝟘, _⊕_, _⊗_, words}
-use Rattle.field.specs.Power.{_⊘_}
+use Rattle.field.specs.Element.{Elem, of, 𝟘, _⊕_, words}
 use Rattle.field.proofs.ElementLaws.{primeRing, add-zero}
 use Rattle.field.proofs.Words.{of-result}
-use Rattle.domain.specs.Domain.{root, element}
-use Rattle.domain.specs.Polynomial.{eval, _⊞_, interpolate}
+use Rattle.domain.specs.Polynomial.{_⊞_}
 use Rattle.domain.proofs.Fill.{word-at}
 use Rattle.poly.proofs.Coefficients.{shifted}
 
@@ -51,17 +44,6 @@ module _ {q : Prime} where
   -- the word of an element is a field word already
   pub reduced : {r : ℕ} (x : Elem q) → r ≡ x .word → r ≡ of {q = q} r .word
   reduced x e = e ∙ sym (ap (λ (a : Elem q). a .word) (of-result x e))
-
-  -- coefficient i of the interpolation
-  pub interpolate-at : (n : ℕ) (vs : List (Elem q)) (i : ℕ) → length vs ≡ n → i < n
-      → getD (interpolate n vs) i 𝟘 ≡ eval vs (element n (n - i)) ⊘ of n
-  unfolding interpolate element
-  interpolate-at n vs i e below =
-      getD-tabulate n i (λ i. sum (primeRing q) n (λ j. getD vs j 𝟘 ⊗ element n ((n - i) * j)) ⊘ of n) 𝟘 below
-      ∙ ap (λ (a : Elem q). a ⊘ of n)
-      (sum-ext (primeRing q) n _ _ (λ j l. ap (λ (a : Elem q). getD vs j 𝟘 ⊗ a) (pow-mul (primeRing q) (root n) (n - i) j))
-      ∙ ap (λ (m : ℕ). sum (primeRing q) m (λ j. getD vs j 𝟘 ⊗ pow (primeRing q) (element n (n - i)) j)) (sym e)
-      ∙ sym (eval-sum (primeRing q) vs (element n (n - i))))
 
   -- Where h is added to the entries of a list of field words, from the first on and from the i-th on: each entry then.
   added-at : (h : List (Elem q)) (l : List ℕ) (k : ℕ) → length h ≤ length l → getD l k 0 ≡ of {q = q} (getD l k 0) .word

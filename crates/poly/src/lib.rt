@@ -1,16 +1,13 @@
 // Polynomials over the field as slices of words, the constant first. The modulus p is a parameter; words of p or more stand for
 // their remainders. Results are field words.
 ghost use mathlib.Core.Path.{_≡_};
-ghost use mathlib.Core.Bool.{true};
 ghost use mathlib.Core.List.{_++_, map, tail};
 ghost use Prim.Native.Nat.{_+_, _-_, _^_, _<_, _≤_};
 ghost use lib.ListN.{length, getD, drop, replicate};
 ghost use Rattle.algebra.specs.Polynomial.{mapRunning};
 ghost use Rattle.field.specs.Prime.{Prime};
 ghost use Rattle.field.specs.Element.{of, 𝟘, wordOf, words};
-ghost use Rattle.domain.specs.Size.{isSize};
-ghost use Rattle.domain.specs.Domain.{root};
-ghost use Rattle.domain.specs.Polynomial.{eval, evalPart, _⊞_, _·_, _⊠_, quotient, remainder, interpolate as interpolation};
+ghost use Rattle.domain.specs.Polynomial.{eval, evalPart, _⊞_, _·_, _⊠_, quotient, remainder};
 ghost use Rattle.poly.specs.Meanings.{underWay};
 
 // An evaluation under way: the sum so far, and the power of the point that the next coefficient is multiplied by.
@@ -142,25 +139,6 @@ pub fn remainder_into(p: u32, f: &[u32], out: &mut [u32])
     while i < n {
         out[i] = folded(p, n, f, i);
         i += 1;
-    }
-}
-
-// The polynomial with the given values on the domain of size n into the slice; g is the root g_n.
-pub fn interpolate_into(p: u32, g: u32, values: &[u32], out: &mut [u32])
-    requires { ⌜ 1 < p ⌝ }
-    requires { ⌜ (length (now out) ≡ length (now values)) × (isSize (length (now values)) ≡ true) ⌝ }
-    ensures { λ _. ⌜ ((q : Prime) → q .p ≡ p → g ≡ (root {q = q} (length (now (values .entry)))) .word
-        → now (out .exit) ≡ words (interpolation (length (now (values .entry))) (map (of {q = q}) (now (values .entry))))) ⌝ }
-{
-    let n = values.len();
-    // Coefficient i is 1/n times the value at g^(n-i) of the polynomial whose coefficients are the given values.
-    let share = field::divide(p, 1, n as u32);
-    let mut power: u32 = 1;
-    let mut i = n;
-    while 0 < i {
-        i -= 1;
-        power = field::multiply(p, power, g);
-        out[i] = field::multiply(p, evaluate(p, values, power), share);
     }
 }
 

@@ -1,6 +1,6 @@
 -- Demands 2 and 3, what is known where a verdict is answered, that no divisor is 0, that column 0 is the constant, what growing circuits
--- are, what blinding does, and that parts of a list end at its value, proved: for every prime that qualifies, and so for the module's
--- prime. Assumes nothing.
+-- are, what blinding does, that parts of a list end at its value, and that fast interpolation agrees with the plain one, proved: for every
+-- prime that qualifies, and so for the module's prime. Assumes nothing.
 use Rattle.field.specs.Prime.{Prime}
 use Rattle.domain.specs.BabyBear.{babyBear}
 use Rattle.domain.specs.Qualifies.{Qualifies}
@@ -13,11 +13,13 @@ use Rattle.protocol.specs.ConstantColumn.{ConstantColumn}
 use Rattle.protocol.specs.Growing.{Growing}
 use Rattle.protocol.specs.Blinding.{Blinding}
 use Rattle.protocol.specs.EvaluationInParts.{EvaluationInParts}
+use Rattle.protocol.specs.FastInterpolation.{FastInterpolation}
 use Rattle.protocol.proofs.Blinding as proofs
 use Rattle.protocol.proofs.CallsProve.{calls-give-proof, calls-accepted}
 use Rattle.protocol.proofs.ConstantColumn.{constant-column}
 use Rattle.protocol.proofs.Divisors.{divisors}
 use Rattle.protocol.proofs.EvaluationInParts.{evaluation-in-parts}
+use Rattle.protocol.proofs.FastInterpolation.{fast-interpolation}
 use Rattle.protocol.proofs.Growing.{growing}
 use Rattle.protocol.proofs.Honest.{rules-kept, honest-accepted}
 use Rattle.protocol.proofs.IndexDecoding.{index-gives-back}
@@ -85,3 +87,6 @@ module-blinding = blinding babyBear babyBear-qualifies
 
 pub module-evaluation-in-parts : EvaluationInParts babyBear
 module-evaluation-in-parts = evaluation-in-parts babyBear
+
+pub module-fast-interpolation : FastInterpolation babyBear
+module-fast-interpolation = fast-interpolation babyBear babyBear-qualifies

@@ -51,5 +51,6 @@ pub mod BlindedSums
 pub mod BlindCalls
 pub mod Blinding
 pub mod EvaluationInParts
+pub mod FastInterpolation
 pub mod Demands
 pub mod ProverForms

@@ -13,7 +13,7 @@ use Rattle.field.specs.Element.{Elem, of, wordOf, words, _⊕_, _⊗_, _⊖_}
 use Rattle.field.specs.Power.{power, inverse}
 use Rattle.domain.specs.Size.{maxSize, isSize}
 use Rattle.domain.specs.Domain.{domain}
-use Rattle.domain.specs.Polynomial.{Poly, eval, evalPart, interpolate}
+use Rattle.domain.specs.Polynomial.{Poly, eval, evalPart, valuesOn, interpolate}
 use Rattle.protocol.specs.Three.{MatrixName, Three, at, each, listed, mapThree}
 use Rattle.protocol.specs.Circuit.{Entry, Circuit, Sizes, sizesOf, publicPart}
 use Rattle.protocol.specs.Index.{Index, mapIndex, index}
@@ -99,12 +99,18 @@ module _ (q : Prime) where
       (evaluationRefusal (length part) (r .sum ∷ r .power ∷ y ∷ part))
       (mapRunning wordOf (evalPart {q = q} (mapRunning of r) (of y) (map of part)))
 
+  -- the refusal of a size n, a list of n field words and a lent slice of n
+  abbrev pub transformRefusal : ℕ → List ℕ → ℕ → Option Refusal
+  transformRefusal n ws lent =
+      first (sizeRefusal (isSize n ∷ []) ∷ listRefusal (eqb (length ws) n ∷ eqb lent n ∷ []) ∷ wordRefusal q ws ∷ [])
+
   -- the polynomial with given values on the domain of size n into a lent slice
   unfoldable pub interpolateCall : ℕ → List ℕ → ℕ → Outcome (List ℕ)
-  interpolateCall n vs lent =
-      judged
-      (first (sizeRefusal (isSize n ∷ []) ∷ listRefusal (eqb (length vs) n ∷ eqb lent n ∷ []) ∷ wordRefusal q vs ∷ []))
-      (words (interpolate {q = q} n (map of vs)))
+  interpolateCall n vs lent = judged (transformRefusal n vs lent) (words (interpolate {q = q} n (map of vs)))
+
+  -- the values of a polynomial of length n on the domain of size n into a lent slice (document 02, request 6)
+  unfoldable pub evaluateOnDomainCall : ℕ → List ℕ → ℕ → Outcome (List ℕ)
+  evaluateOnDomainCall n f lent = judged (transformRefusal n f lent) (words (valuesOn {q = q} n (map of f)))
 
   -- the twelve index polynomials into twelve lent slices, each of length |K_M|
   unfoldable pub indexCall : CircuitWords → Three (Index ℕ) → Outcome (Three (Index (List ℕ)))

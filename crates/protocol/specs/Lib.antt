@@ -22,3 +22,4 @@ pub mod Growing
 pub mod Blinded
 pub mod Blinding
 pub mod EvaluationInParts
+pub mod FastInterpolation

@@ -8,11 +8,10 @@ use native.Mathlib.Omega.{arith}
 use lib.ListN.{length, getD, take, drop, set, replicate, length-map, drop-of-length-le, length-replicate, getD-replicate, List·getD-map, List·getD-append}
 use lib.Seq.{getD-at, set-at, drop-cons}
 use Rattle.algebra.specs.Lists.{tabulate}
-use Rattle.algebra.specs.Polynomial as Coefficients
 use Rattle.algebra.specs.Polynomial.{add}
 use Rattle.algebra.specs.Ring.{CommRing}
-use Rattle.algebra.proofs.PolynomialLaws.{length-scale}
-use Rattle.algebra.proofs.RingLaws.{one-mul, zero-add}
+use Rattle.algebra.proofs.PolynomialLaws.{scale-one, length-scale}
+use Rattle.algebra.proofs.RingLaws.{zero-add}
 use Rattle.field.specs.Prime.{Prime}
 use Rattle.field.specs.Element.{Elem, of, 𝟘, 𝟙, words, neg}
 use Rattle.field.proofs.ElementLaws.{primeRing}
@@ -29,12 +28,7 @@ use Rattle.protocol.specs.Messages.{publicPoly, witness, assignment}
 use Rattle.poly.proofs.LentParts.{part-length, filled-part, filled-length}
 
 module _ {A : Type 0} (R : CommRing A) where
-  open CommRing R using (𝟘, 𝟙, add-comm)
-
-  -- 1 · f
-  pub scale-one : (f : List A) → Coefficients.scale R 𝟙 f ≡ f
-  scale-one [] = refl
-  scale-one (a ∷ f) = ap₂ _∷_ (one-mul R a) (scale-one f)
+  open CommRing R using (𝟘, add-comm)
 
   pub plus-comm : (f g : List A) → add R f g ≡ add R g f
   plus-comm [] [] = refl

@@ -117,7 +117,7 @@ fn weights_into(
     lagrange_values_into(p, r, alpha, &mut rows[..n]);
     let mut sums = [0u32; 1024];
     add_weights(p, ea, eb, ec, &rows[..n], eta, &mut sums[..l]);
-    poly::interpolate_into(p, domain::root_of(p, c), &sums[..l], out);
+    transform::interpolate_into(p, domain::root_of(p, c), &sums[..l], out);
 }
 
 // The line m + Σ η_M M̂(α,Y) ẑ(Y), of length 2|C|.

@@ -31,7 +31,7 @@ fn image_into(p: u32, r: u32, entries: &[u32], z: &[u32], out: &mut [u32])
     let n = r as usize;
     let mut sums = [0u32; 1024];
     circuit::matrices::row_sums(p, entries, z, &mut sums[..n]);
-    poly::interpolate_into(p, domain::root_of(p, r), &sums[..n], out);
+    transform::interpolate_into(p, domain::root_of(p, r), &sums[..n], out);
 }
 
 // f·g - h into the slice.

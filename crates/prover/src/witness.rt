@@ -63,7 +63,7 @@ fn public_poly_into(p: u32, c: u32, x: u32, z: &[u32], out: &mut [u32])
     let n = x as usize;
     let mut values = [0u32; 1024];
     public_words_into((c / x) as usize, z, &mut values[..n]);
-    poly::interpolate_into(p, domain::root_of(p, x), &values[..n], out);
+    transform::interpolate_into(p, domain::root_of(p, x), &values[..n], out);
 }
 
 // (z(Y) - x̂(Y))/v_X, of length |C| - |X|.
@@ -78,7 +78,7 @@ fn private_quotient_into(p: u32, c: u32, x: u32, z: &[u32], out: &mut [u32])
     let n = c as usize;
     let l = x as usize;
     let mut difference = [0u32; 1024];
-    poly::interpolate_into(p, domain::root_of(p, c), z, &mut difference[..n]);
+    transform::interpolate_into(p, domain::root_of(p, c), z, &mut difference[..n]);
     let mut public = [0u32; 1024];
     public_poly_into(p, c, x, z, &mut public[..l]);
     let minus_one = p - 1;

@@ -1,5 +1,5 @@
 -- The judgements of the calls on domains and polynomials, row by row. Assumes nothing.
-use mathlib.Core.Path.{_≡_, sym, ap, ap₂, _∙_}
+use mathlib.Core.Path.{_≡_, sym, ap, _∙_}
 use mathlib.Core.Bool.{Bool, true, false}
 use mathlib.Core.List.{List, [], _∷_, _++_, map}
 use mathlib.Core.Option.{Option, none}
@@ -7,29 +7,19 @@ use Prim.Native.Nat.{ℕ, _+_, _<_, _≤_}
 use native.Mathlib.Nat.{zero-add}
 use lib.Dec.{eqb, leb, ltb}
 use lib.ListN.{length}
-use borrow.Author.Tests.{le-leb, eq-eqb, eqb-true}
+use borrow.Author.Tests.{le-leb, eq-eqb}
 use Rattle.algebra.specs.Counting.{All}
-use Rattle.algebra.specs.Lists.{tabulate}
-use Rattle.algebra.specs.Ring.{pow}
 use Rattle.field.specs.Prime.{Prime}
-use Rattle.field.specs.Element.{of, words}
-use Rattle.field.proofs.ElementLaws.{primeRing}
-use Rattle.field.proofs.Words.{of-result}
 use Rattle.domain.specs.Size.{isSize}
-use Rattle.domain.specs.Domain.{root, element, domain}
+use Rattle.domain.specs.Domain.{root}
 use Rattle.shared.specs.declared.Fault.{Fault}
 use Rattle.shared.specs.Meanings.{faultRefusal, isFine}
 use Rattle.protocol.specs.Refusals.{Refusal, first, refuse, sizeRefusal, listRefusal, wordRefusal}
 use Rattle.protocol.specs.Calls.{maxWords, evaluationRefusal}
-use Rattle.protocol.proofs.RefusalLaws.{first-none, refuse-none, wordRefusal-none}
+use Rattle.protocol.proofs.FastInterpolation.{LetThrough}
+use Rattle.protocol.proofs.RefusalLaws.{first-none, wordRefusal-none}
 use Rattle.protocol.proofs.Rows.{first-only, refuse-map-append}
 use Rattle.shared.proofs.EarlyReturns.{stops, goes-on, last-answer}
-
--- the powers of the root are the domain
-pub powers-domain : (q : Prime) (n g lent : ℕ) → lent ≡ n → g ≡ root {q = q} n .word
-    → words (tabulate lent (pow (primeRing q) (of g))) ≡ words (domain {q = q} n)
-unfolding domain element
-powers-domain q n g lent same e = ap₂ (λ k a. words (tabulate k (pow (primeRing q) a))) same (of-result (root n) e)
 
 module _ (q : Prime) where
   abbrev pub below : ℕ → Bool
@@ -59,25 +49,16 @@ module _ (q : Prime) where
   evaluation-free n ws e =
       wordRefusal-none q ws (first-none (listRefusal (leb n maxWords ∷ []) ∷ wordRefusal q ws ∷ []) e .1 .0)
 
-module _ (n values lent : ℕ) (o : Option Refusal) where
-  pub interpolation-goes : isSize n ≡ true → values ≡ n → lent ≡ n
-      → o ≡ first (sizeRefusal (isSize n ∷ []) ∷ listRefusal (eqb values n ∷ eqb lent n ∷ []) ∷ o ∷ [])
-  unfolding sizeRefusal listRefusal
-  interpolation-goes size e l = rw (size, eq-eqb values n e, eq-eqb lent n l) (sym (first-only o))
+-- 4 for the size n, 5 for the list and the lent slice; then the words decide
+pub transform-goes : (n listed lent : ℕ) (o : Option Refusal) → isSize n ≡ true → listed ≡ n → lent ≡ n
+    → o ≡ first (sizeRefusal (isSize n ∷ []) ∷ listRefusal (eqb listed n ∷ eqb lent n ∷ []) ∷ o ∷ [])
+unfolding sizeRefusal listRefusal
+transform-goes n listed lent o size e l = rw (size, eq-eqb listed n e, eq-eqb lent n l) (sym (first-only o))
 
-  -- nothing is refused
-  pub record Interpolated : Type 0 where
-    pub size : isSize n ≡ true
-    pub each-value : values ≡ n
-    pub each-word : lent ≡ n
+-- what the transform asks of a size, a list and a slice that were let through, and its root
+module _ {q : Prime} {n lent : ℕ} {ws : List ℕ} (t : LetThrough q n ws lent) where
+  pub transform-asked : (lent ≡ length ws) × (isSize (length ws) ≡ true)
+  transform-asked = (t .fits ∙ sym (t .listed), ap isSize (t .listed) ∙ t .size)
 
-  pub interpolation-free : first (sizeRefusal (isSize n ∷ []) ∷ listRefusal (eqb values n ∷ eqb lent n ∷ []) ∷ o ∷ []) ≡ none → Interpolated
-  unfolding sizeRefusal listRefusal
-  interpolation-free e =
-      let rows = first-none (sizeRefusal (isSize n ∷ []) ∷ listRefusal (eqb values n ∷ eqb lent n ∷ []) ∷ o ∷ []) e in
-      let lists = refuse-none 5 0 (eqb values n ∷ eqb lent n ∷ []) (rows .1 .0) in
-      record {
-        size = refuse-none 4 0 (isSize n ∷ []) (rows .0) .0;
-        each-value = eqb-true values n (lists .0);
-        each-word = eqb-true lent n (lists .1 .0);
-      }
+  pub transform-root : {g : ℕ} → g ≡ root {q = q} n .word → g ≡ root {q = q} (length ws) .word
+  transform-root e = e ∙ ap (λ (n : ℕ). root {q = q} n .word) (sym (t .listed))

@@ -1,13 +1,11 @@
 // Public calls on domains and polynomials. Refusals 4 for a size, 5 for a length, 6 for a word of p or more.
 ghost use mathlib.Core.Path.{_≡_};
 ghost use mathlib.Core.List.{[], _∷_, _++_};
-ghost use lib.Dec.{eqb};
 ghost use lib.ListN.{length};
 ghost use Rattle.domain.specs.BabyBear.{babyBear};
-ghost use Rattle.domain.specs.Size.{isSize};
 ghost use Rattle.poly.specs.Meanings.{underWay};
-ghost use Rattle.protocol.specs.Refusals.{first, sizeRefusal, listRefusal, wordRefusal};
-ghost use Rattle.protocol.specs.Calls.{domainCall, evaluationRefusal, evaluateCall, evaluatePartCall, interpolateCall};
+ghost use Rattle.protocol.specs.Calls.{domainCall, evaluationRefusal, evaluateCall, evaluatePartCall};
+ghost use Rattle.protocol.specs.Calls.{transformRefusal, interpolateCall, evaluateOnDomainCall};
 ghost use Rattle.shared.specs.Meanings.{faultRefusal};
 ghost use Rattle.varuna.specs.Answers.{wordMeaning, evaluatedMeaning, filledMeaning, filling, fills};
 use crate::answers::Evaluated;
@@ -93,35 +91,50 @@ pub fn evaluate_part(running: Running, y: u32, part: &[u32]) -> Evaluated
     }
 }
 
-// 4 for n, 5 for the values and the lent slice, 6 for a value.
-fn judge_interpolation(n: u32, values: &[u32], lent: usize) -> Fault
-    ensures { λ r. ⌜ faultRefusal r
-        ≡ first (sizeRefusal (isSize n ∷ []) ∷ listRefusal (eqb (length (now (values .entry))) n ∷ eqb lent n ∷ [])
-        ∷ wordRefusal babyBear (now (values .entry)) ∷ []) ⌝ }
+// 4 for n, 5 for the list and the lent slice, 6 for a word.
+fn judge_transform(n: u32, words: &[u32], lent: usize) -> Fault
+    ensures { λ r. ⌜ faultRefusal r ≡ transformRefusal babyBear n (now (words .entry)) lent ⌝ }
 {
     if !domain::is_size(n) {
         return Fault::Refused(4, 0);
     }
-    if values.len() != n as usize {
+    if words.len() != n as usize {
         return Fault::Refused(5, 0);
     }
     if lent != n as usize {
         return Fault::Refused(5, 1);
     }
-    judge_words(MODULE_PRIME, 0, values)
+    judge_words(MODULE_PRIME, 0, words)
 }
 
 // The n coefficients of the polynomial with the given values on the domain of size n into a slice. Refusals: 4 for n, 5 for the
-// values and the slice, 6 for a value.
+// values and the slice, 6 for a value. Given what `evaluate_on_domain` answers, it answers what that was given.
 pub fn interpolate(n: u32, values: &[u32], out: &mut [u32]) -> Filled
     ensures { λ r. ⌜ filling (filledMeaning r) (now (out .exit))
         ≡ fills (interpolateCall babyBear n (now (values .entry)) (length (now (out .entry)))) (now (out .entry)) ⌝ }
 {
-    let fault = judge_interpolation(n, values, out.len());
+    let fault = judge_transform(n, values, out.len());
     match fault {
         Fault::Fine => {
             let root = domain::root_of(MODULE_PRIME, n);
-            poly::interpolate_into(MODULE_PRIME, root, values, out);
+            transform::interpolate_into(MODULE_PRIME, root, values, out);
+            Filled::Done
+        }
+        Fault::Refused(number, position) => Filled::Refused(number, position),
+    }
+}
+
+// The values of the polynomial with the given n coefficients on the domain of size n, in order, into a slice. Refusals: 4 for n, 5 for
+// the coefficients and the slice, 6 for a coefficient. Given what `interpolate` answers, it answers what that was given.
+pub fn evaluate_on_domain(n: u32, f: &[u32], out: &mut [u32]) -> Filled
+    ensures { λ r. ⌜ filling (filledMeaning r) (now (out .exit))
+        ≡ fills (evaluateOnDomainCall babyBear n (now (f .entry)) (length (now (out .entry)))) (now (out .entry)) ⌝ }
+{
+    let fault = judge_transform(n, f, out.len());
+    match fault {
+        Fault::Fine => {
+            let root = domain::root_of(MODULE_PRIME, n);
+            transform::evaluate_into(MODULE_PRIME, root, f, out);
             Filled::Done
         }
         Fault::Refused(number, position) => Filled::Refused(number, position),

@@ -3,7 +3,7 @@ ghost use mathlib.Core.Path.{_≡_};
 ghost use lib.ListN.{length};
 ghost use Rattle.algebra.specs.Polynomial.{running};
 ghost use Rattle.domain.specs.BabyBear.{babyBear};
-ghost use Rattle.protocol.specs.Calls.{domainCall, evaluateCall, evaluatePartCall, interpolateCall};
+ghost use Rattle.protocol.specs.Calls.{domainCall, evaluateCall, evaluatePartCall, interpolateCall, evaluateOnDomainCall};
 ghost use Rattle.c_numbers.specs.Answers.{told, answered};
 use c_numbers::answers::give_evaluated;
 use c_numbers::answers::give_filled;
@@ -76,6 +76,23 @@ pub extern "C" fn varuna_interpolate(
 {
     give_filled(
         varuna::polynomials::interpolate(n, values, coefficients),
+        position,
+    )
+}
+
+// The values of the polynomial with these n coefficients on the domain of size n, in order. Refusals 4, 5, 6.
+#[no_mangle]
+pub extern "C" fn varuna_evaluate_on_domain(
+    n: u32,
+    coefficients: &[u32],
+    values: &mut [u32],
+    position: &mut usize,
+) -> u32
+    ensures { λ number. ⌜ told number (now (position .exit)) (now (values .exit))
+        ≡ answered (evaluateOnDomainCall babyBear n (now (coefficients .entry)) (length (now (values .entry)))) (now (values .entry)) ⌝ }
+{
+    give_filled(
+        varuna::polynomials::evaluate_on_domain(n, coefficients, values),
         position,
     )
 }

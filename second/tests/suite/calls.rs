@@ -8,6 +8,7 @@ const LAST: u32 = 2013265920;
 
 #[test]
 fn field_words() {
+    assert_eq!(P, u64::from(second::MODULUS));
     assert_eq!(second::add(LAST, LAST), Ok(LAST - 1));
     assert_eq!(second::add(LAST, 1), Ok(0));
     assert_eq!(second::subtract(0, LAST), Ok(1));
@@ -171,30 +172,4 @@ fn parts_taken_up_anywhere() {
         assert_eq!(answer, Ok((next_sum as u32, next_power as u32)), "{sum} {power} {point} {part:?}");
         checked.one();
     }
-}
-
-#[test]
-fn interpolate_refusals() {
-    let mut lent = [5; 2];
-    assert_eq!(refusal(second::interpolate(3, &[0; 3], &mut lent)), Some((4, 0)));
-    assert_eq!(refusal(second::interpolate(2, &[0; 3], &mut lent[..1])), Some((5, 0)));
-    assert_eq!(refusal(second::interpolate(2, &[LAST + 1; 2], &mut lent[..1])), Some((5, 1)));
-    assert_eq!(refusal(second::interpolate(2, &[LAST, LAST + 1], &mut lent)), Some((6, 1)));
-    assert_eq!(lent, [5; 2]);
-}
-
-#[test]
-fn interpolate_gives_the_values() {
-    let mut random = Random::new(2);
-    for place in 0..11 {
-        let size = 1 << place;
-        let values = random.words(size);
-        let mut lent = vec![0; size];
-        assert_eq!(second::interpolate(size as u32, &values, &mut lent), Ok(()));
-        for (element, value) in arithmetic::elements(size).into_iter().zip(values) {
-            assert_eq!(arithmetic::value_at(&lent, element), u64::from(value));
-            assert_eq!(second::evaluate(&lent, element as u32), Ok(value));
-        }
-    }
-    assert_eq!(P, u64::from(second::MODULUS));
 }

@@ -39,7 +39,7 @@ pub fn lengths(sizes: [u32; 6]) -> [usize; 11] {
 }
 
 /// Fills lent slices of given lengths; says whether a refused call has left them alone.
-fn lend<const N: usize, Answer>(
+pub fn lend<const N: usize, Answer>(
     lengths: [usize; N],
     call: impl FnOnce([&mut [u32]; N]) -> Result<Answer, Refusal>,
 ) -> Result<([Vec<u32>; N], Answer), Refusal> {

@@ -21,3 +21,4 @@ mod session;
 mod square;
 mod tampered;
 mod totality;
+mod transforms;

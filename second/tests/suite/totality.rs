@@ -103,6 +103,28 @@ fn prover_and_indexer() {
     }
 }
 
+/// The two calls between coefficients and values, with the same inputs: both are done, or both refused alike.
+#[test]
+fn transforms() {
+    let mut random = Random::new(36);
+    let mut done = 0;
+    for _ in 0..count(3000) {
+        let size = if random.below(10) == 0 { any_word(&mut random) } else { 1 << random.below(5) };
+        let length = size.min(1100) as usize + usize::from(random.below(10) == 0);
+        let words: Vec<u32> = (0..length).map(|_| tame_word(&mut random)).collect();
+        let mut lent = lent(&mut random, size.min(1100) as usize);
+        let answers = [second::interpolate, second::evaluate_on_domain].map(|call| {
+            lent.fill(UNTOUCHED);
+            let answer = call(size, &words, &mut lent);
+            check(answer, &[&lent]);
+            answer
+        });
+        assert_eq!(answers[0], answers[1], "{size} {words:?}");
+        done += usize::from(answers[0].is_ok());
+    }
+    assert!(done > 1000, "{done}");
+}
+
 /// A random step with any words; the session must be the same where it is refused.
 fn any_step(random: &mut Random, session: Session) -> (Session, bool) {
     let (a, b, c) = (three(random), three(random), three(random));

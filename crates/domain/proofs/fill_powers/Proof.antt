@@ -13,7 +13,7 @@ use Rattle.field.specs.Prime.{Prime}
 use Rattle.field.specs.Element.{Elem, of, _⊗_, words}
 use Rattle.field.proofs.ElementLaws.{primeRing, mul-comm}
 use Rattle.field.proofs.Words.{of-result}
-use Rattle.domain.proofs.Fill.{Filled, fill-none, fill-turn, fill-end, length-rule-words, rule-word-at}
+use Rattle.domain.proofs.Fill.{Filled, fill-none, rule-turn, rule-end}
 use Rattle.domain.proofs.Qualification.{one-word}
 use Rattle.domain.proofs.fill_powers.Statement.{statement}
 use Rattle.domain.proofs.fill_powers.Tie as tie
@@ -63,8 +63,7 @@ loop-again c =
             c .multiply .ensures q e
                 ∙ ap (λ (y : Elem q). y .word)
                 (ap (λ y. y ⊗ of g) (of-result (f (l .i)) last) ∙ mul-comm (f (l .i)) (of g) ∙ ap f (sym (add-one (l .i)))),
-            fill-turn (powers q g n) (l .out) (l .i) (l .power) (omega arith) (omega (arith, length-rule-words n f)) filled
-                (last ∙ sym (rule-word-at n f (l .i) (omega arith))),
+            rule-turn n f (l .out) (l .i) (l .power) (omega arith) (omega arith) filled last,
           ),
     )
 
@@ -76,8 +75,7 @@ returns c q e =
     let l = c .before .loop in
     let start = c .before .before .before .args in
     let n : ℕ = length (start .out .now) in
-    fill-end (powers q (start .g) n) (l .out) (l .i) (omega arith)
-    (omega (arith, length-rule-words n (pow (primeRing q) (of (start .g))))) (l .inv .2 q e .1)
+    rule-end n (pow (primeRing q) (of (start .g))) (l .out) (l .i) (omega arith) (omega arith) (l .inv .2 q e .1)
 
 pub fill-powers-spec : {M : Type 1} → statement M
 fill-powers-spec =

@@ -86,7 +86,7 @@ returns c q k M G H =
     interpolated q (take n (returned 1024 n (call .last .1 .1 .1 .1 .1 .1 .0))) (padded n t)
     (back-length 1024 (size-fits _ size) (call .last .1 .1 .1 .1 .1 .1 .0) (call .kept .1 .1 .1 .1 .1 .1 .0))
     (back-list 1024 (size-fits _ size) (call .last .1 .1 .1 .1 .1 .1 .0) (call .kept .1 .1 .1 .1 .1 .1 .0) (padded n t) filled)
-    (at-root-of .root-of .ensures q (G .known)) (at-interpolate-into .interpolate-into .ensures q (G .known .value))
+    (at-root-of .root-of .ensures q (G .known)) (at-interpolate-into .interpolate-into .ensures q (G .qualifies) (G .known .value))
     ∙ ap words (ratio-by-terms G H n size)
 
 pub ratio-into-spec : {M : Type 1} → statement M

@@ -105,7 +105,7 @@ returns c q known Q k eR matrices =
     let kept = w .add-weights .kept .1 .1 .1 .1 .1 .1 .0 in
     let η : Three (Elem q) = mapThree of (three (a .eta)) in
     let α : Elem q = of (a .alpha) in
-    c .before .before .interpolate-into .ensures q (known .value)
+    c .before .before .interpolate-into .ensures q Q (known .value)
     (c .before .before .before .before .before .root-of .ensures q known
     ∙ ap (λ (n : ℕ). root {q = q} n .word) (filled-length _ _ (c-bound s) (sums w) kept))
     ∙ interpolate-part _ _ (c-bound s) (sums w) kept (tabulate (a .c) (λ j. weighted η (each (λ M. columnSum k M α j))))

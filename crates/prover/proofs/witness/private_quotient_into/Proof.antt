@@ -9,6 +9,7 @@ use Rattle.field.specs.Element.{of, words}
 use Rattle.domain.specs.Size.{isSize}
 use Rattle.domain.specs.Domain.{root}
 use Rattle.domain.specs.Polynomial.{Poly, _⊟_, quotient, interpolate}
+use Rattle.domain.proofs.Qualification.{known-qualifies}
 use Rattle.domain.proofs.SizeLaws.{size-positive, size-bound}
 use Rattle.protocol.specs.Circuit.{publicPart}
 use Rattle.protocol.specs.Messages.{publicPoly}
@@ -147,7 +148,7 @@ returns c q known k eC eX =
     (of-filled _ _ within (sum .last .1 .0) (sum .kept .1 .0) (F ⊟ G)
     (minus-made q (known .value) F G
     (of-filled _ _ (c-bound s) (values .last .1 .1 .1 .0) (values .kept .1 .1 .1 .0) F
-    (values .ensures q (known .value) (v .before .before .root-of .ensures q known ∙ ap (λ (n : ℕ). root {q = q} n .word) (sym whole))
+    (values .ensures q (known-qualifies known) (known .value) (v .before .before .root-of .ensures q known ∙ ap (λ (n : ℕ). root {q = q} n .word) (sym whole))
     ∙ ap (λ (n : ℕ). words (interpolate {q = q} n z)) whole))
     (of-filled _ _ (x-bound s) (public .last .1 .1 .1 .1 .0) (public .kept .1 .1 .1 .1 .0) G (public .ensures q known k eC eX))
     (sum .ensures q (known .value))))

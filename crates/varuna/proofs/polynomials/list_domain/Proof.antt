@@ -7,10 +7,10 @@ use Rattle.domain.specs.Size.{isSize}
 use mathlib.Core.Path.{_≡_, refl, sym, _∙_}
 use borrow.Author.Tests.{eq-eqb, ne-eqb, not-true, not-false}
 use Rattle.domain.specs.BabyBear.{babyBear}
+use Rattle.domain.proofs.DomainLaws.{powers-domain}
 use Rattle.protocol.specs.Refusals.{first, sizeRefusal, listRefusal}
 use Rattle.protocol.specs.Calls.{domainCall}
 use Rattle.varuna.proofs.AnswerLaws.{fill-done}
-use Rattle.varuna.proofs.CallPolynomials.{powers-domain}
 use borrow.Author.Needs.{needs}
 use Rattle.varuna.proofs.polynomials.list_domain.Statement.{statement}
 use Rattle.varuna.proofs.polynomials.list_domain.Tie as tie

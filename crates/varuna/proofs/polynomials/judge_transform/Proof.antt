@@ -1,11 +1,11 @@
--- `varuna::polynomials::judge_interpolation` meets its contract. Assumes nothing.
+-- `varuna::polynomials::judge_transform` meets its contract. Assumes nothing.
 use mathlib.Core.Path.{sym, _∙_}
 use borrow.Author.Tests.{eq-eqb, ne-eqb, not-true, not-false}
 use Rattle.protocol.specs.Refusals.{sizeRefusal, listRefusal, wordRefusal}
-use Rattle.varuna.proofs.CallPolynomials.{interpolation-goes}
+use Rattle.varuna.proofs.CallPolynomials.{transform-goes}
 use borrow.Author.Needs.{needs}
-use Rattle.varuna.proofs.polynomials.judge_interpolation.Statement.{statement}
-use Rattle.varuna.proofs.polynomials.judge_interpolation.Tie as tie
+use Rattle.varuna.proofs.polynomials.judge_transform.Statement.{statement}
+use Rattle.varuna.proofs.polynomials.judge_transform.Tie as tie
 
 is-size-requires : tie.Need-is-size-requires
 is-size-requires c κs = search needs
@@ -34,10 +34,10 @@ returns-4 : tie.Need-returns-4
 unfolding wordRefusal
 returns-4 c =
     c .judge-words .ensures
-    ∙ interpolation-goes _ _ _ _ (sym (c .before .before .before .before .is-size .ensures) ∙ not-false _ (c .before .before .before .if1 .left))
+    ∙ transform-goes _ _ _ _ (sym (c .before .before .before .before .is-size .ensures) ∙ not-false _ (c .before .before .before .if1 .left))
     (c .before .before .if2 .left) (c .before .if3 .left)
 
-pub judge-interpolation-spec : {M : Type 1} → statement M
-judge-interpolation-spec =
+pub judge-transform-spec : {M : Type 1} → statement M
+judge-transform-spec =
     tie.close
     (tie.spec is-size-requires returns returns-2 returns-3 judge-words-requires returns-4)

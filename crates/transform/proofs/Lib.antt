@@ -1,0 +1,4 @@
+pub mod FilledHalves
+pub mod Halves
+pub mod Parts
+pub mod Directions
