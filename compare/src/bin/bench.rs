@@ -4,15 +4,16 @@
 //!
 //! Each size n stands for |R| = |C| = n, n entries in each matrix and |X| = n/4. Evaluated is the mask polynomial, 2n words at β,
 //! whole and in parts of at most 64 words. The assignment, n words, is interpolated on C, and its words are taken as coefficients and
-//! evaluated on C. Times are medians in microseconds, of more runs where a run is short. Every run begins with lent buffers cleared
-//! to zero, which is not timed. The ratio is the library's time over the second implementation's. The exponent e says that from the
-//! last size but one to the last the time grew as n^e.
+//! evaluated on C. A verdict is the session's last step alone, with |X| = n. Times are medians in microseconds, of more runs where a run
+//! is short. Every run begins with lent buffers cleared to zero, which is not timed. The ratio is the library's time over the second
+//! implementation's, and the line below it has the inverse: how many times faster the library is. Then come the library's nanoseconds
+//! for each of the n places. The exponent e says that from the last size but one to the last the time grew as n^e.
 
 #![forbid(unsafe_code)]
 
 use compare::calls::{self, Proof, Side};
 use compare::case::Case;
-use compare::library;
+use compare::library::{self, OPENINGS, SESSION_WORDS};
 use compare::random::Random;
 use second::Verdict;
 use std::hint::black_box;
@@ -51,11 +52,27 @@ impl Buffers {
     }
 }
 
-/// A case with its proof and record.
+/// A case with its proof and record, and a verdict still to be given where all columns are public.
 struct Work {
     case: Case,
     proof: Proof,
     record: Vec<u8>,
+    public: Judged,
+}
+
+/// Both sides' sessions before the last step, and the openings that it takes.
+struct Judged {
+    library: [u32; SESSION_WORDS],
+    second: second::Session,
+    openings: [u32; OPENINGS],
+}
+
+impl Judged {
+    fn new(case: &Case) -> Judged {
+        let proof = calls::prove(Side::Library, case).expect("a satisfied case is proved");
+        let library = *library_session(case, &proof).words();
+        Judged { library, second: second_session(case, &proof), openings: proof.openings }
+    }
 }
 
 impl Work {
@@ -65,14 +82,17 @@ impl Work {
         let mut record = Buffers::new(&case).record;
         let sections = proof.sections.each_ref().map(Vec::as_slice);
         library::write_record(case.six_sizes(), sections, &mut record).expect("a proof's record is written");
-        Work { case, proof, record }
+        let mut all_public = case.clone();
+        all_public.sizes[2] = all_public.sizes[1];
+        all_public.lend_again();
+        Work { public: Judged::new(&all_public), case, proof, record }
     }
 }
 
 /// What is timed: its name, and one run of it. A run fails where a call is refused.
 type Task = (&'static str, fn(Side, &Work, &mut Buffers));
 
-const TASKS: [Task; 15] = [
+const TASKS: [Task; 16] = [
     ("evaluate", evaluate),
     ("in parts", evaluate_parts),
     ("interpolate", interpolate),
@@ -86,6 +106,7 @@ const TASKS: [Task; 15] = [
     ("openings", openings),
     ("whole proof", whole_proof),
     ("session", session),
+    ("verdict", verdict),
     ("write record", write_record),
     ("read record", read_record),
 ];
@@ -163,11 +184,22 @@ fn whole_proof(side: Side, work: &Work, buffers: &mut Buffers) {
 
 /// The seven steps and the verdict.
 fn session(side: Side, work: &Work, _: &mut Buffers) {
+    let (case, proof) = (&work.case, &work.proof);
     let verdict = match side {
-        Side::Library => library_verdict(&work.case, &work.proof),
-        Side::Second => second_verdict(&work.case, &work.proof),
+        Side::Library => library_session(case, proof).openings(proof.openings),
+        Side::Second => second_session(case, proof).openings(proof.openings).1,
     };
-    assert_eq!(verdict, Verdict::Accept);
+    assert_eq!(verdict, Ok(Verdict::Accept));
+}
+
+/// The last step alone.
+fn verdict(side: Side, work: &Work, _: &mut Buffers) {
+    let judged = &work.public;
+    let verdict = match side {
+        Side::Library => library::Session::from_words(judged.library).openings(judged.openings),
+        Side::Second => judged.second.clone().openings(judged.openings).1,
+    };
+    assert_eq!(verdict, Ok(Verdict::Accept));
 }
 
 fn length(proof: &Proof, section: usize) -> u32 {
@@ -178,7 +210,7 @@ fn three(proof: &Proof, section: usize) -> [u32; 3] {
     [0, 1, 2].map(|place| proof.sections[section][place])
 }
 
-fn library_verdict(case: &Case, proof: &Proof) -> Verdict {
+fn library_session(case: &Case, proof: &Proof) -> library::Session {
     let length = |section: usize| length(proof, section);
     let mut session = library::Session::unopened();
     session.open(case.six_sizes(), &case.public_words()).expect("taken");
@@ -187,18 +219,17 @@ fn library_verdict(case: &Case, proof: &Proof) -> Verdict {
     session.beta([4, 5].map(length), case.beta()).expect("taken");
     session.delta(three(proof, 6), [7, 8, 9].map(length), case.delta()).expect("taken");
     session.gamma(length(10), case.gamma()).expect("taken");
-    session.openings(proof.openings).expect("judged")
+    session
 }
 
-fn second_verdict(case: &Case, proof: &Proof) -> Verdict {
+fn second_session(case: &Case, proof: &Proof) -> second::Session {
     let length = |section: usize| length(proof, section);
     let session = second::open(case.six_sizes(), &case.public_words()).expect("opened");
     let session = session.alpha([0, 1, 2].map(length), case.alpha()).0;
     let session = session.eta(three(proof, 3), case.eta()).0;
     let session = session.beta([4, 5].map(length), case.beta()).0;
     let session = session.delta(three(proof, 6), [7, 8, 9].map(length), case.delta()).0;
-    let session = session.gamma(length(10), case.gamma()).0;
-    session.openings(proof.openings).1.expect("judged")
+    session.gamma(length(10), case.gamma()).0
 }
 
 fn write_record(side: Side, work: &Work, buffers: &mut Buffers) {
@@ -259,8 +290,12 @@ fn main() {
         let medians = works.each_ref().map(|work| medians(task, work));
         let [ours, theirs] = [0, 1].map(|side| medians.map(|median| median[side]));
         let ratio = medians.map(|[ours, theirs]| ours / theirs);
+        let faster = ratio.map(f64::recip);
+        let each: [f64; SIZES.len()] = std::array::from_fn(|place| 1e3 * ours[place] / f64::from(SIZES[place]));
         print_line(task.0, "library", &ours, true);
         print_line("", "second", &theirs, true);
         print_line("", "ratio", &ratio, false);
+        print_line("", "faster", &faster, false);
+        print_line("", "ns each", &each, false);
     }
 }
