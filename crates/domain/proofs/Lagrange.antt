@@ -139,11 +139,15 @@ module _ {q : Prime} (Q : Qualifies q) (n : ℕ) (s : isSize n ≡ true) where
             (λ d. equal-false y a e (sub-zero→eq (primeRing q) y a d)))
             ∙ zero-mul (primeRing q) _
 
+    -- L_a(y) = (1 + by + .. + (by)^(n-1)) / n, on the domain and off it
+    pub lagrange-powers : (y : Elem q) → lagrange n (element n i) y ≡ sum (primeRing q) n (pow (primeRing q) (element n (n - i) ⊗ y)) ⊘ of n
+    lagrange-powers y = unfold powers in elim (inside-or-outside n y) [
+      | inl h ↦ lagrange-inside n a y h ∙ sym (value-inside y h)
+      | inr o ↦ lagrange-off n a y o ∙ sym (value-outside y o)
+    ]
+
     pub lagrange-polynomial : IsPolynomial {q = q} n (lagrange n (element n i))
     lagrange-polynomial = record { poly = coefficients; poly-length = unfold coefficients in length-tabulate n _; poly-value = value }
       where
         value : (y : Elem q) → eval coefficients y ≡ lagrange n a y
-        value y = eval-coefficients y ∙ elim (inside-or-outside n y) [
-          | inl h ↦ value-inside y h ∙ sym (lagrange-inside n a y h)
-          | inr o ↦ value-outside y o ∙ sym (lagrange-off n a y o)
-        ]
+        value y = unfold powers in eval-coefficients y ∙ sym (lagrange-powers y)

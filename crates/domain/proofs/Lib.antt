@@ -10,6 +10,7 @@ pub mod Divisors
 pub mod Interpolation
 pub mod TransformLaws
 pub mod Lagrange
+pub mod LagrangeHalving
 pub mod Division
 pub mod Fill
 pub mod RunningWords

@@ -1,22 +1,26 @@
 -- The sizes are the eleven powers of two up to 1,024. The smaller of two divides the larger, each divides p - 1, and none is
--- 0 in the field. Doubling from 1 finds the size of a count. Assumes nothing.
+-- 0 in the field; the inverse of each. Doubling from 1 finds the size of a count. Assumes nothing.
 use mathlib.Core.Path.{_≡_, refl, sym, ap, _∙_}
 use mathlib.Core.Logic.{_≢_}
 use mathlib.Core.Bool.{true}
+use mathlib.Core.List.{[], _∷_}
 use Prim.Native.Nat.{ℕ, zero, suc, _+_, _-_, _*_, _/_, _^_, _≤_, _<_, max}
 use lib.Dec.{eqb, leb}
 use lib.Pow.{pow-add, pow-lt, pow-mono, pow-pos}
 use borrow.Author.Tests.{eqb-true, eq-eqb, leb-true, le-leb, lt-leb}
 use native.Mathlib.Omega.{arith}
 use native.Mathlib.Decide.{decLe, decLt}
-use native.Mathlib.Nat.{not-suc-le-zero, one-le-pow, pow-suc, pow-le-pow-right, mul-zero, mul-assoc}
-use native.Mathlib.Nat.{div-eq-of-eq-mul-right, max-eq-left, max-eq-right}
+use native.Mathlib.Nat.{not-suc-le-zero, one-le-pow, pow-suc, pow-le-pow-right, mul-zero, mul-add, mul-assoc}
+use native.Mathlib.Nat.{div-eq-of-eq-mul-right, div-le-self, max-eq-left, max-eq-right}
 use Rattle.algebra.proofs.Counting.{all-tabulate}
 use Rattle.algebra.proofs.FieldLaws.{mul-not-zero}
+use Rattle.algebra.proofs.Solver.{_:+_, _:-_, _:*_, :-_, :0, :1, _:=_, _⊙_, _from_, ring-by}
 use Rattle.field.specs.Prime.{Prime}
-use Rattle.field.specs.Element.{of, 𝟘}
-use Rattle.field.proofs.ElementLaws.{of-mul, of-not-zero, one-not-zero, primeRing}
-use Rattle.field.proofs.Field.{primeField}
+use Rattle.field.specs.Element.{Elem, of, 𝟘, _⊕_, _⊗_}
+use Rattle.field.specs.Power.{reciprocal}
+use Rattle.field.proofs.ElementLaws.{of-add, of-mul, of-p, of-not-zero, one-not-zero, primeRing}
+use Rattle.field.proofs.Words.{word-of}
+use Rattle.field.proofs.Field.{primeField, reciprocal-unique}
 use Rattle.domain.specs.Size.{maxSize, sizes, isSize, sizeFor}
 use Rattle.domain.specs.Qualifies.{Qualifies}
 use Rattle.domain.proofs.ListLaws.{any-tabulate, tabulate-any, firstOr-all, firstOr-passes, firstOr-tabulate, firstOr-none}
@@ -55,6 +59,16 @@ size-divides m n s t le =
           multiple m n (2 ^ (k - j)) (size-positive m s) (en ∙ ap (λ x. 2 ^ x) split ∙ pow-add 2 j (k - j) ∙ ap (λ x. x * 2 ^ (k - j)) (sym em))
       | no j>k ↦ absurd (omega (arith, em, en, pow-lt {i = k} {j = j} (omega arith)))
     ]
+
+-- a size other than 1 is twice a size
+pub size-halves : (n : ℕ) → isSize n ≡ true → 1 < n → (n ≡ n / 2 + n / 2) × (isSize (n / 2) ≡ true)
+size-halves n s more = let (k, l, e) = size-is-power n s in go k l e
+  where
+    go : (k : ℕ) → k < 11 → n ≡ 2 ^ k → (n ≡ n / 2 + n / 2) × (isSize (n / 2) ≡ true)
+    go zero l e = absurd (omega arith)
+    go (suc k) l e =
+        let half : n / 2 ≡ 2 ^ k = omega (arith, pow-suc 2 k) in
+        (omega (arith, pow-suc 2 k), ap isSize half ∙ power-is-size k (omega arith))
 
 pub size-quotient-positive : (m n : ℕ) → isSize m ≡ true → isSize n ≡ true → m ≤ n → 0 < n / m
 size-quotient-positive m n s t le = go (n / m) (size-divides m n s t le)
@@ -131,6 +145,41 @@ power-not-zero {q} (suc k) z =
 
 pub size-not-zero : {q : Prime} (n : ℕ) → isSize n ≡ true → of {q = q} n ≢ 𝟘
 size-not-zero n s z = let (k, _, e) = size-is-power n s in power-not-zero k (ap of (sym e) ∙ z)
+
+-- -(p - 1)/n is 1/n: n times (p - 1)/n is p - 1, which stands for -1
+pub size-inverse : {q : Prime} → Qualifies q → (n : ℕ) → isSize n ≡ true → q .p - (q .p - 1) / n ≡ reciprocal (of {q = q} n) .word
+size-inverse {q} Q n s =
+    sym (word-of q (p - c) (omega (arith, some c times)))
+    ∙ ap (λ (x : Elem q). x .word) (reciprocal-unique (of n) (of (p - c)) product)
+  where
+    p : ℕ
+    p = q .p
+
+    c : ℕ
+    c = (p - 1) / n
+
+    times : p - 1 ≡ n * c
+    times = size-divides-order Q n s
+
+    some : (c : ℕ) → p - 1 ≡ n * c → 0 < c
+    some zero e = absurd (omega (arith, e ∙ mul-zero n, q .above-two))
+    some (suc c) e = omega arith
+
+    whole : n * (p - c) + (p - 1) ≡ n * p
+    whole =
+        let back : p - c + c ≡ p = omega (arith, div-le-self (p - 1) n) in
+        ap (λ k. n * (p - c) + k) times ∙ sym (mul-add n (p - c) c) ∙ ap (λ k. n * k) back
+
+    less : p - 1 + 1 ≡ p
+    less = omega (arith, q .above-two)
+
+    product : of n ⊗ of (p - c) ≡ of {q = q} 1
+    product =
+        ring-by (primeRing q) (of n ∷ of (p - c) ∷ of (p - 1) ∷ of p ∷ [])
+        (λ n d m p. n :* d := :1 from (:1 ⊙ (n :* d :+ m := n :* p)) ∷ ((n :- :1) ⊙ (p := :0)) ∷ ((:- :1) ⊙ (m :+ :1 := p)) ∷ []) (
+          ap (λ (x : Elem q). x ⊕ of (p - 1)) (sym (of-mul n (p - c))) ∙ sym (of-add (n * (p - c)) (p - 1)) ∙ ap of whole ∙ of-mul n p,
+          (of-p, (sym (of-add (p - 1) 1) ∙ ap of less, tt)),
+        ) tt
 
 -- the size for m
 module _ {n : ℕ} (m : ℕ) (e : n ≡ sizeFor m) where

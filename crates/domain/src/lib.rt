@@ -2,12 +2,13 @@
 // remainders.
 ghost use mathlib.Core.Path.{_≡_};
 ghost use mathlib.Core.Bool.{true};
-ghost use Prim.Native.Nat.{ℕ, _<_};
-ghost use lib.ListN.{length};
+ghost use Prim.Native.Nat.{ℕ, _/_, _<_};
+ghost use lib.ListN.{length, take};
 ghost use Rattle.algebra.specs.Lists.{tabulate};
 ghost use Rattle.algebra.specs.Ring.{pow};
 ghost use Rattle.field.specs.Prime.{Prime};
-ghost use Rattle.field.specs.Element.{of, words};
+ghost use Rattle.field.specs.Element.{of, _⊗_, words};
+ghost use Rattle.field.specs.Power.{reciprocal};
 ghost use Rattle.field.proofs.ElementLaws.{primeRing};
 ghost use Rattle.domain.specs.Size.{isSize, sizeFor};
 ghost use Rattle.domain.specs.Domain.{root, element, domain, inside, vanishing, lagrange};
@@ -63,6 +64,15 @@ pub fn root_of(p: u32, n: u32) -> u32
     ROOTS[u32::trailing_zeros(n) as usize]
 }
 
+// 1/n of a size n, which divides p - 1: (p - 1)/n times n is -1.
+pub fn size_inverse(p: u32, n: u32) -> u32
+    requires { ⌜ 1 < p ⌝ }
+    requires { ⌜ isSize n ≡ true ⌝ }
+    ensures { λ r. ⌜ ((q : Prime) → Qualifies q → q .p ≡ p → r ≡ (reciprocal (of {q = q} n)) .word) ⌝ }
+{
+    p - (p - 1) / n
+}
+
 // 1, g, g², .. into the slice: each is the last one times g.
 pub fn fill_powers(p: u32, g: u32, out: &mut [u32])
     requires { ⌜ 1 < p ⌝ }
@@ -83,7 +93,11 @@ pub fn listed_element(elements: &[u32], i: u32) -> u32
     ensures { λ r. ⌜ ((q : Prime) → Qualifies q → (n : ℕ) → isSize n ≡ true → now (elements .entry) ≡ words (domain {q = q} n)
         → r ≡ (element {q = q} n i) .word) ⌝ }
 {
-    elements[i as usize % elements.len()]
+    let at = i as usize;
+    if at < elements.len() {
+        return elements[at];
+    }
+    elements[at % elements.len()]
 }
 
 // v_D(y) = y^n - 1
@@ -123,4 +137,54 @@ pub fn lagrange_value(p: u32, n: u32, a: u32, y: u32) -> u32
     let divisor = field::multiply(p, n, difference);
     let dividend = field::multiply(p, a, v);
     field::divide(p, dividend, divisor)
+}
+
+// The first half of the slice has the Lagrange values of the domain of half its length at y²; the slice gets those of the domain of
+// its whole length at y. g is the root of that domain. At its element a = g^i, with x = y/a, the value is (1 + x)/2 times the value of
+// the smaller domain at place i; at -a it is what is left of that.
+fn double_lagrange(p: u32, g: u32, y: u32, out: &mut [u32])
+    requires { ⌜ 0 < p ⌝ }
+    requires { ⌜ (isSize (length (now out)) ≡ true) × (1 < length (now out)) ⌝ }
+    ensures { λ _. ⌜ ((q : Prime) → Qualifies q → q .p ≡ p → g ≡ (root {q = q} (length (now (out .entry)))) .word
+        → take (length (now (out .entry)) / 2) (now (out .entry))
+        ≡ words (tabulate (length (now (out .entry)) / 2)
+        (λ i. lagrange (length (now (out .entry)) / 2) (element (length (now (out .entry)) / 2) i) (of {q = q} y ⊗ of y)))
+        → now (out .exit)
+        ≡ words (tabulate (length (now (out .entry)))
+        (λ i. lagrange (length (now (out .entry))) (element (length (now (out .entry))) i) (of {q = q} y)))) ⌝ }
+{
+    let half = out.len() / 2;
+    // 1/2, and x/2 at i = half, where a is -1.
+    let share = p / 2 + 1;
+    let mut turned = field::multiply(p, y, p / 2);
+    let mut i = half;
+    while 0 < i {
+        i -= 1;
+        let j = half + i;
+        let whole = out[i];
+        turned = field::multiply(p, turned, g);
+        let low = field::multiply(p, whole, field::add_reduced(p, turned, share));
+        out[i] = low;
+        out[j] = field::subtract_reduced(p, whole, low);
+    }
+}
+
+// L_a(y) of every element a of the domain whose size is the slice's length, in order, with no inverse: by doubling from size 1.
+pub fn lagrange_values_into(p: u32, y: u32, out: &mut [u32])
+    requires { ⌜ 1 < p ⌝ }
+    requires { ⌜ isSize (length (now out)) ≡ true ⌝ }
+    ensures { λ _. ⌜ ((q : Prime) → Known q p
+        → now (out .exit)
+        ≡ words (tabulate (length (now (out .entry)))
+        (λ i. lagrange (length (now (out .entry))) (element (length (now (out .entry))) i) (of {q = q} y)))) ⌝ }
+{
+    if out.len() == 1 {
+        out[0] = 1;
+        return;
+    }
+    let n = out.len() as u32;
+    let half = out.len() / 2;
+    let g = root_of(p, n);
+    lagrange_values_into(p, field::multiply(p, y, y), &mut out[..half]);
+    double_lagrange(p, g, y, out);
 }

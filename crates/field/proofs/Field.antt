@@ -80,6 +80,10 @@ primeField q = record { reciprocal = reciprocal; mul-reciprocal = mul-reciprocal
 pub no-zero-divisors : (q : Prime) (a b : Elem q) → a ⊗ b ≡ 𝟘 → a ≢ 𝟘 → b ≡ 𝟘
 no-zero-divisors q = FieldLaws.no-zero-divisors (primeRing q) (primeField q)
 
+pub reciprocal-unique : {q : Prime} (a b : Elem q) → a ⊗ b ≡ 𝟙 → b ≡ reciprocal a
+unfolding primeField
+reciprocal-unique {q} = FieldLaws.reciprocal-unique (primeRing q) (primeField q)
+
 pub reciprocal-product : {q : Prime} (a b : Elem q) → a ≢ 𝟘 → b ≢ 𝟘 → reciprocal (a ⊗ b) ≡ reciprocal a ⊗ reciprocal b
 unfolding primeField
 reciprocal-product {q} = FieldLaws.reciprocal-product (primeRing q) (primeField q)

@@ -5,7 +5,8 @@ use mathlib.Core.Logic.{_≢_}
 use mathlib.Core.List.{List, [], _∷_, map}
 use Prim.Native.Nat.{ℕ, _+_, _-_, _*_, _%_, _^_, _≤_, _<_}
 use native.Mathlib.Omega.{arith}
-use native.Mathlib.Nat.{mod-eq-of-lt, add-mod-right, le-of-lt, lt-of-le-of-lt, mul-le-mul-left, mul-lt-mul-of-pos-right}
+use native.Mathlib.Nat.{mod-eq-of-lt, add-mod-right, le-of-lt, lt-of-le-of-lt, suc-mul}
+use native.Mathlib.Nat.{mul-le-mul-left, mul-le-mul-right, mul-lt-mul-of-pos-right}
 use lib.Pow.{pow-pos, pow-add}
 use Rattle.algebra.specs.Counting.{All}
 use Rattle.field.specs.Prime.{Prime}
@@ -30,6 +31,10 @@ module _ (q : Prime) where
   pub word-multiply : (m n : ℕ) → (of {q = q} m ⊗ of n) .word ≡ (m * n) % q .p
   unfolding of
   word-multiply m n = ap (λ (x : Elem q). x .word) (sym (of-mul m n))
+
+  pub word-multiply-add : (m n k : ℕ) → (of {q = q} m ⊗ of n ⊕ of k) .word ≡ (m * n + k) % q .p
+  unfolding of
+  word-multiply-add m n k = ap (λ (x : Elem q). x .word) (sym (of-add (m * n) k ∙ ap (λ (x : Elem q). x ⊕ of k) (of-mul m n)))
 
   pub word-subtract : (m n : ℕ) → (of {q = q} m ⊖ of n) .word ≡ (m + (q .p - n % q .p)) % q .p
   unfolding of neg
@@ -85,3 +90,15 @@ pub product-below : (k : ℕ) {a b : ℕ} → a < 2 ^ k → b < 2 ^ k → a * b 
 product-below k {a} {b} a-below b-below =
     subst⁻¹ (λ (n : ℕ). a * b < n) (pow-add 2 k k)
     (lt-of-le-of-lt (mul-le-mul-left a (le-of-lt b-below)) (mul-lt-mul-of-pos-right a-below (pow-pos k)))
+
+-- and so has the product with one more added
+pub product-sum-below : (k : ℕ) {a b c : ℕ} → a < 2 ^ k → b < 2 ^ k → c < 2 ^ k → a * b + c < 2 ^ (k + k)
+product-sum-below k {a} {b} {c} a-below b-below c-below =
+    omega (
+      arith,
+      pow-add 2 k k,
+      suc-mul a (2 ^ k),
+      mul-le-mul-left a (le-of-lt b-below),
+      mul-le-mul-right (2 ^ k) a-below,
+      c-below,
+    )

@@ -52,6 +52,14 @@ pub fn multiply(p: u32, a: u32, b: u32) -> u32
     reduce(p, wide(a) * wide(b))
 }
 
+// a·b + c, with one division.
+pub fn multiply_add(p: u32, a: u32, b: u32, c: u32) -> u32
+    requires { ⌜ 0 < p ⌝ }
+    ensures { λ r. ⌜ ((q : Prime) → q .p ≡ p → r ≡ (of {q = q} a ⊗ of b ⊕ of c) .word) ⌝ }
+{
+    reduce(p, wide(a) * wide(b) + wide(c))
+}
+
 // a + b of words below p, with no division.
 pub fn add_reduced(p: u32, a: u32, b: u32) -> u32
     ensures { λ r. ⌜ ((q : Prime) → q .p ≡ p → (a < p) × (b < p) → r ≡ (of {q = q} a ⊕ of b) .word) ⌝ }

@@ -1,10 +1,10 @@
 -- `domain::listed_element` meets its contract. Assumes nothing.
 use borrow.Author.Needs.{needs, scaled-fits}
-use mathlib.Core.Path.{_≡_, ap, ap₂, _∙_}
+use mathlib.Core.Path.{_≡_, sym, ap, ap₂, _∙_}
 use mathlib.Core.Bool.{true}
 use mathlib.Core.List.{List}
 use Prim.Native.Nat.{ℕ, _%_}
-use native.Mathlib.Nat.{mod-lt}
+use native.Mathlib.Nat.{mod-lt, mod-eq-of-lt}
 use lib.ListN.{length, getD}
 use Rattle.field.specs.Prime.{Prime}
 use Rattle.field.specs.Element.{Elem, words}
@@ -26,19 +26,39 @@ listed {q} Q n size l i e =
     ∙ rule-word-at n (element n) (i % n) (mod-lt i (size-positive n size))
     ∙ ap (λ (a : Elem q). a .word) (element-remainder Q n size i)
 
-rem-result : tie.Need-rem-result
-rem-result c = search needs
-
 mul-result : tie.Need-mul-result
-mul-result c = scaled-fits _ _ _ (mod-lt _ (c .pre)) (c .good .0 .1)
+mul-result c = search needs
 
 shared-slice-read-result : tie.Need-shared-slice-read-result
-shared-slice-read-result c = mod-lt _ (c .before .pre)
+shared-slice-read-result c = search needs
 
 returns : tie.Need-returns
 returns c q Q n size e =
-    let a = c .before .args in
+    let a = c .before .before .args in
+    ap (λ (k : ℕ). getD (a .elements .now) k 0) (sym (mod-eq-of-lt (c .before .if1 .taken))) ∙ listed Q n size (a .elements .now) (a .i) e
+
+rem-result : tie.Need-rem-result
+rem-result c = search needs
+
+mul-result-2 : tie.Need-mul-result-2
+mul-result-2 c = scaled-fits _ _ _ (mod-lt _ (c .before .pre)) (c .before .good .0 .1)
+
+shared-slice-read-result-2 : tie.Need-shared-slice-read-result-2
+shared-slice-read-result-2 c = mod-lt _ (c .before .before .pre)
+
+returns-2 : tie.Need-returns-2
+returns-2 c q Q n size e =
+    let a = c .before .before .args in
     listed Q n size (a .elements .now) (a .i) e
 
 pub listed-element-spec : {M : Type 1} → statement M
-listed-element-spec = tie.close (tie.spec rem-result mul-result shared-slice-read-result returns)
+listed-element-spec =
+    tie.close
+    (tie.spec
+    mul-result
+    shared-slice-read-result
+    returns
+    rem-result
+    mul-result-2
+    shared-slice-read-result-2
+    returns-2)
