@@ -78,8 +78,7 @@ pub fn row_sums(p: u32, entries: &[u32], z: &[u32], out: &mut [u32])
     while i < count {
         let row = entries[3 * i] as usize;
         let column = entries[3 * i + 1] as usize;
-        let product = field::multiply(p, entries[3 * i + 2], z[column]);
-        out[row] = field::add(p, out[row], product);
+        out[row] = field::multiply_add(p, entries[3 * i + 2], z[column], out[row]);
         i += 1;
     }
 }

@@ -27,7 +27,7 @@ pub fn evaluate_part(p: u32, running: Running, x: u32, part: &[u32]) -> Running
     let mut power = running.power;
     let mut i = 0;
     while i < part.len() {
-        sum = field::add(p, sum, field::multiply(p, power, part[i]));
+        sum = field::multiply_add(p, power, part[i], sum);
         power = field::multiply(p, power, x);
         i += 1;
     }
@@ -74,7 +74,7 @@ pub fn add_scaled(p: u32, f: &mut [u32], k: u32, g: &[u32])
 {
     let mut i = 0;
     while i < f.len() {
-        f[i] = field::add(p, f[i], field::multiply(p, k, word_or_zero(g, i)));
+        f[i] = field::multiply_add(p, k, word_or_zero(g, i), f[i]);
         i += 1;
     }
 }

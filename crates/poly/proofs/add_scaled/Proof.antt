@@ -9,8 +9,7 @@ use lib.ListN.{length, getD, length-set, length-map}
 use Rattle.algebra.proofs.PolynomialLaws.{length-add, length-scale}
 use Rattle.field.specs.Prime.{Prime}
 use Rattle.field.specs.Element.{Elem, of, 𝟘, _⊕_, _⊗_, words}
-use Rattle.field.proofs.ElementLaws.{primeRing}
-use Rattle.field.proofs.Words.{of-result}
+use Rattle.field.proofs.ElementLaws.{primeRing, add-comm}
 use Rattle.domain.specs.Polynomial.{Poly, _⊞_, _·_}
 use Rattle.domain.proofs.Fill.{length-words}
 use Rattle.poly.proofs.Stores.{joined, joined-none, joined-all, joined-second, store-up}
@@ -52,20 +51,17 @@ abbrev μ-loop : tie.MeasureT-loop
 loop-holds : tie.Need-loop-holds Inv-loop μ-loop
 loop-holds c = (search needs, refl, λ q e. joined-none _ _)
 
-mul-add : tie.Need-mul-add Inv-loop μ-loop
-mul-add c = search needs
-
-slice-read-add : tie.Need-slice-read-add Inv-loop μ-loop
-slice-read-add c = search needs
-
 word-or-zero-requires : tie.Need-word-or-zero-requires Inv-loop μ-loop
 word-or-zero-requires c κs = search needs
 
-multiply-requires : tie.Need-multiply-requires Inv-loop μ-loop
-multiply-requires c κs = search needs
+mul-multiply-add : tie.Need-mul-multiply-add Inv-loop μ-loop
+mul-multiply-add c = search needs
 
-add-requires : tie.Need-add-requires Inv-loop μ-loop
-add-requires c κs = search needs
+slice-read-multiply-add : tie.Need-slice-read-multiply-add Inv-loop μ-loop
+slice-read-multiply-add c = search needs
+
+multiply-add-requires : tie.Need-multiply-add-requires Inv-loop μ-loop
+multiply-add-requires c κs = search needs
 
 mul-f : tie.Need-mul-f Inv-loop μ-loop
 mul-f c = search needs
@@ -81,22 +77,23 @@ loop-less c = search needs
 
 loop-again : tie.Need-loop-again Inv-loop μ-loop
 loop-again c =
-    let a = c .before .before .before .before .before .before .before .before .args in
-    let l = c .before .before .before .before .before .loop in
+    let a = c .before .before .before .before .before .before .before .args in
+    let l = c .before .before .before .before .loop in
     let f : List ℕ = a .f .now in
     let i : ℕ = l .i in
     let below : i < length f = omega arith in (
       omega arith,
-      length-set (l .f) i (c .add .result) ∙ l .inv .1,
+      length-set (l .f) i (c .multiply-add .result) ∙ l .inv .1,
       λ q e.
           let target : Poly q = sum-of q f (a .k) (a .g .now) in
           let same : length (words target) ≡ length f = length-sum q f (a .k) (a .g .now) (omega arith) in
           let old : of {q = q} (getD (l .f) i 0) ≡ of (getD f i 0) =
           ap (λ (r : List ℕ). of (getD r i 0)) (l .inv .2 q e) ∙ ap of (joined-second (words target) f i i 0 same (omega arith)) in
-          let product : of (c .before .multiply .result) ≡ of {q = q} (a .k) ⊗ of (getD (a .g .now) i 0) =
-          of-result _ (c .before .multiply .ensures q e) ∙ ap (λ (n : ℕ). of (a .k) ⊗ of n) (c .before .before .word-or-zero .ensures) in
-          store-up (words target) f (l .f) i (c .add .result) 0 same below (l .inv .2 q e)
-          (c .add .ensures q e ∙ ap₂ (λ (x y : Elem q). (x ⊕ y) .word) old product ∙ sum-at q f (a .k) (a .g .now) i),
+          let product : Elem q = of (a .k) ⊗ of (getD (a .g .now) i 0) in
+          store-up (words target) f (l .f) i (c .multiply-add .result) 0 same below (l .inv .2 q e)
+          (c .multiply-add .ensures q e
+          ∙ ap₂ (λ (n : ℕ) (y : Elem q). (of (a .k) ⊗ of n ⊕ y) .word) (c .before .before .word-or-zero .ensures) old
+          ∙ ap (λ (y : Elem q). y .word) (add-comm product (of (getD f i 0))) ∙ sum-at q f (a .k) (a .g .now) i),
     )
 
 same-length : tie.Need-same-length Inv-loop μ-loop
@@ -118,11 +115,10 @@ add-scaled-spec =
     Inv-loop
     μ-loop
     loop-holds
-    mul-add
-    slice-read-add
     word-or-zero-requires
-    multiply-requires
-    add-requires
+    mul-multiply-add
+    slice-read-multiply-add
+    multiply-add-requires
     mul-f
     slice-write-f
     add-i

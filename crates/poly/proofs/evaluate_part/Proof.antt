@@ -12,7 +12,7 @@ use Rattle.algebra.specs.Polynomial.{Running, running, mapRunning}
 use Rattle.algebra.proofs.PartLaws.{part-none}
 use Rattle.field.specs.Prime.{Prime}
 use Rattle.field.specs.Element.{Elem, of, wordOf, _⊕_, _⊗_}
-use Rattle.field.proofs.ElementLaws.{primeRing}
+use Rattle.field.proofs.ElementLaws.{primeRing, add-comm}
 use Rattle.field.proofs.Words.{of-result}
 use Rattle.domain.specs.Polynomial.{evalPart}
 use Rattle.domain.proofs.RunningWords.{words-back, one-more}
@@ -43,20 +43,17 @@ loop-holds c = (
       ∙ words-back q r (subst⁻¹ (λ (n : ℕ). r .sum < n) e (below .0)) (subst⁻¹ (λ (n : ℕ). r .power < n) e (below .1))),
 )
 
-mul-multiply : tie.Need-mul-multiply Inv-loop μ-loop
-mul-multiply c = search needs
+mul-multiply-add : tie.Need-mul-multiply-add Inv-loop μ-loop
+mul-multiply-add c = search needs
 
-shared-slice-read-multiply : tie.Need-shared-slice-read-multiply Inv-loop μ-loop
-shared-slice-read-multiply c = search needs
+shared-slice-read-multiply-add : tie.Need-shared-slice-read-multiply-add Inv-loop μ-loop
+shared-slice-read-multiply-add c = search needs
+
+multiply-add-requires : tie.Need-multiply-add-requires Inv-loop μ-loop
+multiply-add-requires c κs = search needs
 
 multiply-requires : tie.Need-multiply-requires Inv-loop μ-loop
 multiply-requires c κs = search needs
-
-add-requires : tie.Need-add-requires Inv-loop μ-loop
-add-requires c κs = search needs
-
-multiply-requires-2 : tie.Need-multiply-requires-2 Inv-loop μ-loop
-multiply-requires-2 c κs = search needs
 
 add-i : tie.Need-add-i Inv-loop μ-loop
 add-i c = search needs
@@ -66,8 +63,8 @@ loop-less c = search needs
 
 loop-again : tie.Need-loop-again Inv-loop μ-loop
 loop-again c =
-    let l = c .before .before .before .before .before .loop in
-    let a = c .before .before .before .before .before .before .before .args in
+    let l = c .before .before .before .before .loop in
+    let a = c .before .before .before .before .before .before .args in
     let r : Running ℕ = underWay (a .running) in
     let part : List ℕ = a .part .now in (
       search needs,
@@ -76,11 +73,10 @@ loop-again c =
           let coefficient : Elem q = of (getD part (l .i) 0) in
           let sum : of (l .sum) ≡ so-far .sum = of-result (so-far .sum) (ap (λ (r : Running ℕ). r .sum) (l .inv .1 q e below)) in
           let power : of (l .power) ≡ so-far .power = of-result (so-far .power) (ap (λ (r : Running ℕ). r .power) (l .inv .1 q e below)) in
-          let product : of (c .before .before .multiply .result) ≡ so-far .power ⊗ coefficient =
-          of-result _ (c .before .before .multiply .ensures q e) ∙ ap (λ (y : Elem q). y ⊗ coefficient) power in
           ap₂ running
-          (c .before .add .ensures q e ∙ ap₂ (λ (y z : Elem q). (y ⊕ z) .word) sum product)
-          (c .multiply2 .ensures q e ∙ ap (λ (y : Elem q). (y ⊗ of (a .x)) .word) power)
+          (c .before .multiply-add .ensures q e ∙ ap₂ (λ (y z : Elem q). (y ⊗ coefficient ⊕ z) .word) power sum
+          ∙ ap (λ (y : Elem q). y .word) (add-comm (so-far .power ⊗ coefficient) (so-far .sum)))
+          (c .multiply .ensures q e ∙ ap (λ (y : Elem q). (y ⊗ of (a .x)) .word) power)
           ∙ ap (mapRunning wordOf)
           (one-more (mapRunning of r) (of (a .x)) part (l .i) (omega arith) ∙ ap (after q r (a .x) part) (sym (add-one (l .i)))),
     )
@@ -100,11 +96,10 @@ evaluate-part-spec =
     Inv-loop
     μ-loop
     loop-holds
-    mul-multiply
-    shared-slice-read-multiply
+    mul-multiply-add
+    shared-slice-read-multiply-add
+    multiply-add-requires
     multiply-requires
-    add-requires
-    multiply-requires-2
     add-i
     loop-less
     loop-again

@@ -7,7 +7,7 @@ use lib.ListN.{length, getD, length-set}
 use Rattle.algebra.specs.Lists.{tabulate}
 use Rattle.field.specs.Prime.{Prime}
 use Rattle.field.specs.Element.{Elem, of, 𝟘, words, _⊕_, _⊗_}
-use Rattle.field.proofs.Words.{of-result}
+use Rattle.field.proofs.ElementLaws.{add-comm}
 use Rattle.poly.proofs.WordLists.{element-at}
 use Rattle.protocol.specs.Circuit.{Entry, rowSum}
 use Rattle.protocol.specs.Calls.{entriesOf}
@@ -75,43 +75,38 @@ shared-slice-read-column c = omega arith
 cast-column : tie.Need-cast-column Inv-loop μ-loop
 cast-column c = omega (arith, c .shared-slice-known4 .given (3 * c .before .before .before .loop .i + 1))
 
-mul-multiply : tie.Need-mul-multiply Inv-loop μ-loop
-mul-multiply c = omega arith
+mul-multiply-add : tie.Need-mul-multiply-add Inv-loop μ-loop
+mul-multiply-add c = omega arith
 
-add-multiply : tie.Need-add-multiply Inv-loop μ-loop
-add-multiply c = omega arith
+add-multiply-add : tie.Need-add-multiply-add Inv-loop μ-loop
+add-multiply-add c = omega arith
 
-mul-multiply-2 : tie.Need-mul-multiply-2 Inv-loop μ-loop
-mul-multiply-2 c = omega arith
+mul-multiply-add-2 : tie.Need-mul-multiply-add-2 Inv-loop μ-loop
+mul-multiply-add-2 c = omega arith
 
-shared-slice-read-multiply : tie.Need-shared-slice-read-multiply Inv-loop μ-loop
-shared-slice-read-multiply c = omega arith
+shared-slice-read-multiply-add : tie.Need-shared-slice-read-multiply-add Inv-loop μ-loop
+shared-slice-read-multiply-add c = omega arith
 
-mul-multiply-3 : tie.Need-mul-multiply-3 Inv-loop μ-loop
-mul-multiply-3 c =
-    let l = c .before .before .before in
-    omega (arith, place l .column-below)
+mul-multiply-add-3 : tie.Need-mul-multiply-add-3 Inv-loop μ-loop
+mul-multiply-add-3 c = omega (arith, place (c .before .before .before) .column-below)
 
-shared-slice-read-multiply-2 : tie.Need-shared-slice-read-multiply-2 Inv-loop μ-loop
-shared-slice-read-multiply-2 c = place (c .before .before .before .before) .column-below
+shared-slice-read-multiply-add-2 : tie.Need-shared-slice-read-multiply-add-2 Inv-loop μ-loop
+shared-slice-read-multiply-add-2 c = place (c .before .before .before .before) .column-below
 
-multiply-requires : tie.Need-multiply-requires Inv-loop μ-loop
-multiply-requires c κs = omega arith
+mul-multiply-add-4 : tie.Need-mul-multiply-add-4 Inv-loop μ-loop
+mul-multiply-add-4 c = omega (arith, place (c .before .before .before .before) .row-below)
 
-mul-add : tie.Need-mul-add Inv-loop μ-loop
-mul-add c = omega (arith, place (c .before .before .before .before .before) .row-below)
+slice-read-multiply-add : tie.Need-slice-read-multiply-add Inv-loop μ-loop
+slice-read-multiply-add c = omega (arith, place (c .before .before .before .before .before) .row-below)
 
-slice-read-add : tie.Need-slice-read-add Inv-loop μ-loop
-slice-read-add c = omega (arith, place (c .before .before .before .before .before .before) .row-below)
-
-add-requires : tie.Need-add-requires Inv-loop μ-loop
-add-requires c κs = omega arith
+multiply-add-requires : tie.Need-multiply-add-requires Inv-loop μ-loop
+multiply-add-requires c κs = omega arith
 
 mul-out : tie.Need-mul-out Inv-loop μ-loop
-mul-out c = omega (arith, place (c .before .before .before .before .before .before .before) .row-below)
+mul-out c = omega (arith, place (c .before .before .before .before .before .before) .row-below)
 
 slice-write-out : tie.Need-slice-write-out Inv-loop μ-loop
-slice-write-out c = omega (arith, place (c .before .before .before .before .before .before .before) .row-below)
+slice-write-out c = omega (arith, place (c .before .before .before .before .before .before) .row-below)
 
 add-i : tie.Need-add-i Inv-loop μ-loop
 add-i c = omega arith
@@ -121,21 +116,21 @@ loop-less c = omega arith
 
 loop-again : tie.Need-loop-again Inv-loop μ-loop
 loop-again c =
-    let turn = c .before .before .before .before .before .before .before in
+    let turn = c .before .before .before .before .before .before in
     let a = start turn .args in
     let l = turn .before .loop in
     let es : List Entry = entriesOf (a .entries .now) in
     let e : Entry = entryWords (a .entries .now) (l .i) in
     let below : l .i < length es = omega (arith, length-entriesOf (a .entries .now)) in (
       omega arith,
-      length-set (l .out) (e .row) (c .add .result) ∙ l .inv .1,
+      length-set (l .out) (e .row) (c .multiply-add .result) ∙ l .inv .1,
       λ q same.
           let z : List (Elem q) = map of (a .z .now) in
-          let product : of (c .before .before .multiply .result) ≡ of (e .value) ⊗ getD z (e .column) 𝟘 =
-          of-result _ (c .before .before .multiply .ensures q same) ∙ ap (λ x. of (e .value) ⊗ x) (element-at (a .z .now) (e .column)) in
-          summed-turn z es (l .out) (l .i) e (c .add .result) below (entry-at (a .entries .now) (l .i) e below)
+          let old : Elem q = of (getD (l .out) (e .row) 0) in
+          summed-turn z es (l .out) (l .i) e (c .multiply-add .result) below (entry-at (a .entries .now) (l .i) e below)
           (omega (arith, place turn .row-below))
-          (c .add .ensures q same ∙ ap (λ x. (of (getD (l .out) (e .row) 0) ⊕ x) .word) product) (l .inv .2 q same),
+          (c .multiply-add .ensures q same ∙ ap (λ (x : Elem q). (of (e .value) ⊗ x ⊕ old) .word) (element-at (a .z .now) (e .column))
+          ∙ ap (λ (x : Elem q). x .word) (add-comm (of (e .value) ⊗ getD z (e .column) 𝟘) old)) (l .inv .2 q same),
     )
 
 same-length : tie.Need-same-length Inv-loop μ-loop
@@ -168,16 +163,15 @@ row-sums-spec =
     mul-column-2
     shared-slice-read-column
     cast-column
-    mul-multiply
-    add-multiply
-    mul-multiply-2
-    shared-slice-read-multiply
-    mul-multiply-3
-    shared-slice-read-multiply-2
-    multiply-requires
-    mul-add
-    slice-read-add
-    add-requires
+    mul-multiply-add
+    add-multiply-add
+    mul-multiply-add-2
+    shared-slice-read-multiply-add
+    mul-multiply-add-3
+    shared-slice-read-multiply-add-2
+    mul-multiply-add-4
+    slice-read-multiply-add
+    multiply-add-requires
     mul-out
     slice-write-out
     add-i
