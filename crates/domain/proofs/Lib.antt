@@ -11,6 +11,7 @@ pub mod Interpolation
 pub mod TransformLaws
 pub mod Lagrange
 pub mod LagrangeHalving
+pub mod LagrangeSums
 pub mod Division
 pub mod Fill
 pub mod RunningWords

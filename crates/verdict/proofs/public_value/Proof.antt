@@ -12,7 +12,8 @@ use Rattle.field.proofs.ElementLaws.{primeRing}
 use Rattle.field.proofs.Words.{word-of}
 use Rattle.field.specs.Element.{of}
 use Rattle.field.specs.Prime.{Prime}
-use Rattle.verdict.proofs.PublicValue.{term, interpolate-sum, next-element, next-sum}
+use Rattle.domain.proofs.LagrangeSums.{term, interpolate-sum}
+use Rattle.verdict.proofs.PublicValue.{next-element, next-sum}
 use borrow.Author.Needs.{needs}
 use lib.ListN.{length}
 use mathlib.Core.List.{map}
