@@ -109,7 +109,8 @@ module _ {q : Prime} (Q : Qualifies q) (h : ℕ) (s : isSize h ≡ true) (t : is
     reciprocal-half =
         ring-by R (of n ∷ of h ∷ reciprocal (of n) ∷ reciprocal (of h) ∷ share ∷ [])
         (λ n m d r s. d := s :* r from
-        ((s :* r) ⊙ (n :* d := :1)) ∷ ((:- (s :* r :* d)) ⊙ (n := m :+ m)) ∷ ((:- ((s :+ s) :* d)) ⊙ (m :* r := :1)) ∷ ((:- d) ⊙ (s :+ s := :1)) ∷ [])
+        ((s :* r) ⊙ (n :* d := :1)) ∷ ((:- (s :* r :* d)) ⊙ (n := m :+ m)) ∷ ((:- ((s :+ s) :* d)) ⊙ (m :* r := :1))
+        ∷ ((:- d) ⊙ (s :+ s := :1)) ∷ [])
         (mul-reciprocal (of n) (size-not-zero n t), (of-add h h, (mul-reciprocal (of h) (size-not-zero h s), (two, tt)))) tt
 
     -- for b = 1/a with b² = 1/a²
@@ -143,7 +144,8 @@ module _ {q : Prime} (Q : Qualifies q) (h : ℕ) (s : isSize h ≡ true) (t : is
       lagrange-high =
           let c : Elem q = element n (n - (h + i)) in
           let less : n - (h + i) ≡ h - i = omega arith in
-          let opposite : element n (n - i) ≡ neg 𝟙 ⊗ c = ap (element n) past ∙ element-past (h - i) ∙ ap (λ k. neg 𝟙 ⊗ element n k) (sym less) in
+          let opposite : element n (n - i) ≡ neg 𝟙 ⊗ c =
+          ap (element n) past ∙ element-past (h - i) ∙ ap (λ k. neg 𝟙 ⊗ element n k) (sym less) in
           ring-by R
           (lagrangeAt n y (h + i) ∷ lagrangeAt h (y ⊗ y) i ∷ lagrangeAt n y i ∷ c ∷ element n (n - i) ∷ share ∷ y ∷ [])
           (λ u w l c b s y. u := w :- l from
@@ -222,5 +224,6 @@ module _ {q : Prime} (h : ℕ) (y : Elem q) (l : List ℕ) (two : length l ≡ h
         | yes k<h ↦ d .low k (omega arith) k<h
         | no ge ↦
             let e : h + (k - h) ≡ k = omega arith in
-            ap (λ (k : ℕ). getD l k 0) (sym e) ∙ d .high (k - h) (omega arith) (omega arith) ∙ ap (λ (k : ℕ). lagrangeAt (h + h) y k .word) e
+            ap (λ (k : ℕ). getD l k 0) (sym e) ∙ d .high (k - h) (omega arith) (omega arith)
+            ∙ ap (λ (k : ℕ). lagrangeAt (h + h) y k .word) e
       ]

@@ -2,16 +2,18 @@
 // remainders.
 ghost use mathlib.Core.Path.{_≡_};
 ghost use mathlib.Core.Bool.{true};
+ghost use mathlib.Core.List.{map};
 ghost use Prim.Native.Nat.{ℕ, _/_, _<_};
 ghost use lib.ListN.{length, take};
 ghost use Rattle.algebra.specs.Lists.{tabulate};
 ghost use Rattle.algebra.specs.Ring.{pow};
 ghost use Rattle.field.specs.Prime.{Prime};
-ghost use Rattle.field.specs.Element.{of, _⊗_, words};
+ghost use Rattle.field.specs.Element.{Elem, of, _⊗_, words};
 ghost use Rattle.field.specs.Power.{reciprocal};
 ghost use Rattle.field.proofs.ElementLaws.{primeRing};
 ghost use Rattle.domain.specs.Size.{isSize, sizeFor};
 ghost use Rattle.domain.specs.Domain.{root, element, domain, inside, vanishing, lagrange};
+ghost use Rattle.domain.specs.Polynomial.{eval, interpolate};
 ghost use Rattle.domain.specs.Qualifies.{Qualifies};
 ghost use Rattle.domain.specs.Known.{Known, InDomain};
 
@@ -187,4 +189,21 @@ pub fn lagrange_values_into(p: u32, y: u32, out: &mut [u32])
     let g = root_of(p, n);
     lagrange_values_into(p, field::multiply(p, y, y), &mut out[..half]);
     double_lagrange(p, g, y, out);
+}
+
+// The value at y of the polynomial that has the given values on a domain: the sum of the values times the domain's Lagrange values at y.
+pub fn interpolated_at(p: u32, weights: &[u32], values: &[u32]) -> u32
+    requires { ⌜ 0 < p ⌝ }
+    requires { ⌜ length (now values) ≡ length (now weights) ⌝ }
+    ensures { λ r. ⌜ ((q : Prime) → Qualifies q → q .p ≡ p → (n : ℕ) → isSize n ≡ true → (y : Elem q)
+        → now (weights .entry) ≡ words (tabulate n (λ i. lagrange n (element n i) y))
+        → r ≡ (eval (interpolate n (map of (now (values .entry)))) y) .word) ⌝ }
+{
+    let mut sum: u32 = 0;
+    let mut i = 0;
+    while i < weights.len() {
+        sum = field::multiply_add(p, values[i], weights[i], sum);
+        i += 1;
+    }
+    sum
 }

@@ -14,8 +14,8 @@ use Rattle.domain.specs.Size.{isSize}
 use Rattle.domain.specs.Domain.{root}
 use Rattle.domain.specs.Qualifies.{Qualifies}
 use Rattle.domain.proofs.SizeLaws.{size-halves}
-use Rattle.domain.proofs.LagrangeHalving.{half-twice, half-below, lagrangeAt, lagrange-low, lagrange-high, halfQuotient, quotient-begins}
-use Rattle.domain.proofs.LagrangeHalving.{quotient-turn, Doubling, doubling-none, doubling-turn, doubling-end}
+use Rattle.domain.proofs.LagrangeHalving.{half-twice, half-below, lagrangeAt, lagrange-low, lagrange-high, halfQuotient}
+use Rattle.domain.proofs.LagrangeHalving.{quotient-begins, quotient-turn, Doubling, doubling-none, doubling-turn, doubling-end}
 use Rattle.domain.proofs.double_lagrange.Statement.{statement}
 use Rattle.domain.proofs.double_lagrange.Tie as tie
 
@@ -156,7 +156,8 @@ returns c q Q e is-root filled =
     let h : ℕ = length (a .out .now) / 2 in
     let (two, size) = halves s in
     let done : l .i ≡ 0 = omega arith in
-    doubling-end h (of (a .y)) (l .out) (l .inv .1 ∙ two) (subst (Doubling h (of {q = q} (a .y)) (l .out)) done (l .inv .2 q Q e is-root filled .1))
+    doubling-end h (of (a .y)) (l .out) (l .inv .1 ∙ two)
+    (subst (Doubling h (of {q = q} (a .y)) (l .out)) done (l .inv .2 q Q e is-root filled .1))
     ∙ ap (λ (n : ℕ). words (tabulate n (lagrangeAt n (of {q = q} (a .y))))) (sym two)
 
 pub double-lagrange-spec : {M : Type 1} → statement M

@@ -29,7 +29,8 @@ returns : tie.Need-returns
 returns c q e =
     let a = c .before .before .before .before .args in
     c .reduce .ensures
-    ∙ ap₂ (λ (m n : ℕ). (m * n + c .before .wide3 .result) % a .p) (c .before .before .before .wide .ensures .0) (c .before .before .wide2 .ensures .0)
+    ∙ ap₂ (λ (m n : ℕ). (m * n + c .before .wide3 .result) % a .p)
+    (c .before .before .before .wide .ensures .0) (c .before .before .wide2 .ensures .0)
     ∙ ap (λ (k : ℕ). (a .a * a .b + k) % a .p) (c .before .wide3 .ensures .0)
     ∙ sym (word-multiply-add q (a .a) (a .b) (a .c) ∙ ap (λ (n : ℕ). (a .a * a .b + a .c) % n) e)
 
