@@ -5,6 +5,7 @@ pub mod Counting
 pub mod SumLaws
 pub mod PolynomialLaws
 pub mod PartLaws
+pub mod TwistLaws
 pub mod RootBound
 pub mod Division
 pub mod Unity

@@ -1,7 +1,8 @@
 -- Polynomials in one variable Y: lists of coefficients, the constant first, zeros at the end kept. Assumes nothing.
 use mathlib.Core.List.{List, [], _∷_}
 use Prim.Native.Nat.{ℕ, zero, suc}
-use lib.ListN.{length, take, drop, replicate}
+use lib.ListN.{length, getD, take, drop, replicate}
+use Rattle.algebra.specs.Lists.{tabulate}
 use Rattle.algebra.specs.Ring.{CommRing, pow}
 
 -- an evaluation under way: the sum so far, and the power of the point that the next coefficient is multiplied by
@@ -54,6 +55,10 @@ module _ {A : Type 0} (R : CommRing A) where
   abbrev pub mul : List A → List A → List A
   mul [] g = []
   mul (a ∷ f) g = add (scale a g) (𝟘 ∷ mul f g)
+
+  -- f(s·Y): coefficient i times s^i
+  abbrev pub twist : A → List A → List A
+  twist s f = tabulate (length f) (λ i. pow R s i ⊗ getD f i 𝟘)
 
   -- Division by Y^n - 1. With f = low + Y^n · high, where low has n coefficients: the quotient of f is high plus the
   -- quotient of high, and the remainder of f is low plus the remainder of high. In closed form coefficient i of the quotient is

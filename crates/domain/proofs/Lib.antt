@@ -13,6 +13,7 @@ pub mod Lagrange
 pub mod LagrangeHalving
 pub mod LagrangeSums
 pub mod Division
+pub mod Products
 pub mod Fill
 pub mod RunningWords
 pub mod ExactDivision

@@ -2,3 +2,5 @@ pub mod FilledHalves
 pub mod Halves
 pub mod Parts
 pub mod Directions
+pub mod CosetLaws
+pub mod CosetWords

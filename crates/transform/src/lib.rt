@@ -16,6 +16,8 @@ ghost use Rattle.domain.specs.Polynomial.{_·_, valuesOn, interpolate as interp
 ghost use Rattle.domain.specs.Qualifies.{Qualifies};
 ghost use Rattle.transform.specs.Reading.{PowersOf, spread};
 
+pub mod product;
+
 // As many powers as the largest size needs: half of it.
 const MAX_POWERS: usize = 512;
 
