@@ -1,9 +1,10 @@
--- Division by Y^n - 1: what the quotient and the remainder of a polynomial are, by values and lengths. Assumes nothing.
-use mathlib.Core.Path.{_≡_}
+-- Division by Y^n - 1: what the quotient and the remainder of a polynomial are, by values and lengths, and that a summand of length at
+-- most n does not change the quotient. Assumes nothing.
+use mathlib.Core.Path.{_≡_, refl, sym, ap, _∙_}
 use mathlib.Core.List.{List, [], _∷_}
 use Prim.Native.Nat.{ℕ, zero, suc, _-_, _≤_, _<_}
 use native.Mathlib.Omega.{arith}
-use lib.ListN.{length, take, drop, length-take, length-drop, length-replicate}
+use lib.ListN.{length, take, drop, length-take, length-drop, length-replicate, drop-of-length-le}
 use Rattle.algebra.specs.Ring.{CommRing, pow}
 use Rattle.algebra.specs.Polynomial.{eval, add, quotientIn, remainderIn, quotient, remainder}
 use Rattle.algebra.proofs.Solver.{_:+_, _:-_, _:*_, :-_, :0, :1, _:=_, _⊙_, _from_, ring-by}
@@ -50,3 +51,19 @@ module _ {A : Type 0} (R : CommRing A) where
   pub division : (n : ℕ) (f : List A) (x : A) → 0 < n
       → eval R f x ≡ eval R (quotient R n f) x ⊗ (pow R x n ⊕ neg 𝟙) ⊕ eval R (remainder R n f) x
   division n f x pos = divisionIn (length f) n f x pos (omega arith)
+
+  drop-add-short : (n : ℕ) (f h : List A) → length h ≤ n → drop n (add R f h) ≡ drop n f
+  drop-add-short n [] h le = drop-of-length-le h le ∙ sym (drop-of-length-le [] {i = n} (omega arith))
+  drop-add-short n (a ∷ f) [] le = refl
+  drop-add-short zero (a ∷ f) (b ∷ h) le = absurd (omega arith)
+  drop-add-short (suc n) (a ∷ f) (b ∷ h) le = drop-add-short n f h (omega arith)
+
+  quotientIn-add-short : (k n : ℕ) (f h : List A) → length h ≤ n → quotientIn R k n (add R f h) ≡ quotientIn R k n f
+  quotientIn-add-short zero n f h le = refl
+  quotientIn-add-short (suc k) n f h le = ap (λ g. add R g (quotientIn R k n g)) (drop-add-short n f h le)
+
+  -- the quotient of f + h is that of f, where h is not longer than n
+  pub quotient-add-short : (n : ℕ) (f h : List A) → length h ≤ n → n ≤ length f → quotient R n (add R f h) ≡ quotient R n f
+  quotient-add-short n f h short long =
+      let same : length (add R f h) ≡ length f = omega (arith, length-add R f h) in
+      ap (λ (k : ℕ). quotientIn R k n (add R f h)) same ∙ quotientIn-add-short (length f) n f h short

@@ -10,7 +10,7 @@ use borrow.Author.Tests.{eqb-true, eq-eqb}
 use Rattle.algebra.proofs.RingLaws.{mul-zero}
 use Rattle.field.specs.Prime.{Prime}
 use Rattle.field.specs.Element.{Elem, of, 𝟘, _⊕_, _⊗_, equal}
-use Rattle.field.proofs.ElementLaws.{add-zero, primeRing}
+use Rattle.field.proofs.ElementLaws.{primeRing}
 use Rattle.field.proofs.Field.{equal-true, true-equal, no-zero-divisors}
 use Rattle.domain.specs.Size.{isSize}
 use Rattle.domain.specs.Domain.{sumOver}
@@ -20,20 +20,17 @@ use Rattle.domain.proofs.SizeLaws.{size-positive, size-not-zero}
 use Rattle.domain.proofs.ListLaws.{same-test}
 use Rattle.domain.proofs.Division.{sum-of-remainder}
 use Rattle.domain.proofs.Membership.{zero-word, word-zero}
-use Rattle.poly.proofs.Coefficients.{folds, coefficient-remainder, folds-turn, folds-past}
+use Rattle.poly.proofs.Coefficients.{short-remainder-at}
 use Rattle.poly.proofs.WordLists.{element-at}
 
 module _ {q : Prime} (Q : Qualifies q) (n : ℕ) (s : isSize n ≡ true) where
   pub sum-of-double : (f : Poly q) → length f ≡ 2 * n → sumOver n (eval f) ≡ of n ⊗ (getD f 0 𝟘 ⊕ getD f n 𝟘)
   sum-of-double f e =
       let positive : 0 < n = size-positive n s in
-      let start : 0 + n ≡ n = omega arith in
+      let end : n + 0 ≡ n = omega arith in
       sum-of-remainder Q n s f
       ∙ ap (λ x. of n ⊗ x)
-      (coefficient-remainder (primeRing q) n positive f 0 positive ∙ folds-turn (primeRing q) n positive f 0
-      ∙ ap (λ x. getD f 0 𝟘 ⊕ x)
-      (ap (folds (primeRing q) n f) start ∙ folds-turn (primeRing q) n positive f n
-      ∙ ap (λ x. getD f n 𝟘 ⊕ x) (folds-past (primeRing q) n positive f (n + n) (omega arith)) ∙ add-zero (getD f n 𝟘)))
+      (short-remainder-at (primeRing q) n positive f (omega arith) 0 positive ∙ ap (λ (i : ℕ). getD f 0 𝟘 ⊕ getD f i 𝟘) end)
 
   -- the mask's test, from the word r of m_0 + m_n
   pub mask-test : (m : List ℕ) → length m ≡ 2 * n → (r : ℕ) → r ≡ (of {q = q} (getD m 0 0) ⊕ of (getD m n 0)) .word

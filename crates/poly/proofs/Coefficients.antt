@@ -4,10 +4,11 @@ use mathlib.Core.Path.{_≡_, refl, sym, ap, ap₂, _∙_}
 use mathlib.Core.List.{List, [], _∷_}
 use Prim.Native.Nat.{ℕ, zero, suc, _+_, _≤_, _<_}
 use native.Mathlib.Omega.{arith}
-use lib.ListN.{length, getD, take, drop, length-drop, getD-replicate}
+use lib.ListN.{length, getD, take, drop, length-drop, getD-replicate, List·getD-eq-default}
 use lib.Seq.{take-nil, drop-nil, getD-take, getD-drop, drop-drop}
 use Rattle.algebra.specs.Ring.{CommRing}
 use Rattle.algebra.specs.Polynomial.{add, scale, mul, quotientIn, remainderIn, quotient, remainder}
+use Rattle.algebra.proofs.Division.{length-quotient}
 use Rattle.algebra.proofs.RingLaws.{zero-add, mul-zero}
 
 module _ {A : Type 0} (R : CommRing A) where
@@ -143,3 +144,20 @@ module _ {A : Type 0} (R : CommRing A) where
         ap (λ (g : List A). getD g 0 𝟘)
         (remainder-turns (length f) 0 (drop j f) (omega (arith, length-drop j f)) (omega (arith, length-drop j f)))
         ∙ getD-replicate n 0 𝟘 𝟘 positive
+
+    -- of at most 2n coefficients: q_i = f_(n+i) and r_i = f_i + f_(n+i)
+    pub short-quotient-at : (f : List A) → length f ≤ n + n → (i : ℕ) → getD (quotient R n f) i 𝟘 ≡ getD f (n + i) 𝟘
+    short-quotient-at f short i =
+        let e : i + n ≡ n + i = omega arith in
+        coefficient-quotient f i
+        ∙ ap (λ x. getD f (i + n) 𝟘 ⊕ x)
+        (List·getD-eq-default (quotient R n f) 𝟘 {n = i + n} (omega (arith, length-quotient R n f positive)))
+        ∙ add-zero (getD f (i + n) 𝟘) ∙ ap (λ (j : ℕ). getD f j 𝟘) e
+
+    pub short-remainder-at : (f : List A) → length f ≤ n + n → (i : ℕ) → i < n → getD (remainder R n f) i 𝟘 ≡ getD f i 𝟘 ⊕ getD f (n + i) 𝟘
+    short-remainder-at f short i below =
+        let e : i + n ≡ n + i = omega arith in
+        coefficient-remainder f i below ∙ folds-turn f i
+        ∙ ap (λ x. getD f i 𝟘 ⊕ x)
+        (folds-turn f (i + n) ∙ ap (λ x. getD f (i + n) 𝟘 ⊕ x) (folds-past f (i + n + n) (omega arith)) ∙ add-zero (getD f (i + n) 𝟘)
+        ∙ ap (λ (j : ℕ). getD f j 𝟘) e)

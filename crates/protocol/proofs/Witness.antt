@@ -62,7 +62,7 @@ module _ {q : Prime} (Q : Qualifies q) (c : Circuit) (W : WellFormed (q .p) c) (
   abbrev ẑ : Poly q
   ẑ = assignment c (publicPart c z) (witness c z r)
 
-  eval-ẑ : (y : Elem q) → eval ẑ y ≡ eval zPoly y ⊕ r ⊗ vanishing (c .|C|) y
+  pub eval-ẑ : (y : Elem q) → eval ẑ y ≡ eval zPoly y ⊕ r ⊗ vanishing (c .|C|) y
   unfolding witness publicPoly assignmentValue sizesOf
   eval-ẑ y =
       let high : Poly q = quotient (c .|X|) (zPoly ⊟ xPoly) in

@@ -25,12 +25,6 @@ module _ {p r c x : ℕ} {ea eb ec z m : List ℕ} (F : Fits p r c x ea eb ec z 
   pub witness-bound : c - x + 1 ≤ 1024
   witness-bound = omega (arith, size-bound c (C-fits F), size-positive x (X-fits F), X-below F)
 
-  pub assignment-bound : c + 1 ≤ 1025
-  assignment-bound = omega (arith, size-bound c (C-fits F))
-
-  pub line-bound : 2 * c ≤ 2048
-  line-bound = omega (arith, size-bound c (C-fits F))
-
   -- ẑ has the values z on C
   pub assignment-on-C : {q : Prime} → q .p ≡ p → Qualifies q → (mask : ℕ)
       → valuesOn (circuitOf (given r c x ea eb ec) .|C|) (assignmentIn q (proverInput r c x ea eb ec z mask m)) ≡ map of z

@@ -1,48 +1,40 @@
--- The line m + Σ η_M M̂(α,Y) ẑ(Y) as the code computes it: a pass over the entries that adds to columns, the weighted sums of three
--- matrices, and the product with ẑ. Assumes nothing.
+-- The values of Σ η_M M̂(α,Y) on C as the code computes them: a pass over the entries that adds to columns, and the weighted sums of
+-- three matrices. Assumes nothing.
 use mathlib.Core.Path.{_≡_, refl, sym, ap, ap₂, _∙_, subst}
-use mathlib.Core.List.{List, [], _∷_, map, tail}
-use Prim.Native.Nat.{ℕ, zero, suc, _+_, _≤_, _<_}
+use mathlib.Core.List.{List, [], _∷_, map}
+use Prim.Native.Nat.{ℕ, _+_, _≤_, _<_}
 use native.Mathlib.Omega.{arith}
 use native.Mathlib.Numerals.{add-one}
 use native.Mathlib.Decide.{ℕ-discrete}
 use borrow.Author.Tests.{eq-eqb, ne-eqb}
 use lib.Dec.{eqb}
-use lib.ListN.{length, getD, take, drop, set, length-map, drop-of-length-le, List·getD-map}
-use lib.Seq.{drop-cons, getD-set-same, getD-set-other, getD-take}
+use lib.ListN.{length, getD, drop, set, replicate, length-map, length-replicate, drop-of-length-le, List·getD-map}
+use lib.Seq.{drop-cons, getD-set-same, getD-set-other}
 use Rattle.algebra.specs.Counting.{All}
 use Rattle.algebra.specs.Lists.{pick, tabulate}
 use Rattle.algebra.specs.Ring.{CommRing}
 use Rattle.algebra.specs.Sum.{sumList}
 use Rattle.algebra.proofs.Choice.{pick-true, pick-false}
 use Rattle.algebra.proofs.Counting.{all-map}
+use Rattle.algebra.proofs.ListLaws.{tabulate-ext}
 use Rattle.algebra.proofs.PolynomialLaws.{length-tabulate, getD-tabulate}
 use Rattle.algebra.proofs.RingLaws.{zero-add}
 use Rattle.algebra.proofs.Solver.{_:+_, _:*_, :0, _:=_, ring}
 use Rattle.algebra.proofs.SumLaws.{sumList-ext}
 use Rattle.field.specs.Prime.{Prime}
-use Rattle.field.specs.Element.{Elem, of, 𝟘, words, _⊕_, _⊗_}
+use Rattle.field.specs.Element.{Elem, of, 𝟘, _⊕_, _⊗_}
 use Rattle.field.proofs.ElementLaws.{primeRing}
 use Rattle.field.proofs.Words.{of-result}
 use Rattle.domain.specs.Domain.{element, lagrange}
-use Rattle.domain.specs.Polynomial.{Poly, _⊞_, _⊠_, remainder, interpolate}
-use Rattle.domain.specs.Qualifies.{Qualifies}
 use Rattle.domain.proofs.ListLaws.{equal-entries}
 use Rattle.protocol.specs.Three.{MatrixName, A, B, C, Three, at, each, mapThree}
 use Rattle.protocol.specs.Circuit.{Entry, Circuit}
 use Rattle.protocol.specs.Checks.{weighted}
-use Rattle.protocol.specs.Messages.{line, lineRemainder}
-use Rattle.protocol.proofs.AdmissionLaws.{WellFormed}
-use Rattle.protocol.proofs.ProverForms.{columnSum, weighted-by-columns}
+use Rattle.protocol.proofs.ProverForms.{columnSum}
 use Rattle.circuit.specs.Given.{Within, EachWithin, entryLists}
-use Rattle.prover.specs.LineSums.{columnTotal}
-use Rattle.poly.proofs.LentParts.{part-length}
-use Rattle.prover.proofs.WitnessLaws.{plus-comm}
-
--- functions that are equal below n have the same list
-tabulate-ext : {T : Type 0} (n : ℕ) (f g : ℕ → T) → ((i : ℕ) → i < n → f i ≡ g i) → tabulate n f ≡ tabulate n g
-tabulate-ext zero f g h = refl
-tabulate-ext (suc n) f g h = ap₂ _∷_ (h 0 (omega arith)) (tabulate-ext n (λ i. f (suc i)) (λ i. g (suc i)) (λ i l. h (suc i) (omega arith)))
+use Rattle.prover.specs.EntrySums.{columnTotal}
+use Rattle.poly.proofs.WordLists.{replicate-at}
+use Rattle.prover.proofs.RowLaws.{rowValues}
 
 module _ (q : Prime) (η : Elem q) (rows : List (Elem q)) where
   abbrev R : CommRing (Elem q)
@@ -59,7 +51,7 @@ module _ (q : Prime) (η : Elem q) (rows : List (Elem q)) where
     adding-none j = refl
 
     pub adding-turn : (out : List ℕ) (i : ℕ) (e : Entry) (r : ℕ) → i < length es → getD es i e ≡ e → e .column < length out
-        → r ≡ (of (getD out (e .column) 0) ⊕ η ⊗ (of (e .value) ⊗ getD rows (e .row) 𝟘)) .word → Adding es before out i
+        → r ≡ (η ⊗ (of (e .value) ⊗ getD rows (e .row) 𝟘) ⊕ of (getD out (e .column) 0)) .word → Adding es before out i
         → Adding es before (set out (e .column) r) (i + 1)
     unfolding Adding columnTotal
     adding-turn out i e r within here column made so-far j =
@@ -84,8 +76,8 @@ module _ (q : Prime) (η : Elem q) (rows : List (Elem q)) where
         changed same =
             ap (λ (x : Elem q). x ⊕ η ⊗ columnTotal rows rest j)
             (ap (λ (c : ℕ). of (getD (set out (e .column) r) c 0)) same ∙ ap of (getD-set-same out (e .column) r 0 column) ∙ of-result _ made
-            ∙ ap (λ (c : ℕ). of (getD out c 0) ⊕ η ⊗ term) (sym same))
-            ∙ ring R (of (getD out j 0) ∷ η ∷ term ∷ columnTotal rows rest j ∷ []) (λ o h t s. o :+ h :* t :+ h :* s := o :+ h :* (t :+ s)) tt
+            ∙ ap (λ (c : ℕ). η ⊗ term ⊕ of (getD out c 0)) (sym same))
+            ∙ ring R (of (getD out j 0) ∷ η ∷ term ∷ columnTotal rows rest j ∷ []) (λ o h t s. h :* t :+ o :+ h :* s := o :+ h :* (t :+ s)) tt
             ∙ ap (λ (x : Elem q). of (getD out j 0) ⊕ η ⊗ (x ⊕ columnTotal rows rest j)) (sym (pick-true term 𝟘 (eq-eqb (e .column) j (sym same))))
             ∙ last
 
@@ -124,17 +116,11 @@ module _ {q : Prime} where
   gather n o a b c = tabulate-ext n _ _ (λ j below.
       ring (primeRing q) (o j ∷ a j ∷ b j ∷ c j ∷ []) (λ o a b c. o :+ a :+ b :+ c := o :+ (a :+ b :+ c)) tt)
 
-  -- sums that begin with 0 in the first n entries of an array
-  from-zero : (n : ℕ) (d : List ℕ) → n ≤ length d → ((j : ℕ) → getD d j 0 ≡ 0) → (f : ℕ → Elem q)
-      → tabulate (length (take n d)) (λ j. of (getD (take n d) j 0) ⊕ f j) ≡ tabulate n f
-  from-zero n d within zeros f =
-      ap (λ (m : ℕ). tabulate m (λ j. of (getD (take n d) j 0) ⊕ f j)) (sym (part-length n d within))
-      ∙ tabulate-ext n _ f (λ j below.
-      ap (λ (w : ℕ). of w ⊕ f j) (getD-take n d j 0 below ∙ zeros j) ∙ zero-add (primeRing q) (f j))
-
--- L of each row at α
-abbrev pub rowValues : {q : Prime} → ℕ → Elem q → List (Elem q)
-rowValues r α = tabulate r (λ i. lagrange r (element r i) α)
+  -- sums that begin with 0
+  from-zero : (n : ℕ) (f : ℕ → Elem q) → tabulate (length {A = ℕ} (replicate n 0)) (λ j. of (getD {A = ℕ} (replicate n 0) j 0) ⊕ f j) ≡ tabulate n f
+  from-zero n f =
+      ap (λ (m : ℕ). tabulate m (λ j. of (getD {A = ℕ} (replicate n 0) j 0) ⊕ f j)) (length-replicate n 0)
+      ∙ tabulate-ext n _ f (λ j below. ap (λ (w : ℕ). of w ⊕ f j) (replicate-at 0 n j) ∙ zero-add (primeRing q) (f j))
 
 module _ (q : Prime) (k : Circuit) {r : ℕ} (c : ℕ) (eR : k .|R| ≡ r) (α : Elem q) where
   column-total : (M : MatrixName) {es : List Entry} → at (k .matrices) M ≡ es → All (Within r c) es → (j : ℕ)
@@ -161,14 +147,15 @@ module _ (q : Prime) (k : Circuit) {r : ℕ} (c : ℕ) (eR : k .|R| ≡ r) (α :
         c = column-total C (ap (λ (l : Three (List Entry)). l .c) matrices) (inside .in-c) j t;
       }))
 
-  -- added to zeros in the first n entries of an array
+  -- added to zeros
   pub weights-made :
       (η : Three (Elem q)) (ea eb ec : List ℕ) → k .matrices ≡ entryLists ea eb ec → EachWithin r c ea eb ec
-      → {rows : List (Elem q)} → rows ≡ rowValues r α → (d : List ℕ) → c ≤ length d → ((j : ℕ) → getD d j 0 ≡ 0)
-      → tabulate (length (take c d)) (λ j. of (getD (take c d) j 0) ⊕ weighted η (mapThree (λ es. columnTotal rows es j) (entryLists ea eb ec)))
+      → {rows : List (Elem q)} → rows ≡ rowValues r α → {d : List ℕ} → d ≡ replicate c 0
+      → tabulate (length d) (λ j. of (getD d j 0) ⊕ weighted η (mapThree (λ es. columnTotal rows es j) (entryLists ea eb ec)))
       ≡ tabulate c (λ j. weighted η (each (λ M. columnSum k M α j)))
-  weights-made η ea eb ec matrices inside {rows} made d within zeros =
-      from-zero c d within zeros (λ j. weighted η (mapThree (λ es. columnTotal rows es j) (entryLists ea eb ec)))
+  weights-made η ea eb ec matrices inside {rows} made cleared =
+      let f : ℕ → Elem q = λ j. weighted η (mapThree (λ es. columnTotal rows es j) (entryLists ea eb ec)) in
+      ap (λ (d : List ℕ). tabulate (length d) (λ j. of (getD d j 0) ⊕ f j)) cleared ∙ from-zero c f
       ∙ tabulate-ext c _ _ (λ j below. weighted-total η ea eb ec matrices inside made j)
 
 -- entries within a matrix whose sizes have other names
@@ -178,24 +165,3 @@ each-within {c = c} {r′} {ea = ea} {eb} {ec} e d h =
 
 pub columns-within : (r : ℕ) {c c′ : ℕ} (es : List Entry) → c′ ≡ c → All (Within r c) es → All (Within r c′) es
 columns-within r es e = subst (λ (n : ℕ). All (Within r n) es) (sym e)
-
--- Σ η_M M̂(α,Y), times ẑ, and m
-pub line-made :
-    (q : Prime) (Q : Qualifies q) (k : Circuit) (W : WellFormed (q .p) k) {c : ℕ} → k .|C| ≡ c → (m ẑ : Poly q) (α : Elem q) (η : Three (Elem q))
-    → words (interpolate c (tabulate c (λ j. weighted η (each (λ M. columnSum k M α j)))) ⊠ ẑ ⊞ m) ≡ words (line k m ẑ α η)
-unfolding line
-line-made q Q k W {c} eC m ẑ α η =
-    let f : ℕ → Elem q = λ j. weighted η (each (λ M. columnSum k M α j)) in
-    ap words
-    (plus-comm (primeRing q) (interpolate c (tabulate c f) ⊠ ẑ) m
-    ∙ ap (λ (g : Poly q). m ⊞ g ⊠ ẑ) ((λ t. interpolate (sym eC t) (tabulate (sym eC t) f)) ∙ sym (weighted-by-columns Q k W α η)))
-
-pub words-tail : {q : Prime} (l : List (Elem q)) → tail (words l) ≡ words (tail l)
-words-tail [] = refl
-words-tail (x ∷ l) = refl
-
--- g1 from the remainder's words
-pub line-remainder-made : (q : Prime) (k : Circuit) {c : ℕ} {ws : List ℕ} (f : Poly q) → k .|C| ≡ c → ws ≡ words (remainder c f)
-    → tail ws ≡ words (lineRemainder k f)
-unfolding lineRemainder
-line-remainder-made q k {c} f eC made = ap tail made ∙ words-tail (remainder c f) ∙ (λ t. words (tail (remainder (sym eC t) f)))

@@ -1,2 +1,2 @@
-pub mod LineSums
+pub mod EntrySums
 pub mod CallGiven

@@ -1,5 +1,5 @@
-// The prover's first message: x̂ and ŵ from z and the mask word, and ẑ from ŵ. A result is written into a lent slice of its exact
-// length.
+// The prover's first message: ŵ from z and the mask word, and the public words of z. A result is written into a lent slice of its
+// exact length.
 ghost use mathlib.Core.Path.{_≡_};
 ghost use mathlib.Core.Bool.{true};
 ghost use mathlib.Core.List.{map};
@@ -9,10 +9,10 @@ ghost use Rattle.algebra.specs.Lists.{tabulate};
 ghost use Rattle.field.specs.Prime.{Prime};
 ghost use Rattle.field.specs.Element.{of, words};
 ghost use Rattle.domain.specs.Size.{isSize};
-ghost use Rattle.domain.specs.Polynomial.{_⊟_, quotient, vanishingPoly, interpolate as interpolation};
+ghost use Rattle.domain.specs.Polynomial.{quotient, vanishingPoly, interpolate as interpolation};
 ghost use Rattle.domain.specs.Known.{Known};
-ghost use Rattle.protocol.specs.Circuit.{Circuit, publicPart};
-ghost use Rattle.protocol.specs.Messages.{publicPoly, witness as witnessPoly, assignment};
+ghost use Rattle.protocol.specs.Circuit.{Circuit};
+ghost use Rattle.protocol.specs.Messages.{witness as witnessPoly};
 
 // Coefficient i of Y^n - 1.
 fn vanishing_coefficient(p: u32, n: usize, i: usize) -> u32
@@ -52,38 +52,18 @@ pub fn public_words_into(step: usize, z: &[u32], out: &mut [u32])
     }
 }
 
-// x̂, of length |X|.
-fn public_poly_into(p: u32, c: u32, x: u32, z: &[u32], out: &mut [u32])
-    requires { ⌜ 1 < p ⌝ }
-    requires { ⌜ (isSize c ≡ true) × (isSize x ≡ true) × (x ≤ c) ⌝ }
-    requires { ⌜ (length (now z) ≡ c) × (length (now out) ≡ x) ⌝ }
-    ensures { λ _. ⌜ ((q : Prime) → Known q p → (k : Circuit) → k .|C| ≡ c → k .|X| ≡ x
-        → now (out .exit) ≡ words (publicPoly k (publicPart k (map (of {q = q}) (now (z .entry)))))) ⌝ }
-{
-    let n = x as usize;
-    let mut values = [0u32; 1024];
-    public_words_into((c / x) as usize, z, &mut values[..n]);
-    transform::interpolate_into(p, domain::root_of(p, x), &values[..n], out);
-}
-
-// (z(Y) - x̂(Y))/v_X, of length |C| - |X|.
+// The quotient of z(Y) by v_X, of length |C| - |X|. It is (z(Y) - x̂(Y))/v_X: x̂ is what is left.
 fn private_quotient_into(p: u32, c: u32, x: u32, z: &[u32], out: &mut [u32])
     requires { ⌜ 1 < p ⌝ }
     requires { ⌜ (isSize c ≡ true) × (isSize x ≡ true) × (x ≤ c) ⌝ }
     requires { ⌜ (length (now z) ≡ c) × (length (now out) ≡ c - x) ⌝ }
-    ensures { λ _. ⌜ ((q : Prime) → Known q p → (k : Circuit) → k .|C| ≡ c → k .|X| ≡ x
-        → now (out .exit)
-        ≡ words (quotient x (interpolation c (map (of {q = q}) (now (z .entry))) ⊟ publicPoly k (publicPart k (map of (now (z .entry))))))) ⌝ }
+    ensures { λ _. ⌜ ((q : Prime) → Known q p
+        → now (out .exit) ≡ words (quotient x (interpolation c (map (of {q = q}) (now (z .entry)))))) ⌝ }
 {
     let n = c as usize;
-    let l = x as usize;
-    let mut difference = [0u32; 1024];
-    transform::interpolate_into(p, domain::root_of(p, c), z, &mut difference[..n]);
-    let mut public = [0u32; 1024];
-    public_poly_into(p, c, x, z, &mut public[..l]);
-    let minus_one = p - 1;
-    poly::add_scaled(p, &mut difference[..n], minus_one, &public[..l]);
-    poly::quotient_into(p, l, &difference[..n], out);
+    let mut whole = [0u32; 1024];
+    transform::interpolate_into(p, domain::root_of(p, c), z, &mut whole[..n]);
+    poly::quotient_into(p, x as usize, &whole[..n], out);
 }
 
 // v_C/v_X, of length |C| - |X| + 1.
@@ -116,22 +96,4 @@ pub fn witness_into(p: u32, c: u32, x: u32, z: &[u32], mask: u32, out: &mut [u32
     let mut ratio = [0u32; 1024];
     vanishing_ratio_into(p, c, x, &mut ratio[..l]);
     poly::add_scaled(p, out, mask, &ratio[..l]);
-}
-
-// ẑ = ŵ v_X + x̂, of length |C| + 1.
-pub fn assignment_into(p: u32, c: u32, x: u32, z: &[u32], witness: &[u32], out: &mut [u32])
-    requires { ⌜ 1 < p ⌝ }
-    requires { ⌜ (isSize c ≡ true) × (isSize x ≡ true) × (x ≤ c) ⌝ }
-    requires { ⌜ (length (now z) ≡ c) × (length (now witness) ≡ c - x + 1) × (length (now out) ≡ c + 1) ⌝ }
-    ensures { λ _. ⌜ ((q : Prime) → Known q p → (k : Circuit) → k .|C| ≡ c → k .|X| ≡ x
-        → now (out .exit) ≡ words (assignment k (publicPart k (map (of {q = q}) (now (z .entry)))) (map of (now (witness .entry))))) ⌝ }
-{
-    let l = x as usize;
-    let n = l + 1;
-    let mut vanishing = [0u32; 1025];
-    fill_vanishing(p, &mut vanishing[..n]);
-    poly::multiply_into(p, witness, &vanishing[..n], out);
-    let mut public = [0u32; 1024];
-    public_poly_into(p, c, x, z, &mut public[..l]);
-    poly::add_scaled(p, out, 1, &public[..l]);
 }

@@ -9,11 +9,9 @@ use Rattle.field.specs.Element.{Elem, of, 𝟘, _⊕_, _⊗_}
 use Rattle.field.proofs.Words.{of-result}
 use Rattle.poly.proofs.WordLists.{element-at}
 use Rattle.protocol.specs.Circuit.{Entry}
-use Rattle.protocol.specs.Checks.{weighted}
 use Rattle.protocol.specs.Calls.{entriesOf}
 use Rattle.protocol.proofs.EntryLists.{length-entriesOf}
-use Rattle.circuit.specs.Given.{Within}
-use Rattle.circuit.specs.Given.{entryWords}
+use Rattle.circuit.specs.Given.{Within, entryWords}
 use Rattle.circuit.proofs.Entries.{entry-at, entry-within}
 use Rattle.prover.proofs.LineLaws.{Adding, adding-none, adding-turn, adding-end}
 use Rattle.prover.proofs.line.add_column_sums.Statement.{statement}
@@ -87,23 +85,20 @@ shared-slice-read-multiply-2 c = place (c .before .before .before .before) .row-
 multiply-requires : tie.Need-multiply-requires Inv-loop μ-loop
 multiply-requires c κs = omega arith
 
-mul-add : tie.Need-mul-add Inv-loop μ-loop
-mul-add c = omega (arith, place (c .before .before .before .before .before) .column-below)
+mul-multiply-add : tie.Need-mul-multiply-add Inv-loop μ-loop
+mul-multiply-add c = omega (arith, place (c .before .before .before .before .before) .column-below)
 
-slice-read-add : tie.Need-slice-read-add Inv-loop μ-loop
-slice-read-add c = omega (arith, place (c .before .before .before .before .before .before) .column-below)
+slice-read-multiply-add : tie.Need-slice-read-multiply-add Inv-loop μ-loop
+slice-read-multiply-add c = omega (arith, place (c .before .before .before .before .before .before) .column-below)
 
-multiply-requires-2 : tie.Need-multiply-requires-2 Inv-loop μ-loop
-multiply-requires-2 c κs = omega arith
-
-add-requires : tie.Need-add-requires Inv-loop μ-loop
-add-requires c κs = omega arith
+multiply-add-requires : tie.Need-multiply-add-requires Inv-loop μ-loop
+multiply-add-requires c κs = omega arith
 
 mul-out : tie.Need-mul-out Inv-loop μ-loop
-mul-out c = omega (arith, place (c .before .before .before .before .before .before .before .before) .column-below)
+mul-out c = omega (arith, place (c .before .before .before .before .before .before .before) .column-below)
 
 slice-write-out : tie.Need-slice-write-out Inv-loop μ-loop
-slice-write-out c = omega (arith, place (c .before .before .before .before .before .before .before .before) .column-below)
+slice-write-out c = omega (arith, place (c .before .before .before .before .before .before .before) .column-below)
 
 add-i : tie.Need-add-i Inv-loop μ-loop
 add-i c = omega arith
@@ -113,23 +108,22 @@ loop-less c = omega arith
 
 loop-again : tie.Need-loop-again Inv-loop μ-loop
 loop-again c =
-    let turn = c .before .before .before .before .before .before .before .before in
-    let a = c .before .before .before .before .before .before .before .before .before .before .before .before .before .args in
-    let l = c .before .before .before .before .before .before .before .before .before .loop in
+    let turn = c .before .before .before .before .before .before .before in
+    let a = c .before .before .before .before .before .before .before .before .before .before .before .before .args in
+    let l = turn .before .loop in
     let es : List Entry = entriesOf (a .entries .now) in
     let e : Entry = entryWords (a .entries .now) (l .i) in
     let below : l .i < length es = omega (arith, length-entriesOf (a .entries .now)) in (
       omega arith,
-      length-set (l .out) (e .column) (c .add .result) ∙ l .inv .1,
+      length-set (l .out) (e .column) (c .multiply-add .result) ∙ l .inv .1,
       λ q same.
           let rows : List (Elem q) = map of (a .rows .now) in
-          let product : of (c .before .before .before .multiply .result) ≡ of (e .value) ⊗ getD rows (e .row) 𝟘 =
-          of-result _ (c .before .before .before .multiply .ensures q same) ∙ ap (λ (x : Elem q). of (e .value) ⊗ x) (element-at (a .rows .now) (e .row)) in
-          let weighted : of (c .before .multiply2 .result) ≡ of (a .eta) ⊗ (of (e .value) ⊗ getD rows (e .row) 𝟘) =
-          of-result _ (c .before .multiply2 .ensures q same) ∙ ap (λ (x : Elem q). of (a .eta) ⊗ x) product in
-          adding-turn q (of (a .eta)) rows es (a .out .now) (l .out) (l .i) e (c .add .result) below (entry-at (a .entries .now) (l .i) e below)
+          let product : of (c .before .before .multiply .result) ≡ of (e .value) ⊗ getD rows (e .row) 𝟘 =
+          of-result _ (c .before .before .multiply .ensures q same) ∙ ap (λ (x : Elem q). of (e .value) ⊗ x) (element-at (a .rows .now) (e .row)) in
+          adding-turn q (of (a .eta)) rows es (a .out .now) (l .out) (l .i) e (c .multiply-add .result) below (entry-at (a .entries .now) (l .i) e below)
           (omega (arith, place turn .column-below))
-          (c .add .ensures q same ∙ ap (λ (x : Elem q). (of (getD (l .out) (e .column) 0) ⊕ x) .word) weighted) (l .inv .2 q same),
+          (c .multiply-add .ensures q same ∙ ap (λ (x : Elem q). (of (a .eta) ⊗ x ⊕ of (getD (l .out) (e .column) 0)) .word) product)
+          (l .inv .2 q same),
     )
 
 same-length : tie.Need-same-length Inv-loop μ-loop
@@ -165,10 +159,9 @@ add-column-sums-spec =
     mul-multiply-3
     shared-slice-read-multiply-2
     multiply-requires
-    mul-add
-    slice-read-add
-    multiply-requires-2
-    add-requires
+    mul-multiply-add
+    slice-read-multiply-add
+    multiply-add-requires
     mul-out
     slice-write-out
     add-i

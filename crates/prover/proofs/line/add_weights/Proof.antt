@@ -6,7 +6,7 @@ use lib.ListN.{length, getD}
 use Rattle.field.specs.Element.{Elem, of, _⊕_, _⊗_}
 use Rattle.protocol.specs.Checks.{weighted}
 use Rattle.protocol.specs.Calls.{entriesOf}
-use Rattle.prover.specs.LineSums.{columnTotal}
+use Rattle.prover.specs.EntrySums.{columnTotal}
 use Rattle.prover.proofs.LineLaws.{then, gather, columns-within}
 use Rattle.prover.proofs.line.add_weights.Statement.{statement}
 use Rattle.prover.proofs.line.add_weights.Tie as tie

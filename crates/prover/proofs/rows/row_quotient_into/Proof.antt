@@ -1,159 +1,141 @@
 -- `prover::rows::row_quotient_into` meets its contract. Assumes nothing.
-use mathlib.Core.Path.{sym, ap, _∙_}
+use mathlib.Core.Path.{_≡_, sym, ap, _∙_}
 use mathlib.Core.List.{List, map}
-use Prim.Native.Nat.{ℕ, _≤_}
+use Prim.Native.Nat.{ℕ, _+_, _≤_}
 use native.Mathlib.Omega.{arith}
+use lib.ListN.{length, replicate}
 use Rattle.algebra.specs.Lists.{tabulate}
-use Rattle.field.specs.Element.{Elem, of}
-use Rattle.domain.specs.Polynomial.{Poly, interpolate}
-use Rattle.domain.proofs.SizeLaws.{size-bound}
-use Rattle.protocol.specs.Three.{MatrixName, A, B, C, Three}
-use Rattle.protocol.specs.Circuit.{Entry, rowSum}
+use Rattle.field.specs.Element.{Elem, of, words}
+use Rattle.domain.specs.Size.{isSize}
+use Rattle.domain.proofs.SizeLaws.{size-positive, size-bound}
+use Rattle.protocol.specs.Three.{MatrixName, A, B}
+use Rattle.protocol.specs.Circuit.{rowSum}
+use Rattle.protocol.specs.Calls.{entriesOf}
 use Rattle.poly.proofs.LentParts.{part-length, filled-within, filled-length, of-filled}
-use Rattle.prover.proofs.RowLaws.{known-formed, row-quotient-made}
+use Rattle.prover.proofs.ProductLaws.{quotient-made}
+use Rattle.prover.proofs.RowLaws.{known-formed, rows-within, row-quotient-made}
 use Rattle.prover.proofs.rows.row_quotient_into.Statement.{statement}
 use Rattle.prover.proofs.rows.row_quotient_into.Tie as tie
 
 bound : (c : tie.Start) → c .args .r ≤ 1024
 bound c = size-bound (c .args .r) (c .pre .1 .0)
 
--- the start, from the first fill; the places of the first two fills, from the third
-abbrev start : tie.After-image-into → tie.Start
-start c = c .before .before .before .before .before .before .before
+-- the start, from the first fill; the place of the first fill, from the second; the words that the fills leave
+abbrev start : tie.After-row-sums → tie.Start
+start c = c .before .before .before .before .before .before
 
-abbrev at-b : tie.After-image-into3 → tie.After-image-into2
-at-b c = c .before .before .before
+abbrev at-a : tie.After-row-sums2 → tie.After-row-sums
+at-a c = c .before .before .before
 
-abbrev at-a : tie.After-image-into3 → tie.After-image-into
-at-a c = at-b c .before .before .before
+abbrev sums-a : tie.After-row-sums → List ℕ
+sums-a c = c .row-sums .last .1 .1 .1 .0
 
-array-borrow-prefix-image-a : tie.Need-array-borrow-prefix-image-a
-array-borrow-prefix-image-a c = bound (c .before .before .before .before .before)
+abbrev sums-b : tie.After-row-sums2 → List ℕ
+sums-b c = c .row-sums2 .last .1 .1 .1 .0
 
-slice-aggregate-image-into : tie.Need-slice-aggregate-image-into
-slice-aggregate-image-into c = part-length _ _ (bound (c .before .before .before .before .before .before))
+array-borrow-prefix-left : tie.Need-array-borrow-prefix-left
+array-borrow-prefix-left c = bound (c .before .before .before .before)
 
-image-into-requires : tie.Need-image-into-requires
-image-into-requires c κs =
-    let s = c .before .before .before .before .before .before in
-    (s .pre .0, (s .pre .1 .0, (sym (part-length _ _ (bound s)), s .pre .1 .1 .1 .in-a)))
+slice-aggregate-row-sums : tie.Need-slice-aggregate-row-sums
+slice-aggregate-row-sums c = part-length _ _ (bound (c .before .before .before .before .before))
 
-array-borrow-prefix-image-b : tie.Need-array-borrow-prefix-image-b
-array-borrow-prefix-image-b c = bound (start (c .before))
+row-sums-requires : tie.Need-row-sums-requires
+row-sums-requires c κs =
+    let s = c .before .before .before .before .before in
+    (omega arith, rows-within (part-length (s .args .r) (replicate 1024 0) (bound s)) (length (s .args .z .now)) (entriesOf (s .args .ea .now)) (s .pre .1 .1 .1 .0))
 
-slice-aggregate-image-into-2 : tie.Need-slice-aggregate-image-into-2
-slice-aggregate-image-into-2 c = part-length _ _ (bound (start (c .before .before)))
+array-borrow-prefix-right : tie.Need-array-borrow-prefix-right
+array-borrow-prefix-right c = bound (start (c .before))
 
-image-into-requires-2 : tie.Need-image-into-requires-2
-image-into-requires-2 c κs =
+slice-aggregate-row-sums-2 : tie.Need-slice-aggregate-row-sums-2
+slice-aggregate-row-sums-2 c = part-length _ _ (bound (start (c .before .before)))
+
+row-sums-requires-2 : tie.Need-row-sums-requires-2
+row-sums-requires-2 c κs =
     let s = start (c .before .before) in
-    (s .pre .0, (s .pre .1 .0, (sym (part-length _ _ (bound s)), s .pre .1 .1 .1 .in-b)))
+    (omega arith, rows-within (part-length (s .args .r) (replicate 1024 0) (bound s)) (length (s .args .z .now)) (entriesOf (s .args .eb .now)) (s .pre .1 .1 .1 .1))
 
-array-borrow-prefix-image-c : tie.Need-array-borrow-prefix-image-c
-array-borrow-prefix-image-c c = bound (start (c .before .before .before .before))
-
-slice-aggregate-image-into-3 : tie.Need-slice-aggregate-image-into-3
-slice-aggregate-image-into-3 c = part-length _ _ (bound (start (c .before .before .before .before .before)))
-
-image-into-requires-3 : tie.Need-image-into-requires-3
-image-into-requires-3 c κs =
-    let s = start (c .before .before .before .before .before) in
-    (s .pre .0, (s .pre .1 .0, (sym (part-length _ _ (bound s)), s .pre .1 .1 .1 .in-c)))
-
-array-share-prefix-image-a : tie.Need-array-share-prefix-image-a
-array-share-prefix-image-a c =
+array-share-prefix-left : tie.Need-array-share-prefix-left
+array-share-prefix-left c =
     let a = at-a (c .before) in
-    filled-within _ _ (bound (start a)) (a .image-into .last .1 .1 .1 .1 .0) (a .image-into .kept .1 .1 .1 .1 .0)
+    filled-within _ _ (bound (start a)) (sums-a a) (a .row-sums .kept .1 .1 .1 .0)
 
-slice-aggregate-product-quotient-into : tie.Need-slice-aggregate-product-quotient-into
-slice-aggregate-product-quotient-into c =
+slice-aggregate-divide-product-into : tie.Need-slice-aggregate-divide-product-into
+slice-aggregate-divide-product-into c =
     let a = at-a (c .before .before) in
-    filled-length _ _ (bound (start a)) (a .image-into .last .1 .1 .1 .1 .0) (a .image-into .kept .1 .1 .1 .1 .0)
+    filled-length _ _ (bound (start a)) (sums-a a) (a .row-sums .kept .1 .1 .1 .0)
 
-array-share-prefix-image-b : tie.Need-array-share-prefix-image-b
-array-share-prefix-image-b c =
-    let third = c .before .before in
-    let image-b = at-b third .image-into2 in
-    filled-within _ _ (bound (start (at-a third))) (image-b .last .1 .1 .1 .1 .0) (image-b .kept .1 .1 .1 .1 .0)
+array-share-prefix-right : tie.Need-array-share-prefix-right
+array-share-prefix-right c =
+    let b = c .before .before in
+    filled-within _ _ (bound (start (at-a b))) (sums-b b) (b .row-sums2 .kept .1 .1 .1 .0)
 
-slice-aggregate-product-quotient-into-2 : tie.Need-slice-aggregate-product-quotient-into-2
-slice-aggregate-product-quotient-into-2 c =
-    let third = c .before .before .before in
-    let image-b = at-b third .image-into2 in
-    filled-length _ _ (bound (start (at-a third))) (image-b .last .1 .1 .1 .1 .0) (image-b .kept .1 .1 .1 .1 .0)
+slice-aggregate-divide-product-into-2 : tie.Need-slice-aggregate-divide-product-into-2
+slice-aggregate-divide-product-into-2 c =
+    let b = c .before .before .before in
+    filled-length _ _ (bound (start (at-a b))) (sums-b b) (b .row-sums2 .kept .1 .1 .1 .0)
 
-array-share-prefix-image-c : tie.Need-array-share-prefix-image-c
-array-share-prefix-image-c c =
-    let third = c .before .before .before in
-    let image-c = third .image-into3 in
-    filled-within _ _ (bound (start (at-a third))) (image-c .last .1 .1 .1 .1 .0) (image-c .kept .1 .1 .1 .1 .0)
+array-borrow-prefix-factor : tie.Need-array-borrow-prefix-factor
+array-borrow-prefix-factor c = bound (start (at-a (c .before .before .before)))
 
-slice-aggregate-product-quotient-into-3 : tie.Need-slice-aggregate-product-quotient-into-3
-slice-aggregate-product-quotient-into-3 c =
-    let third = c .before .before .before .before in
-    let image-c = third .image-into3 in
-    filled-length _ _ (bound (start (at-a third))) (image-c .last .1 .1 .1 .1 .0) (image-c .kept .1 .1 .1 .1 .0)
+slice-aggregate-divide-product-into-3 : tie.Need-slice-aggregate-divide-product-into-3
+slice-aggregate-divide-product-into-3 c = part-length _ _ (bound (start (at-a (c .before .before .before .before))))
 
-product-quotient-into-requires : tie.Need-product-quotient-into-requires
-product-quotient-into-requires c κs =
-    let third = c .before .before .before .before .before in
-    let s = start (at-a third) in
-    let image-a = at-a third .image-into in
-    let image-b = at-b third .image-into2 in
-    let image-c = third .image-into3 in (
-      omega arith,
-      (
-        s .pre .1 .0,
-        (
-          sym (filled-length _ _ (bound s) (image-a .last .1 .1 .1 .1 .0) (image-a .kept .1 .1 .1 .1 .0)),
-          sym (filled-length _ _ (bound s) (image-b .last .1 .1 .1 .1 .0) (image-b .kept .1 .1 .1 .1 .0)),
-          sym (filled-length _ _ (bound s) (image-c .last .1 .1 .1 .1 .0) (image-c .kept .1 .1 .1 .1 .0)),
-          s .pre .1 .1 .0,
-        ),
-      ),
-    )
+array-borrow-prefix-rest : tie.Need-array-borrow-prefix-rest
+array-borrow-prefix-rest c = bound (start (at-a (c .before .before .before .before)))
+
+slice-aggregate-divide-product-into-4 : tie.Need-slice-aggregate-divide-product-into-4
+slice-aggregate-divide-product-into-4 c = part-length _ _ (bound (start (at-a (c .before .before .before .before .before))))
+
+divide-product-into-requires : tie.Need-divide-product-into-requires
+divide-product-into-requires c κs =
+    let b = c .before .before .before .before .before .before in
+    let a = at-a b in
+    let s = start a in
+    let left = filled-length _ _ (bound s) (sums-a a) (a .row-sums .kept .1 .1 .1 .0) in
+    let right = filled-length _ _ (bound s) (sums-b b) (b .row-sums2 .kept .1 .1 .1 .0) in
+    let lent = sym (part-length _ _ (bound s)) ∙ left in
+    let whole : length (s .args .out .now) + 1 ≡ s .args .r = omega (arith, size-positive (s .args .r) (s .pre .1 .0)) in
+    (s .pre .0, (ap isSize (sym left) ∙ s .pre .1 .0, ((sym right ∙ left, lent), (lent, whole ∙ left))))
 
 same-length : tie.Need-same-length
-same-length c = c .before .before .product-quotient-into .kept .1 .1 .1 .1 .1 .0
+same-length c = c .before .before .before .before .divide-product-into .kept .1 .1 .1 .1 .1 .0
 
 returns : tie.Need-returns
-returns c q known Q k W eR matrices ẑ values =
-    let third = c .before .before .before .before .before .before .before .before in
-    let s = start (at-a third) in
-    let image-a = at-a third .image-into in
-    let image-b = at-b third .image-into2 in
-    let image-c = third .image-into3 in
+returns c q known Q k W eR ea eb ẑ values =
+    let d = c .before .before .before .before in
+    let b = d .before .before .before .before .before .before .before in
+    let a = at-a b in
+    let s = start a in
     let r : ℕ = s .args .r in
     let z : List (Elem q) = map of (s .args .z .now) in
-    let poly : MatrixName → Poly q = λ M. interpolate r (tabulate r (rowSum k M z)) in
-    c .before .before .product-quotient-into .ensures q (known .value)
-    ∙ row-quotient-made q Q k (known-formed known W) eR ẑ z values
-    (of-filled _ _ (bound s) (image-a .last .1 .1 .1 .1 .0) (image-a .kept .1 .1 .1 .1 .0) (poly A)
-    (image-a .ensures q known k A (ap (λ (t : Three (List Entry)). t .a) matrices)))
-    (of-filled _ _ (bound s) (image-b .last .1 .1 .1 .1 .0) (image-b .kept .1 .1 .1 .1 .0) (poly B)
-    (image-b .ensures q known k B (ap (λ (t : Three (List Entry)). t .b) matrices)))
-    (of-filled _ _ (bound s) (image-c .last .1 .1 .1 .1 .0) (image-c .kept .1 .1 .1 .1 .0) (poly C)
-    (image-c .ensures q known k C (ap (λ (t : Three (List Entry)). t .c) matrices)))
+    let whole = part-length _ _ (bound s) in
+    quotient-made (d .divide-product-into .ensures q known)
+    (sym (filled-length _ _ (bound s) (sums-a a) (a .row-sums .kept .1 .1 .1 .0)))
+    (of-filled _ _ (bound s) (sums-a a) (a .row-sums .kept .1 .1 .1 .0) (tabulate r (rowSum k A z))
+    (a .row-sums .ensures q (known .value) k A ea ∙ ap (λ (n : ℕ). words (tabulate n (rowSum k A z))) (sym whole)))
+    (of-filled _ _ (bound s) (sums-b b) (b .row-sums2 .kept .1 .1 .1 .0) (tabulate r (rowSum k B z))
+    (b .row-sums2 .ensures q (known .value) k B eb ∙ ap (λ (n : ℕ). words (tabulate n (rowSum k B z))) (sym whole)))
+    ∙ ap words (row-quotient-made q Q k (known-formed known W) eR ẑ z values)
 
 pub row-quotient-into-spec : {M : Type 1} → statement M
 row-quotient-into-spec =
     tie.close
     (tie.spec
-    array-borrow-prefix-image-a
-    slice-aggregate-image-into
-    image-into-requires
-    array-borrow-prefix-image-b
-    slice-aggregate-image-into-2
-    image-into-requires-2
-    array-borrow-prefix-image-c
-    slice-aggregate-image-into-3
-    image-into-requires-3
-    array-share-prefix-image-a
-    slice-aggregate-product-quotient-into
-    array-share-prefix-image-b
-    slice-aggregate-product-quotient-into-2
-    array-share-prefix-image-c
-    slice-aggregate-product-quotient-into-3
-    product-quotient-into-requires
+    array-borrow-prefix-left
+    slice-aggregate-row-sums
+    row-sums-requires
+    array-borrow-prefix-right
+    slice-aggregate-row-sums-2
+    row-sums-requires-2
+    array-share-prefix-left
+    slice-aggregate-divide-product-into
+    array-share-prefix-right
+    slice-aggregate-divide-product-into-2
+    array-borrow-prefix-factor
+    slice-aggregate-divide-product-into-3
+    array-borrow-prefix-rest
+    slice-aggregate-divide-product-into-4
+    divide-product-into-requires
     same-length
     returns)

@@ -109,9 +109,9 @@ returns c q known k eC eX =
     let sizes = s .pre .1 .0 in
     let part = part-length n (a .out .now) (short s) in
     c .before .before .add-scaled .ensures q (known .value)
-    ∙ witness-made q k (map of (a .z .now)) (of (a .mask)) eC eX
+    ∙ witness-made q k (map of (a .z .now)) (of (a .mask)) eC eX (sizes .2)
     (padded n (a .out .now) (first .last .1 .1 .1 .1 .0) (s .pre .1 .1 .1) (first .kept .1 .1 .1 .1 .0 ∙ sym part))
-    (first .ensures q known k eC eX)
+    (first .ensures q known)
     (of-filled _ _ (bound s) (ratio .last .1 .1 .1 .0) (ratio .kept .1 .1 .1 .0) (quotient (a .x) (vanishingPoly (a .c))) (ratio .ensures q (known .value)))
     (omega (arith, first .kept .1 .1 .1 .1 .0, part, length-vanishingRatio q (a .x) (a .c) (sizes .1) (sizes .0) (sizes .2)))
 

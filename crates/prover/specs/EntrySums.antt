@@ -1,4 +1,5 @@
--- What entries add to a column, as the code of Σ η_M M̂(α,Y) takes them: a value for each row comes as a list. Assumes nothing.
+-- What a matrix's entries add up to, as the code takes them: in a column, and in all, where a value for each row, and one for each
+-- column, come as lists. Assumes nothing.
 use mathlib.Core.List.{List}
 use Prim.Native.Nat.{ℕ}
 use lib.Dec.{eqb}
@@ -13,3 +14,8 @@ use Rattle.protocol.specs.Circuit.{Entry}
 -- the sum of value × the row's value over the entries in column j
 unfoldable pub columnTotal : {q : Prime} → List (Elem q) → List Entry → ℕ → Elem q
 columnTotal {q} rows entries j = sumList (primeRing q) (λ e. pick (eqb (e .column) j) (of (e .value) ⊗ getD rows (e .row) 𝟘) 𝟘) entries
+
+-- the sum of value × the row's value × the column's value over all entries
+unfoldable pub entryTotal : {q : Prime} → List (Elem q) → List (Elem q) → List Entry → Elem q
+entryTotal {q} rows columns entries =
+    sumList (primeRing q) (λ e. of (e .value) ⊗ getD rows (e .row) 𝟘 ⊗ getD columns (e .column) 𝟘) entries
