@@ -12,7 +12,7 @@ use Rattle.field.specs.Prime.{Prime}
 use Rattle.field.specs.Element.{Elem, of, 𝟘, _⊕_, _⊗_}
 use Rattle.field.specs.Power.{_⊘_}
 use Rattle.field.proofs.ElementLaws.{primeRing}
-use Rattle.domain.specs.Size.{isSize, sizeFor}
+use Rattle.domain.specs.Size.{isSize}
 use Rattle.domain.specs.Polynomial.{Poly, _⊞_, _·_}
 use Rattle.domain.proofs.SizeLaws.{largest-is-size, sizeFor-is-size}
 use Rattle.domain.proofs.ListLaws.{equal-entries}
@@ -24,7 +24,7 @@ use Rattle.protocol.proofs.MatrixPolynomials.{within-largest}
 use Rattle.protocol.proofs.MatrixCheck.{matrix-length, length-matrixQuotient}
 use Rattle.protocol.proofs.JoinedRule.{length-joinedQuotient}
 use Rattle.poly.proofs.Coefficients.{coefficient-add}
-use Rattle.matrix_sumcheck.specs.MatrixGiven.{Given, Challenged, lists}
+use Rattle.matrix_sumcheck.specs.MatrixGiven.{Given, Challenged, lists, sizeOf}
 use Rattle.poly.proofs.WordLists.{replicate-at}
 use Rattle.matrix_sumcheck.proofs.MatrixTerms.{given-size, well-formed-at}
 
@@ -54,10 +54,7 @@ module _ {q : Prime} where
       ∙ sym (coefficient-add R a b i))
       ∙ sym (coefficient-add R (a ⊞ b) c i))
 
--- |K_M| of a list of entries, and |K| of three
-abbrev pub sizeOf : List ℕ → ℕ
-sizeOf l = sizeFor (length (entriesOf l))
-
+-- |K| of three lists of entries
 abbrev pub largestOf : List ℕ → List ℕ → List ℕ → ℕ
 largestOf ea eb ec = largest (mapThree sizeOf (lists ea eb ec))
 

@@ -1,4 +1,4 @@
 pub mod MatrixTerms
-pub mod MatrixForms
+pub mod MatrixQuotients
 pub mod JoinedForms
 pub mod GivenLaws

@@ -10,6 +10,9 @@ use Rattle.algebra.specs.Ring.{CommRing}
 use Rattle.algebra.specs.Polynomial.{add, scale, mul, quotientIn, remainderIn, quotient, remainder}
 use Rattle.algebra.proofs.Division.{length-quotient}
 use Rattle.algebra.proofs.RingLaws.{zero-add, mul-zero}
+use Rattle.algebra.proofs.Solver.{_:+_, _:*_, _:=_, ring}
+use Rattle.algebra.proofs.PolynomialLaws.{length-add, length-scale}
+use Rattle.domain.proofs.ListLaws.{equal-entries}
 
 module _ {A : Type 0} (R : CommRing A) where
   open CommRing R using (𝟘, _⊕_, _⊗_, add-comm, add-zero)
@@ -145,13 +148,17 @@ module _ {A : Type 0} (R : CommRing A) where
         (remainder-turns (length f) 0 (drop j f) (omega (arith, length-drop j f)) (omega (arith, length-drop j f)))
         ∙ getD-replicate n 0 𝟘 𝟘 positive
 
+    -- the quotient has nothing from where f ends
+    quotient-past : (f : List A) (i : ℕ) → length f ≤ i + n → getD (quotient R n f) i 𝟘 ≡ 𝟘
+    quotient-past f i past = List·getD-eq-default (quotient R n f) 𝟘 (omega (arith, length-quotient R n f positive))
+
     -- of at most 2n coefficients: q_i = f_(n+i) and r_i = f_i + f_(n+i)
     pub short-quotient-at : (f : List A) → length f ≤ n + n → (i : ℕ) → getD (quotient R n f) i 𝟘 ≡ getD f (n + i) 𝟘
     short-quotient-at f short i =
         let e : i + n ≡ n + i = omega arith in
         coefficient-quotient f i
         ∙ ap (λ x. getD f (i + n) 𝟘 ⊕ x)
-        (List·getD-eq-default (quotient R n f) 𝟘 {n = i + n} (omega (arith, length-quotient R n f positive)))
+        (quotient-past f (i + n) (omega arith))
         ∙ add-zero (getD f (i + n) 𝟘) ∙ ap (λ (j : ℕ). getD f j 𝟘) e
 
     pub short-remainder-at : (f : List A) → length f ≤ n + n → (i : ℕ) → i < n → getD (remainder R n f) i 𝟘 ≡ getD f i 𝟘 ⊕ getD f (n + i) 𝟘
@@ -161,3 +168,35 @@ module _ {A : Type 0} (R : CommRing A) where
         ∙ ap (λ x. getD f i 𝟘 ⊕ x)
         (folds-turn f (i + n) ∙ ap (λ x. getD f (i + n) 𝟘 ⊕ x) (folds-past f (i + n + n) (omega arith)) ∙ add-zero (getD f (i + n) 𝟘)
         ∙ ap (λ (j : ℕ). getD f j 𝟘) e)
+
+    -- the quotient of f + k·g is k times that of g, where f is not longer than n
+    module _ (k : A) (f g : List A) (short : length f ≤ n) where
+      multiple-at : (m i : ℕ) → length g ≤ i + m → getD (quotient R n (add R f (scale R k g))) i 𝟘 ≡ k ⊗ getD (quotient R n g) i 𝟘
+      multiple-at zero i past =
+          quotient-past (add R f (scale R k g)) i (omega (arith, length-add R f (scale R k g), length-scale R k g))
+          ∙ sym (ap (λ (x : A). k ⊗ x) (quotient-past g i (omega arith)) ∙ mul-zero R k)
+      multiple-at (suc m) i past =
+          coefficient-quotient (add R f (scale R k g)) i
+          ∙ ap₂ _⊕_
+          (coefficient-add f (scale R k g) (i + n)
+          ∙ ap (λ (x : A). x ⊕ getD (scale R k g) (i + n) 𝟘) (List·getD-eq-default f 𝟘 (omega arith))
+          ∙ zero-add R (getD (scale R k g) (i + n) 𝟘) ∙ coefficient-scale k g (i + n))
+          (multiple-at m (i + n) (omega arith))
+          ∙ sym (distribute (getD g (i + n) 𝟘) (getD (quotient R n g) (i + n) 𝟘))
+          ∙ ap (λ (x : A). k ⊗ x) (sym (coefficient-quotient g i))
+        where
+          distribute : (a b : A) → k ⊗ (a ⊕ b) ≡ k ⊗ a ⊕ k ⊗ b
+          distribute a b = ring R (k ∷ a ∷ b ∷ []) (λ k a b. k :* (a :+ b) := k :* a :+ k :* b) tt
+
+      pub quotient-of-multiple : quotient R n (add R f (scale R k g)) ≡ scale R k (quotient R n g)
+      quotient-of-multiple =
+          equal-entries 𝟘 _ _
+          (omega (
+            arith,
+            length-quotient R n (add R f (scale R k g)) positive,
+            length-add R f (scale R k g),
+            length-scale R k g,
+            length-scale R k (quotient R n g),
+            length-quotient R n g positive,
+          ))
+          (λ i below. multiple-at (length g) i (omega arith) ∙ sym (coefficient-scale k (quotient R n g) i))

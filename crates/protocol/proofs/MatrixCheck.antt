@@ -70,7 +70,7 @@ module _ {q : Prime} (Q : Qualifies q) (c : Circuit) (W : WellFormed (q .p) c) (
   unfolding ratio
   ratio-at i below = eval-agreeing Q k (K-size c M) (λ y. eval a y ⊘ eval b y) i below
 
-  length-ratio : length (ratio c α β M) ≡ k
+  pub length-ratio : length (ratio c α β M) ≡ k
   unfolding ratio
   length-ratio = length-agreeing k _
 
@@ -79,6 +79,13 @@ module _ {q : Prime} (Q : Qualifies q) (c : Circuit) (W : WellFormed (q .p) c) (
   unfolding matrixRemainder
   ratio-parts = constant-of-sum Q k (K-size c M) (ratio c α β M) length-ratio
       ∙ ap (λ x. x ⊘ of k ∷ tail (ratio c α β M)) (sumOver-ext k _ _ ratio-at ∙ sum-of-ratios Q c W α β α-outside β-outside M)
+
+  -- and |K_M| times it is M̂(α,β)
+  pub value-by-constant : of k ⊗ getD (ratio c α β M) 0 𝟘 ≡ value
+  value-by-constant =
+      ap (λ f. of k ⊗ getD f 0 𝟘) ratio-parts
+      ∙ ring-by R (value ∷ of k ∷ reciprocal (of k) ∷ []) (λ v n i. n :* (v :* i) := v from (v ⊙ (n :* i := :1)) ∷ [])
+      (mul-reciprocal (of k) (size-not-zero k (K-size c M)), tt) tt
 
   module _ (ω : Elem q) (g : Poly q) where
     left-at : (i : ℕ) → eval (matrixPoly c α β M ω g) (κ i) ≡ eval a (κ i) ⊖ eval b (κ i) ⊗ eval (ω ⊘ of k ∷ g) (κ i)

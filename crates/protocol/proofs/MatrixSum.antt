@@ -4,7 +4,7 @@ use mathlib.Core.Path.{_≡_, refl, sym, ap, ap₂, _∙_}
 use mathlib.Core.Logic.{_≢_}
 use mathlib.Core.List.{List, [], _∷_}
 use Prim.Native.Nat.{ℕ, _≤_, _<_}
-use lib.ListN.{length, getD}
+use lib.ListN.{length, getD, List·getD-eq-default}
 use native.Mathlib.Omega.{arith}
 use native.Mathlib.Decide.{decLt}
 use Rattle.algebra.proofs.Counting.{all-at}
@@ -109,6 +109,19 @@ module _ {q : Prime} (Q : Qualifies q) (c : Circuit) (W : WellFormed (q .p) c) (
           ap (λ x. x ⊘ eval (denominator c α β M) κ)
           (eval-numerator c α β M κ ∙ ap (numeratorValue (sizesOf c) α β) (index-at-filling Q c W M i after within) ∙ mul-zero (primeRing q) _)
           ∙ zero-mul (primeRing q) _
+
+  -- b_M at place i: by the entry there, and by row 0 and column 0 after the last entry
+  pub denominator-at :
+      (i : ℕ) → i < sizeK c M
+      → eval (denominator c α β M) (element (sizeK c M) i)
+      ≡ rowFactor (element (c .|R|) (e i .row)) ⊗ columnFactor (element (c .|C|) (e i .column))
+  denominator-at i within = elim (decLt i (length entries)) [
+    | yes below ↦ entry-denominator i below
+    | no past ↦
+        filling-denominator i (omega arith) within
+        ∙ sym (ap (λ (x : Entry). rowFactor (element (c .|R|) (x .row)) ⊗ columnFactor (element (c .|C|) (x .column)))
+        (List·getD-eq-default entries (record { row = 0; column = 0; value = 0 }) (omega arith)))
+  ]
 
   pub denominator-not-zero : (i : ℕ) → i < sizeK c M → eval (denominator c α β M) (element (sizeK c M) i) ≢ 𝟘
   denominator-not-zero i within vanishes = elim (decLt i (length entries)) [
