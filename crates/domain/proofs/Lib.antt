@@ -15,5 +15,6 @@ pub mod LagrangeSums
 pub mod Division
 pub mod Products
 pub mod Fill
+pub mod LentWords
 pub mod RunningWords
 pub mod ExactDivision

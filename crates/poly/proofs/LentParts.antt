@@ -5,25 +5,11 @@ use mathlib.Core.List.{List, _++_, map}
 use Prim.Native.Nat.{ℕ, _+_, _-_, _≤_, _<_}
 use native.Mathlib.Omega.{arith}
 use lib.ListN.{length, take, drop, replicate, length-replicate}
-use lib.Seq.{length-take-le, length-front, take-at}
 use Rattle.field.specs.Prime.{Prime}
 use Rattle.field.specs.Element.{Elem, of, words}
 use Rattle.field.proofs.Words.{of-results}
 use Rattle.domain.specs.Polynomial.{interpolate}
-
-module _ (n : ℕ) (d : List ℕ) (within : n ≤ length d) where
-  pub part-length : n ≡ length (take n d)
-  part-length = sym (length-take-le n d within)
-
-  module _ (e : List ℕ) (kept : length e ≡ length (take n d)) where
-    pub filled-within : n ≤ length (e ++ drop n d)
-    filled-within = omega (arith, length-front d e n kept)
-
-    pub filled-part : take n (e ++ drop n d) ≡ e
-    filled-part = take-at e (drop n d) n (kept ∙ sym part-length)
-
-    pub filled-length : n ≡ length (take n (e ++ drop n d))
-    filled-length = part-length ∙ sym kept ∙ ap length (sym filled-part)
+pub use Rattle.domain.proofs.LentWords.{part-length, filled-within, filled-part, filled-length}
 
 module _ {q : Prime} where
   -- the elements of words that were computed in the first n entries of an array

@@ -1,1 +1,1 @@
-pub mod PublicValue
+pub mod SharedInverse

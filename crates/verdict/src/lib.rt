@@ -8,19 +8,20 @@ ghost use lib.ListN.{length};
 ghost use Rattle.field.specs.Prime.{Prime};
 ghost use Rattle.field.specs.Element.{Elem, of, _⊗_};
 ghost use Rattle.domain.specs.Size.{isSize};
+ghost use Rattle.domain.specs.Domain.{vanishing};
 ghost use Rattle.domain.specs.Polynomial.{eval, interpolate};
 ghost use Rattle.domain.specs.Qualifies.{Qualifies};
 ghost use Rattle.domain.specs.Known.{Known, Modulus, OutsideDomain};
-ghost use Rattle.protocol.specs.Three.{MatrixName, at, mapThree};
-ghost use Rattle.protocol.specs.Circuit.{largest as largestSize};
+ghost use Rattle.protocol.specs.Three.{MatrixName, at, each, mapThree};
+ghost use Rattle.protocol.specs.Circuit.{Sizes as SixSizes, largest as largestSize};
 ghost use Rattle.protocol.specs.Index.{mapIndex};
 ghost use Rattle.protocol.specs.Checks.{mapTranscript, mapOpenings, weighted, assignmentValue, lineRight};
-ghost use Rattle.protocol.specs.Checks.{numeratorValue, denominatorValue, matrixLeft, Row, Line, Matrix, passes};
+ghost use Rattle.protocol.specs.Checks.{denominatorValue, matrixLeft, Row, Line, Matrix, passes};
 ghost use Rattle.protocol.specs.Checks as checks;
 ghost use Rattle.protocol.specs.Refusals.{sixSizeTests};
 ghost use Rattle.protocol.specs.Session.{all};
 ghost use Rattle.shared.specs.Meanings.{three, sizes, transcript, indexWords, openings, verdictMeaning};
-ghost use Rattle.verdict.specs.Among.{SizeAmong};
+ghost use Rattle.verdict.specs.Scale.{scaleWord};
 use shared::Check;
 use shared::Opened;
 use shared::Sizes;
@@ -29,16 +30,19 @@ use shared::Triple;
 use shared::Verdict;
 use shared::six_sizes::largest;
 
-// Row: σ_A σ_B - σ_C = h0(α) v_R(α).
-fn row_holds(p: u32, s: Sizes, t: Transcript, o: Opened) -> bool
+// The most public words.
+const MAX_WORDS: usize = 1024;
+
+// Row: σ_A σ_B - σ_C = h0(α) v_R(α), with rows = v_R(α).
+fn row_holds(p: u32, t: Transcript, o: Opened, rows: u32) -> bool
     requires { ⌜ 1 < p ⌝ }
-    ensures { λ r. ⌜ ((q : Prime) → q .p ≡ p → (x : List (Elem q)) (index : List (List ℕ))
-        → r ≡ passes (sizes s) x (mapTranscript of (transcript t)) (mapOpenings of (openings o index)) Row) ⌝ }
+    ensures { λ r. ⌜ ((q : Prime) → q .p ≡ p → (s : SixSizes) (x : List (Elem q)) (index : List (List ℕ))
+        → rows ≡ (vanishing (s .|R|) (of {q = q} (t .alpha))) .word
+        → r ≡ passes s x (mapTranscript of (transcript t)) (mapOpenings of (openings o index)) Row) ⌝ }
 {
     let sums = t.sums;
     let left = field::subtract(p, field::multiply(p, sums.a, sums.b), sums.c);
-    let right = field::multiply(p, o.rowQuotient, domain::vanishing_value(p, s.r, t.alpha));
-    left == right
+    left == field::multiply(p, o.rowQuotient, rows)
 }
 
 // Σ η_M v_M.
@@ -52,24 +56,17 @@ fn weighted_sum(p: u32, eta: Triple, v: Triple) -> u32
     field::add(p, field::add(p, a, b), c)
 }
 
-// x̂(y), the sum of x_i L_i(y) over X; `element` is g_X^i.
+// x̂(y), the sum of x_i L_i(y) over X.
 fn public_value(p: u32, n: u32, x: &[u32], y: u32) -> u32
     requires { ⌜ Modulus p ⌝ }
     requires { ⌜ isSize n ≡ true ⌝ }
     requires { ⌜ length (now x) ≡ n ⌝ }
     ensures { λ r. ⌜ ((q : Prime) → Known q p → Qualifies q → r ≡ (eval (interpolate n (map (of {q = q}) (now (x .entry)))) (of y)) .word) ⌝ }
 {
-    let g = domain::root_of(p, n);
-    let mut element: u32 = 1;
-    let mut sum: u32 = 0;
-    let mut i = 0;
-    while i < x.len() {
-        let value = domain::lagrange_value(p, n, element, y);
-        sum = field::add(p, sum, field::multiply(p, x[i], value));
-        element = field::multiply(p, element, g);
-        i += 1;
-    }
-    sum
+    let mut weights = [0u32; MAX_WORDS];
+    let count = n as usize;
+    domain::lagrange_values_into(p, y, &mut weights[..count]);
+    domain::interpolated_at(p, &weights[..count], x)
 }
 
 // ẑ(β) = ŵ(β) v_X(β) + x̂(β).
@@ -85,25 +82,34 @@ fn assignment_value(p: u32, s: Sizes, x: &[u32], beta: u32, witness: u32) -> u32
     field::add(p, field::multiply(p, witness, vanishing), public)
 }
 
-// h1(β) v_C(β) + β g1(β) + σ/|C|.
-fn line_right(p: u32, s: Sizes, beta: u32, sum: u32, remainder: u32, quotient: u32) -> u32
+// h1(β) v_C(β) + β g1(β) + σ/|C|, with columns = v_C(β).
+fn line_right(
+    p: u32,
+    s: Sizes,
+    beta: u32,
+    sum: u32,
+    remainder: u32,
+    quotient: u32,
+    columns: u32,
+) -> u32
     requires { ⌜ 1 < p ⌝ }
     requires { ⌜ isSize (s .c) ≡ true ⌝ }
-    ensures { λ r. ⌜ ((q : Prime) → q .p ≡ p → r ≡ (lineRight (sizes s) (of {q = q} beta) (of sum) (of remainder) (of quotient)) .word) ⌝ }
+    ensures { λ r. ⌜ ((q : Prime) → Qualifies q → q .p ≡ p → columns ≡ (vanishing (s .c) (of {q = q} beta)) .word
+        → r ≡ (lineRight (sizes s) (of {q = q} beta) (of sum) (of remainder) (of quotient)) .word) ⌝ }
 {
-    let multiple = field::multiply(p, quotient, domain::vanishing_value(p, s.c, beta));
+    let mean = field::multiply(p, sum, domain::size_inverse(p, s.c));
     let rest = field::multiply(p, beta, remainder);
-    let mean = field::divide(p, sum, s.c);
-    field::add(p, field::add(p, multiple, rest), mean)
+    field::add(p, field::multiply_add(p, quotient, columns, rest), mean)
 }
 
-// Line: m(β) + (Σ η_M ω_M) ẑ(β) = h1(β) v_C(β) + β g1(β) + σ/|C|.
-fn line_holds(p: u32, s: Sizes, x: &[u32], t: Transcript, o: Opened) -> bool
+// Line: m(β) + (Σ η_M ω_M) ẑ(β) = h1(β) v_C(β) + β g1(β) + σ/|C|, with columns = v_C(β).
+fn line_holds(p: u32, s: Sizes, x: &[u32], t: Transcript, o: Opened, columns: u32) -> bool
     requires { ⌜ Modulus p ⌝ }
     requires { ⌜ isSize (s .x) ≡ true ⌝ }
     requires { ⌜ length (now x) ≡ s .x ⌝ }
     requires { ⌜ isSize (s .c) ≡ true ⌝ }
     ensures { λ r. ⌜ ((q : Prime) → Known q p → Qualifies q → (index : List (List ℕ))
+        → columns ≡ (vanishing (s .c) (of {q = q} (t .beta))) .word
         → r ≡ passes (sizes s) (map (of {q = q}) (now (x .entry))) (mapTranscript of (transcript t)) (mapOpenings of (openings o index)) Line) ⌝ }
 {
     let eta = t.eta;
@@ -111,17 +117,7 @@ fn line_holds(p: u32, s: Sizes, x: &[u32], t: Transcript, o: Opened) -> bool
     let sum = weighted_sum(p, eta, t.sums);
     let z = assignment_value(p, s, x, t.beta, o.witness);
     let left = field::add(p, o.mask, field::multiply(p, values, z));
-    left == line_right(p, s, t.beta, sum, o.lineRemainder, o.lineQuotient)
-}
-
-// a_M = v_R(α) v_C(β) rowcolval_M.
-fn numerator_value(p: u32, s: Sizes, alpha: u32, beta: u32, index: [u32; 4]) -> u32
-    requires { ⌜ 1 < p ⌝ }
-    ensures { λ r. ⌜ ((q : Prime) → q .p ≡ p → r ≡ (numeratorValue (sizes s) (of {q = q} alpha) (of beta) (mapIndex of (indexWords index))) .word) ⌝ }
-{
-    let rows = domain::vanishing_value(p, s.r, alpha);
-    let columns = domain::vanishing_value(p, s.c, beta);
-    field::multiply(p, field::multiply(p, rows, columns), index[3])
+    left == line_right(p, s, t.beta, sum, o.lineRemainder, o.lineQuotient, columns)
 }
 
 // b_M = |R||C|(αβ - α col_M - β row_M + rowcol_M).
@@ -139,11 +135,12 @@ fn denominator_value(p: u32, s: Sizes, alpha: u32, beta: u32, index: [u32; 4]) -
     field::multiply(p, field::multiply(p, s.r, s.c), both)
 }
 
-// a_M - b_M (γ g_M + ω_M/|K_M|), with |K_M| = size and ω_M = value.
+// a_M - b_M (γ g_M + ω_M/|K_M|), with scale = v_R(α) v_C(β), so that a_M = scale · rowcolval_M, |K_M| = size and ω_M = value.
 fn matrix_left(
     p: u32,
     s: Sizes,
     t: Transcript,
+    scale: u32,
     size: u32,
     value: u32,
     index: [u32; 4],
@@ -151,78 +148,131 @@ fn matrix_left(
 ) -> u32
     requires { ⌜ 1 < p ⌝ }
     requires { ⌜ isSize size ≡ true ⌝ }
-    ensures { λ r. ⌜ ((q : Prime) → q .p ≡ p → (M : MatrixName) → at (sizes s .|K|) M ≡ size → at (three (t .values)) M ≡ value
+    ensures { λ r. ⌜ ((q : Prime) → Qualifies q → q .p ≡ p → scale ≡ scaleWord q (sizes s) (t .alpha) (t .beta)
+        → (M : MatrixName) → at (sizes s .|K|) M ≡ size → at (three (t .values)) M ≡ value
         → r ≡ (matrixLeft (sizes s) (mapTranscript (of {q = q}) (transcript t)) M (mapIndex of (indexWords index)) (of remainder)) .word) ⌝ }
 {
-    let numerator = numerator_value(p, s, t.alpha, t.beta, index);
+    let numerator = field::multiply(p, scale, index[3]);
     let denominator = denominator_value(p, s, t.alpha, t.beta, index);
-    let mean = field::divide(p, value, size);
-    let ratio = field::add(p, field::multiply(p, t.gamma, remainder), mean);
+    let mean = field::multiply(p, value, domain::size_inverse(p, size));
+    let ratio = field::multiply_add(p, t.gamma, remainder, mean);
     field::subtract(p, numerator, field::multiply(p, denominator, ratio))
 }
 
-// s_M = |K_M| v_K(γ) / (|K| v_{K_M}(γ)), with |K_M| = size.
-fn selector(p: u32, s: Sizes, size: u32, gamma: u32) -> u32
+// a·b·c.
+fn multiply_three(p: u32, a: u32, b: u32, c: u32) -> u32
     requires { ⌜ 1 < p ⌝ }
-    requires { ⌜ SizeAmong (three (s .k)) size ⌝ }
-    requires { ⌜ OutsideDomain p (largestSize (three (s .k))) gamma ⌝ }
-    ensures { λ r. ⌜ ((q : Prime) → q .p ≡ p → (M : MatrixName) → at (sizes s .|K|) M ≡ size
-        → r ≡ (checks.selector (sizes s) M (of {q = q} gamma)) .word) ⌝ }
+    ensures { λ r. ⌜ ((q : Prime) → q .p ≡ p → r ≡ (of {q = q} a ⊗ of b ⊗ of c) .word) ⌝ }
 {
-    let n = largest(s.k);
-    let dividend = field::multiply(p, size, domain::vanishing_value(p, n, gamma));
-    let divisor = field::multiply(p, n, domain::vanishing_value(p, size, gamma));
-    field::divide(p, dividend, divisor)
+    field::multiply(p, field::multiply(p, a, b), c)
 }
 
-// δ_M s_M (a_M - b_M (γ g_M + ω_M/|K_M|)), with |K_M| = size, δ_M = delta and ω_M = value.
+// The three s_M = |K_M| v_K(γ) / (|K| v_{K_M}(γ)), with whole = v_K(γ), from one inverse: that of the product of the three v_{K_M}(γ).
+fn selectors(p: u32, s: Sizes, gamma: u32, whole: u32) -> Triple
+    requires { ⌜ 1 < p ⌝ }
+    requires { ⌜ all (sixSizeTests (sizes s)) ≡ true ⌝ }
+    requires { ⌜ OutsideDomain p (largestSize (three (s .k))) gamma ⌝ }
+    ensures { λ r. ⌜ ((q : Prime) → Qualifies q → q .p ≡ p → whole ≡ (vanishing (largestSize (three (s .k))) (of {q = q} gamma)) .word
+        → three r ≡ each (λ M. (checks.selector (sizes s) M (of {q = q} gamma)) .word)) ⌝ }
+{
+    let k = s.k;
+    let a = domain::vanishing_value(p, k.a, gamma);
+    let b = domain::vanishing_value(p, k.b, gamma);
+    let c = domain::vanishing_value(p, k.c, gamma);
+    let both = field::multiply(p, a, b);
+    let product = field::multiply(p, both, c);
+    let mean = field::multiply(p, whole, domain::size_inverse(p, largest(k)));
+    let share = field::divide(p, mean, product);
+    Triple {
+        a: multiply_three(p, k.a, share, field::multiply(p, b, c)),
+        b: multiply_three(p, k.b, share, field::multiply(p, a, c)),
+        c: multiply_three(p, k.c, share, both),
+    }
+}
+
+// δ_M s_M (a_M - b_M (γ g_M + ω_M/|K_M|)), with scale = v_R(α) v_C(β), |K_M| = size, δ_M = delta, s_M = share and ω_M = value.
 fn matrix_term(
     p: u32,
     s: Sizes,
     t: Transcript,
+    scale: u32,
     size: u32,
     delta: u32,
+    share: u32,
     value: u32,
     index: [u32; 4],
     remainder: u32,
 ) -> u32
     requires { ⌜ 1 < p ⌝ }
-    requires { ⌜ SizeAmong (three (s .k)) size ⌝ }
-    requires { ⌜ OutsideDomain p (largestSize (three (s .k))) (t .gamma) ⌝ }
-    ensures { λ r. ⌜ ((q : Prime) → q .p ≡ p → (M : MatrixName) → at (sizes s .|K|) M ≡ size → at (three (t .values)) M ≡ value
-        → r ≡ (of {q = q} delta ⊗ checks.selector (sizes s) M (of (t .gamma))
+    requires { ⌜ isSize size ≡ true ⌝ }
+    ensures { λ r. ⌜ ((q : Prime) → Qualifies q → q .p ≡ p → scale ≡ scaleWord q (sizes s) (t .alpha) (t .beta)
+        → (M : MatrixName) → at (sizes s .|K|) M ≡ size → at (three (t .values)) M ≡ value
+        → r ≡ (of {q = q} delta ⊗ of share
         ⊗ matrixLeft (sizes s) (mapTranscript of (transcript t)) M (mapIndex of (indexWords index)) (of remainder)) .word) ⌝ }
 {
-    let weight = field::multiply(p, delta, selector(p, s, size, t.gamma));
-    field::multiply(
-        p,
-        weight,
-        matrix_left(p, s, t, size, value, index, remainder),
-    )
+    let left = matrix_left(p, s, t, scale, size, value, index, remainder);
+    multiply_three(p, delta, share, left)
 }
 
-// Matrix: Σ δ_M s_M (a_M - b_M (γ g_M + ω_M/|K_M|)) = h2(γ) v_K(γ).
-fn matrix_holds(p: u32, s: Sizes, t: Transcript, o: Opened, index: [[u32; 4]; 3]) -> bool
+// Matrix: Σ δ_M s_M (a_M - b_M (γ g_M + ω_M/|K_M|)) = h2(γ) v_K(γ), with scale = v_R(α) v_C(β).
+fn matrix_holds(
+    p: u32,
+    s: Sizes,
+    t: Transcript,
+    o: Opened,
+    index: [[u32; 4]; 3],
+    scale: u32,
+) -> bool
     requires { ⌜ 1 < p ⌝ }
     requires { ⌜ all (sixSizeTests (sizes s)) ≡ true ⌝ }
     requires { ⌜ OutsideDomain p (largestSize (three (s .k))) (t .gamma) ⌝ }
-    ensures { λ r. ⌜ ((q : Prime) → q .p ≡ p → (x : List (Elem q))
+    ensures { λ r. ⌜ ((q : Prime) → Qualifies q → q .p ≡ p → scale ≡ scaleWord q (sizes s) (t .alpha) (t .beta) → (x : List (Elem q))
         → r ≡ passes (sizes s) x (mapTranscript of (transcript t)) (mapOpenings of (openings o index)) Matrix) ⌝ }
 {
     let k = s.k;
     let delta = t.delta;
     let value = t.values;
-    let remainder = o.matrixRemainders;
-    let a = matrix_term(p, s, t, k.a, delta.a, value.a, index[0], remainder.a);
-    let b = matrix_term(p, s, t, k.b, delta.b, value.b, index[1], remainder.b);
-    let c = matrix_term(p, s, t, k.c, delta.c, value.c, index[2], remainder.c);
-    let left = field::add(p, field::add(p, a, b), c);
-    let right = field::multiply(
+    let rest = o.matrixRemainders;
+    let whole = domain::vanishing_value(p, largest(k), t.gamma);
+    let share = selectors(p, s, t.gamma, whole);
+    let a = matrix_term(
         p,
-        o.joinedQuotient,
-        domain::vanishing_value(p, largest(k), t.gamma),
+        s,
+        t,
+        scale,
+        k.a,
+        delta.a,
+        share.a,
+        value.a,
+        index[0],
+        rest.a,
     );
-    left == right
+    let b = matrix_term(
+        p,
+        s,
+        t,
+        scale,
+        k.b,
+        delta.b,
+        share.b,
+        value.b,
+        index[1],
+        rest.b,
+    );
+    let c = matrix_term(
+        p,
+        s,
+        t,
+        scale,
+        k.c,
+        delta.c,
+        share.c,
+        value.c,
+        index[2],
+        rest.c,
+    );
+    let left = field::add(p, field::add(p, a, b), c);
+    left == field::multiply(p, o.joinedQuotient, whole)
 }
 
 // Accept, or Fails with the check that failed first, for γ outside K.
@@ -241,13 +291,16 @@ pub fn verdict(
     ensures { λ r. ⌜ ((q : Prime) → Known q p → Qualifies q
         → verdictMeaning r ≡ checks.verdict (sizes s) (map (of {q = q}) (now (x .entry))) (mapTranscript of (transcript t)) (mapOpenings of (openings o index))) ⌝ }
 {
-    if !row_holds(p, s, t, o) {
+    let rows = domain::vanishing_value(p, s.r, t.alpha);
+    if !row_holds(p, t, o, rows) {
         return Verdict::Fails(Check::Row);
     }
-    if !line_holds(p, s, x, t, o) {
+    let columns = domain::vanishing_value(p, s.c, t.beta);
+    if !line_holds(p, s, x, t, o, columns) {
         return Verdict::Fails(Check::Line);
     }
-    if !matrix_holds(p, s, t, o, index) {
+    let scale = field::multiply(p, rows, columns);
+    if !matrix_holds(p, s, t, o, index, scale) {
         return Verdict::Fails(Check::Matrix);
     }
     Verdict::Accept

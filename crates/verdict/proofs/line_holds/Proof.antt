@@ -30,7 +30,7 @@ line-right-requires c κs = search needs
 
 returns : tie.Need-returns
 unfolding lineLeft
-returns c q K Q index =
+returns c q K Q index is-columns =
     let a = c .before .before .before .before .before .before .before .before .args in
     let s = sizes (a .s) in
     let t = mapTranscript (of {q = q}) (transcript (a .t)) in
@@ -42,7 +42,7 @@ returns c q K Q index =
     let left = c .before .add .ensures q (K .value) ∙ ap (λ v. (of (a .o .mask) ⊕ v) .word) product in
     let g1 : Elem q = of (a .o .lineRemainder) in
     let h1 : Elem q = of (a .o .lineQuotient) in
-    let right = c .line-right .ensures q (K .value) ∙ ap (λ v. (lineRight s (t .β) v g1 h1) .word) sum in
+    let right = c .line-right .ensures q Q (K .value) is-columns ∙ ap (λ v. (lineRight s (t .β) v g1 h1) .word) sum in
     ap₂ eqb left right
 
 pub line-holds-spec : {M : Type 1} → statement M

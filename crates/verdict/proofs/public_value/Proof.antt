@@ -1,106 +1,65 @@
--- `verdict::public_value` meets its contract: the element is g_n^i, and the sum is that of the terms before i. Assumes nothing.
-use Prim.Native.Nat.{_≤_, _-_}
-use Rattle.algebra.specs.Sum.{sum}
-use Rattle.algebra.specs.Sum as sums
-use Rattle.domain.specs.Domain.{element}
-use Rattle.domain.specs.Domain as domain
-use Rattle.domain.specs.Known.{Known}
-use Rattle.domain.proofs.Qualification.{known-qualifies}
-use Rattle.domain.proofs.Membership.{in-domain}
-use Rattle.domain.specs.Qualifies.{Qualifies}
-use Rattle.field.proofs.ElementLaws.{primeRing}
-use Rattle.field.proofs.Words.{word-of}
-use Rattle.field.specs.Element.{of}
-use Rattle.field.specs.Prime.{Prime}
-use Rattle.domain.proofs.LagrangeSums.{term, interpolate-sum}
-use Rattle.verdict.proofs.PublicValue.{next-element, next-sum}
-use borrow.Author.Needs.{needs}
-use lib.ListN.{length}
-use mathlib.Core.List.{map}
-use mathlib.Core.Path.{_≡_, refl, sym, ap, _∙_}
+-- `verdict::public_value` meets its contract. Assumes nothing.
+use Rattle.algebra.specs.Lists.{tabulate}
+use Rattle.domain.specs.Domain.{element, lagrange}
+use Rattle.domain.specs.Size.{isSize}
+use Rattle.domain.proofs.LentWords.{part-length, filled-within, filled-part, filled-length}
+use Rattle.domain.proofs.SizeLaws.{size-bound}
+use Rattle.field.specs.Element.{of, words}
+use Prim.Native.Nat.{ℕ, _≤_}
+use mathlib.Core.Path.{sym, ap, _∙_}
 use native.Mathlib.Omega.{arith}
 use Rattle.verdict.proofs.public_value.Statement.{statement}
 use Rattle.verdict.proofs.public_value.Tie as tie
 
-abbrev Inv-loop : tie.InvT-loop
-Inv-loop p n x y g element₀ sum₀ i₀ element sum i =
-    (i ≤ length x)
-    × ((q : Prime) → Known q p → Qualifies q → (of {q = q} element ≡ domain.element n i) × (sum ≡ (sums.sum (primeRing q) i (term n (map of x) (of y))) .word))
+bound : (c : tie.Start) → c .args .n ≤ 1024
+bound c = size-bound (c .args .n) (c .pre .1 .0)
 
-abbrev μ-loop : tie.MeasureT-loop
-μ-loop p n x y g element₀ sum₀ i₀ element sum i = length x - i
+array-borrow-prefix-weights : tie.Need-array-borrow-prefix-weights
+array-borrow-prefix-weights c = bound (c .before)
 
-root-of-requires : tie.Need-root-of-requires Inv-loop μ-loop
-root-of-requires c κs = search needs
+slice-aggregate-lagrange-values-into : tie.Need-slice-aggregate-lagrange-values-into
+slice-aggregate-lagrange-values-into c = part-length _ _ (bound (c .before .before))
 
-loop-holds : tie.Need-loop-holds Inv-loop μ-loop
-loop-holds c = (search needs, λ q K Q. (unfold element in refl, sym (word-of q 0 (omega (arith, q .above-two)))))
+lagrange-values-into-requires : tie.Need-lagrange-values-into-requires
+lagrange-values-into-requires c κs =
+    let start = c .before .before in
+    (start .pre .0 .0, ap isSize (sym (part-length _ _ (bound start))) ∙ start .pre .1 .0)
 
-lagrange-value-requires : tie.Need-lagrange-value-requires Inv-loop μ-loop
-lagrange-value-requires c κs =
-    let start = c .before .before .before .before in
-    let k = start .pre .0 .1 in
-    let place = c .before .loop .inv .1 (k .prime) (k .known) (known-qualifies (k .known)) .0 in
-    (search needs, (start .pre .1 .0, in-domain k (start .args .n) (start .pre .1 .0) (c .before .loop .i) _ place))
+array-share-prefix-weights : tie.Need-array-share-prefix-weights
+array-share-prefix-weights c =
+    let call = c .before .lagrange-values-into in
+    filled-within _ _ (bound (c .before .before .before .before)) (call .last .1 .1 .0) (call .kept .1 .1 .0)
 
-mul-multiply : tie.Need-mul-multiply Inv-loop μ-loop
-mul-multiply c = search needs
+slice-aggregate-interpolated-at : tie.Need-slice-aggregate-interpolated-at
+slice-aggregate-interpolated-at c =
+    let call = c .before .before .lagrange-values-into in
+    filled-length _ _ (bound (c .before .before .before .before .before)) (call .last .1 .1 .0) (call .kept .1 .1 .0)
 
-shared-slice-read-multiply : tie.Need-shared-slice-read-multiply Inv-loop μ-loop
-shared-slice-read-multiply c = search needs
-
-multiply-requires : tie.Need-multiply-requires Inv-loop μ-loop
-multiply-requires c κs = search needs
-
-add-requires : tie.Need-add-requires Inv-loop μ-loop
-add-requires c κs = search needs
-
-multiply-requires-2 : tie.Need-multiply-requires-2 Inv-loop μ-loop
-multiply-requires-2 c κs = search needs
-
-add-i : tie.Need-add-i Inv-loop μ-loop
-add-i c = search needs
-
-loop-less : tie.Need-loop-less Inv-loop μ-loop
-loop-less c = search needs
-
-loop-again : tie.Need-loop-again Inv-loop μ-loop
-loop-again c =
-    let l = c .before .before .before .before .before .before in
-    let a = l .before .before .before .args in (
-      search needs,
-      λ q K Q.
-          let (place, sofar) = l .loop .inv .1 q K Q in (
-            next-element q (a .n) (l .loop .i) (l .loop .element) (c .multiply2 .ensures q (K .value)) place (l .before .root-of .ensures q K),
-            next-sum q (a .n) (l .loop .i) (a .x .now) (of (a .y)) (l .loop .element) (l .loop .sum) (c .before .before .multiply .result)
-                (c .before .before .before .before .lagrange-value .result) (c .before .add .result) (c .before .add .ensures q (K .value))
-                (c .before .before .multiply .ensures q (K .value)) (c .before .before .before .before .lagrange-value .ensures q Q (K .value)) place sofar,
-          ),
+interpolated-at-requires : tie.Need-interpolated-at-requires
+interpolated-at-requires c κs =
+    let call = c .before .before .lagrange-values-into in
+    let start = c .before .before .before .before .before in (
+      omega (arith, start .pre .0 .0),
+      start .pre .1 .1 ∙ filled-length _ _ (bound start) (call .last .1 .1 .0) (call .kept .1 .1 .0),
     )
 
-returns : tie.Need-returns Inv-loop μ-loop
+returns : tie.Need-returns
 returns c q K Q =
-    let l = c .before in
-    let a = l .before .before .before .args in
-    let whole : l .loop .i ≡ a .n = omega arith in
-    l .loop .inv .1 q K Q .1 ∙ ap (λ k. (sum (primeRing q) k (term (a .n) (map of (a .x .now)) (of (a .y)))) .word) whole
-    ∙ ap (λ v. v .word) (interpolate-sum Q (a .n) (l .before .before .before .pre .1 .0) (map of (a .x .now)) (of (a .y)))
+    let call = c .before .before .before .lagrange-values-into in
+    let start = c .before .before .before .before .before .before in
+    let a = start .args in
+    c .interpolated-at .ensures q Q (K .value) (a .n) (start .pre .1 .0) (of (a .y))
+    (filled-part _ _ (bound start) (call .last .1 .1 .0) (call .kept .1 .1 .0) ∙ call .ensures q K
+    ∙ ap (λ (n : ℕ). words (tabulate n (λ i. lagrange n (element n i) (of {q = q} (a .y))))) (sym (part-length _ _ (bound start))))
 
 pub public-value-spec : {M : Type 1} → statement M
 public-value-spec =
     tie.close
     (tie.spec
-    Inv-loop
-    μ-loop
-    root-of-requires
-    loop-holds
-    lagrange-value-requires
-    mul-multiply
-    shared-slice-read-multiply
-    multiply-requires
-    add-requires
-    multiply-requires-2
-    add-i
-    loop-less
-    loop-again
+    array-borrow-prefix-weights
+    slice-aggregate-lagrange-values-into
+    lagrange-values-into-requires
+    array-share-prefix-weights
+    slice-aggregate-interpolated-at
+    interpolated-at-requires
     returns)

@@ -15,28 +15,18 @@ multiply-requires c κs = search needs
 subtract-requires : tie.Need-subtract-requires
 subtract-requires c κs = search needs
 
-vanishing-value-requires : tie.Need-vanishing-value-requires
-vanishing-value-requires c κs = search needs
-
 multiply-requires-2 : tie.Need-multiply-requires-2
 multiply-requires-2 c κs = search needs
 
 returns : tie.Need-returns
 unfolding rowLeft rowRight
-returns c q e x index =
-    let a = c .before .before .before .before .before .args in
-    let product = of-result (of {q = q} (a .t .sums .a) ⊗ of (a .t .sums .b)) (c .before .before .before .multiply .ensures q e) in
-    let left = c .before .before .subtract .ensures q e ∙ ap (λ v. (v ⊖ of (a .t .sums .c)) .word) product in
-    let vanish = of-result (vanishing (a .s .r) (of {q = q} (a .t .alpha))) (c .before .vanishing-value .ensures q e) in
+returns c q e s x index is-rows =
+    let a = c .before .before .before .before .args in
+    let product = of-result (of {q = q} (a .t .sums .a) ⊗ of (a .t .sums .b)) (c .before .before .multiply .ensures q e) in
+    let left = c .before .subtract .ensures q e ∙ ap (λ v. (v ⊖ of (a .t .sums .c)) .word) product in
+    let vanish = of-result (vanishing (s .|R|) (of {q = q} (a .t .alpha))) is-rows in
     let right = c .multiply2 .ensures q e ∙ ap (λ v. (of (a .o .rowQuotient) ⊗ v) .word) vanish in
     ap₂ eqb left right
 
 pub row-holds-spec : {M : Type 1} → statement M
-row-holds-spec =
-    tie.close
-    (tie.spec
-    multiply-requires
-    subtract-requires
-    vanishing-value-requires
-    multiply-requires-2
-    returns)
+row-holds-spec = tie.close (tie.spec multiply-requires subtract-requires multiply-requires-2 returns)
