@@ -44,7 +44,8 @@ module _ {q : Prime} {p r c : ℕ} {l : List ℕ} {k : Circuit} {M : MatrixName}
   abbrev factors : ℕ → ℕ → Entry → Elem q
   factors m n e = of m ⊗ (α ⊖ element m (e .row)) ⊗ (of n ⊗ (β ⊖ element n (e .column)))
 
-  module _ {rows columns : List ℕ} (h : EntriesWithin (length rows) (length columns) l) (D : DistanceLists q r c alpha beta rows columns) where
+  module _ {rows columns : List ℕ} (h : EntriesWithin (length rows) (length columns) l)
+      (D : DistanceLists q r c alpha beta rows columns) where
     abbrev place : ℕ → Elem q
     place i = productOf rows columns (entryWords l i)
 

@@ -126,13 +126,15 @@ module _ {q : Prime} {p r c : ℕ} {l : List ℕ} {k : Circuit} {M : MatrixName}
       (ratio-by-entries (G .qualifies) k (well-formed-at (H .well-formed)) α β (H .α-outside) (H .β-outside) M
       ∙ ap₂ (λ m n. interpolate (at (sizesOf k .|K|) M) (map (termOf m n α β) (at (k .matrices) M)
       ++ replicate (at (sizesOf k .|K|) M - length (at (k .matrices) M)) 𝟘)) (G .rows) (G .columns)
-      ∙ ap (λ es. interpolate (at (sizesOf k .|K|) M) (map (termOf r c α β) es ++ replicate (at (sizesOf k .|K|) M - length es) 𝟘)) (G .matrix)
+      ∙ ap (λ es. interpolate (at (sizesOf k .|K|) M) (map (termOf r c α β) es ++ replicate (at (sizesOf k .|K|) M - length es) 𝟘))
+      (G .matrix)
       ∙ ap (λ m. interpolate m (map (termOf r c α β) (entriesOf l) ++ replicate (m - length (entriesOf l)) 𝟘)) (sym size)
       ∙ ap (λ m. interpolate n (terms r c α β l ++ replicate (n - m) 𝟘)) (sym (length-map (entriesOf l) (termOf r c α β))))
 
   -- |K_M| times the ratio's first word is ω_M's
   pub value-made : {alpha beta n : ℕ} → Challenged q p k alpha beta → n ≡ sizeFor (length (entriesOf l))
-      → (of {q = q} n ⊗ of (getD (words (ratio k (of {q = q} alpha) (of beta) M)) 0 0)) .word ≡ extension k M (of {q = q} alpha) (of beta) .word
+      → (of {q = q} n ⊗ of (getD (words (ratio k (of {q = q} alpha) (of beta) M)) 0 0)) .word
+      ≡ extension k M (of {q = q} alpha) (of beta) .word
   value-made {alpha} {beta} H e =
       let α : Elem q = of alpha in
       let β : Elem q = of beta in
@@ -141,6 +143,7 @@ module _ {q : Prime} {p r c : ℕ} {l : List ℕ} {k : Circuit} {M : MatrixName}
       ∙ value-by-constant (G .qualifies) k (well-formed-at (H .well-formed)) α β (H .α-outside) (H .β-outside) M)
 
 -- the ratio's words without the first are those of g_M
-pub remainder-made : {q : Prime} (k : Circuit) (M : MatrixName) (α β : Elem q) → tail (words (ratio k α β M)) ≡ words (matrixRemainder k α β M)
+pub remainder-made : {q : Prime} (k : Circuit) (M : MatrixName) (α β : Elem q)
+    → tail (words (ratio k α β M)) ≡ words (matrixRemainder k α β M)
 unfolding matrixRemainder
 remainder-made k M α β = words-tail (ratio k α β M)

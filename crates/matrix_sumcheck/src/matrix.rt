@@ -51,7 +51,8 @@ pub fn terms_into(p: u32, rows: &[u32], columns: &[u32], entries: &[u32], out: &
     requires { ⌜ 0 < p ⌝ }
     requires { ⌜ EntriesWithin (length (now rows)) (length (now columns)) (now entries) ⌝ }
     requires { ⌜ length (now out) ≡ sizeFor (length (entriesOf (now entries))) ⌝ }
-    ensures { λ _. ⌜ ((q : Prime) → q .p ≡ p → (r c alpha beta : ℕ) → LagrangeLists q r c alpha beta (now (rows .entry)) (now (columns .entry))
+    ensures { λ _. ⌜ ((q : Prime) → q .p ≡ p → (r c alpha beta : ℕ)
+        → LagrangeLists q r c alpha beta (now (rows .entry)) (now (columns .entry))
         → now (out .exit)
         ≡ words (padded {q = q} (length (now (out .entry))) (terms r c (of alpha) (of beta) (now (entries .entry))))) ⌝ }
 {

@@ -119,7 +119,8 @@ returns c q k M r n alpha beta G H L D =
     let x : Elem q = of (a .delta) ⊗ (of (sizeOf (a .entries .now)) ⊘ of z) in
     let shared : of (share .multiply .result) ≡ of {q = q} (sizeOf (a .entries .now)) ⊘ of z =
     of-result _ (share .multiply .ensures q e)
-    ∙ ap₂ (λ (s t : Elem q). s ⊗ t) (ap of (size .size-of .ensures)) (of-result _ (share .before .size-inverse .ensures q (G .qualifies) e)) in
+    ∙ ap₂ (λ (s t : Elem q). s ⊗ t) (ap of (size .size-of .ensures))
+    (of-result _ (share .before .size-inverse .ensures q (G .qualifies) e)) in
     let factor : of (minus .subtract .result) ≡ 𝟘 ⊖ x =
     of-result _ (minus .subtract .ensures q e)
     ∙ ap (λ (s : Elem q). 𝟘 ⊖ s) (of-result _ (product .multiply2 .ensures q e) ∙ ap (λ (s : Elem q). of (a .delta) ⊗ s) shared) in

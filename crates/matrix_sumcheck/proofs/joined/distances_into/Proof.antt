@@ -41,7 +41,8 @@ first q n = sym (one-word q)
 abbrev Inv-loop : tie.InvT-loop
 Inv-loop p y out₀ n g power₀ i₀ out power i =
     (i ≤ length out) × (length out ≡ length out₀)
-    × ((q : Prime) → Known q p → (power ≡ element {q = q} (length out₀) i .word) × Filled (words (distances {q = q} (length out₀) (of y))) out i)
+    × ((q : Prime) → Known q p → (power ≡ element {q = q} (length out₀) i .word)
+    × Filled (words (distances {q = q} (length out₀) (of y))) out i)
 
 abbrev μ-loop : tie.MeasureT-loop
 μ-loop p y out₀ n g power₀ i₀ out power i = length out - i

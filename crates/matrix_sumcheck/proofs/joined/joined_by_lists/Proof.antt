@@ -35,7 +35,9 @@ abbrev at-first : tie.After-add-matrix2 → tie.After-add-matrix
 at-first c = c .before .before .before .before
 
 -- the slice keeps its length
-kept-by-first : (c : tie.After-add-matrix) → length (c .add-matrix .last .1 .1 .1 .1 .1 .1 .1 .0) ≡ length (start (at-clear c) .args .out .now)
+kept-by-first :
+    (c : tie.After-add-matrix)
+    → length (c .add-matrix .last .1 .1 .1 .1 .1 .1 .1 .0) ≡ length (start (at-clear c) .args .out .now)
 kept-by-first c = c .add-matrix .kept .1 .1 .1 .1 .1 .1 .1 .0 ∙ at-clear c .clear .kept .0
 
 kept-by-second :
@@ -91,9 +93,11 @@ returns c q k r m alpha beta G H L D =
     let term : ℕ → MatrixName → Poly q = joinedTerm (lists (a .ea .now) (a .eb .now) (a .ec .now)) k (of alpha) (of beta) δ in
     let zeros : map of (cleared .clear .last .0) ≡ replicate n (𝟘 {q = q}) = ap (map of) (cleared .clear .ensures) ∙ of-zeros n in
     let one : map of (first .add-matrix .last .1 .1 .1 .1 .1 .1 .1 .0) ≡ replicate n 𝟘 ⊞ term n A =
-    of-results _ (first .add-matrix .ensures q k A r m alpha beta (G A) H L D) ∙ ap₂ _⊞_ zeros (ap (λ z. term z A) (cleared .clear .kept .0)) in
+    of-results _ (first .add-matrix .ensures q k A r m alpha beta (G A) H L D)
+    ∙ ap₂ _⊞_ zeros (ap (λ z. term z A) (cleared .clear .kept .0)) in
     let two : map of (second .add-matrix2 .last .1 .1 .1 .1 .1 .1 .1 .0) ≡ replicate n 𝟘 ⊞ term n A ⊞ term n B =
-    of-results _ (second .add-matrix2 .ensures q k B r m alpha beta (G B) H L D) ∙ ap₂ _⊞_ one (ap (λ z. term z B) (kept-by-first first)) in
+    of-results _ (second .add-matrix2 .ensures q k B r m alpha beta (G B) H L D)
+    ∙ ap₂ _⊞_ one (ap (λ z. term z B) (kept-by-first first)) in
     third .add-matrix3 .ensures q k C r m alpha beta (G C) H L D
     ∙ ap words
     (ap₂ _⊞_ two (ap (λ z. term z C) (kept-by-second second))

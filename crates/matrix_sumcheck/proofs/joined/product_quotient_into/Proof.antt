@@ -46,7 +46,9 @@ below c = c .products-into .last .1 .1 .1 .1 .0
 abbrev made : tie.After-terms-into → List ℕ
 made c = c .terms-into .last .1 .1 .1 .1 .0
 
-below-length : (c : tie.After-products-into) → let n : ℕ = length (start c .args .out .now) + 1 in n ≡ length (take n (returned 1024 n (below c)))
+below-length :
+    (c : tie.After-products-into)
+    → let n : ℕ = length (start c .args .out .now) + 1 in n ≡ length (take n (returned 1024 n (below c)))
 below-length c = back-length 1024 (fits (start c)) (below c) (c .products-into .kept .1 .1 .1 .1 .0)
 
 made-length :
@@ -140,7 +142,8 @@ returns c q k M r m alpha beta G H L D =
     back-list 1024 (fits s) (made t) (t .terms-into .kept .1 .1 .1 .1 .0) (padded n ts)
     (t .terms-into .ensures q (G .known .value) r m alpha beta L ∙ ap (λ (j : ℕ). words (padded j ts)) lent) in
     d .divide-product-into .ensures q (G .known) .is-quotient
-    ∙ divided (take n (returned 1024 n (below b))) (take n (returned 1024 n (made t))) (tabulate n place) (padded n ts) (below-length b) left right
+    ∙ divided (take n (returned 1024 n (below b))) (take n (returned 1024 n (made t))) (tabulate n place) (padded n ts)
+    (below-length b) left right
     ∙ ap₂ (λ (f g : Poly q). words (quotient n (f ⊠ g))) (denominator-made G H (s .pre .1 .1 .0) D n size) (ratio-by-terms G H n size)
 
 pub product-quotient-into-spec : {M : Type 1} → statement M

@@ -36,7 +36,8 @@ shared-slice-read-multiply : tie.Need-shared-slice-read-multiply
 shared-slice-read-multiply c =
     let w = c .before .before in
     let s = w .before .before .before .before in
-    subst (λ (i : ℕ). i < length (s .args .rows .now)) (sym (w .word-or-zero .ensures)) (within-at (s .pre .1 .0) (s .args .i) .row-below)
+    subst (λ (i : ℕ). i < length (s .args .rows .now)) (sym (w .word-or-zero .ensures))
+    (within-at (s .pre .1 .0) (s .args .i) .row-below)
 
 mul-multiply-2 : tie.Need-mul-multiply-2
 mul-multiply-2 c = search needs
@@ -45,7 +46,8 @@ shared-slice-read-multiply-2 : tie.Need-shared-slice-read-multiply-2
 shared-slice-read-multiply-2 c =
     let w = c .before .before in
     let s = w .before .before .before .before .before in
-    subst (λ (i : ℕ). i < length (s .args .columns .now)) (sym (w .word-or-zero2 .ensures)) (within-at (s .pre .1 .0) (s .args .i) .column-below)
+    subst (λ (i : ℕ). i < length (s .args .columns .now)) (sym (w .word-or-zero2 .ensures))
+    (within-at (s .pre .1 .0) (s .args .i) .column-below)
 
 multiply-requires : tie.Need-multiply-requires
 multiply-requires c κs = search needs

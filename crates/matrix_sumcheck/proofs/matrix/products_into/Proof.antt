@@ -54,8 +54,8 @@ loop-again c =
       simp length-set (omega arith),
       simp length-set (l .inv .1),
       λ q e.
-          rule-turn (length (a .out .now)) (rule q (a .rows .now) (a .columns .now) (a .entries .now)) (l .out) (l .i) (c .product-at .result)
-          (l .inv .1) (omega arith) (l .inv .2 q e) (c .product-at .ensures q e),
+          rule-turn (length (a .out .now)) (rule q (a .rows .now) (a .columns .now) (a .entries .now)) (l .out) (l .i)
+          (c .product-at .result) (l .inv .1) (omega arith) (l .inv .2 q e) (c .product-at .ensures q e),
     )
 
 same-length : tie.Need-same-length Inv-loop μ-loop

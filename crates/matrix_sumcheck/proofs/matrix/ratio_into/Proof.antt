@@ -18,11 +18,13 @@ use Rattle.matrix_sumcheck.proofs.matrix.ratio_into.Statement.{statemen
 use Rattle.matrix_sumcheck.proofs.matrix.ratio_into.Tie as tie
 
 -- the interpolation of a list of words read back
-interpolated : (q : Prime) (l : List ℕ) (t : List (Elem q)) {n g : ℕ} {out : List ℕ} → n ≡ length l → map of l ≡ t → g ≡ root {q = q} n .word
+interpolated : (q : Prime) (l : List ℕ) (t : List (Elem q)) {n g : ℕ} {out : List ℕ}
+    → n ≡ length l → map of l ≡ t → g ≡ root {q = q} n .word
     → (g ≡ root {q = q} (length l) .word → out ≡ words (interpolate (length l) (map (of {q = q}) l)))
     → out ≡ words (interpolate n t)
 interpolated q l t long read at-root call =
-    call (at-root ∙ ap (λ (k : ℕ). root {q = q} k .word) long) ∙ ap₂ (λ (k : ℕ) (f : List (Elem q)). words (interpolate k f)) (sym long) read
+    call (at-root ∙ ap (λ (k : ℕ). root {q = q} k .word) long)
+    ∙ ap₂ (λ (k : ℕ) (f : List (Elem q)). words (interpolate k f)) (sym long) read
 
 -- the slice fits into an array
 fits : (s : tie.Start) → length (s .args .out .now) ≤ 1024

@@ -24,7 +24,9 @@ abbrev made : tie.After-ratio-into → List ℕ
 made c = c .ratio-into .last .1 .1 .1 .1 .0
 
 -- the ratio as it is lent the second time
-made-length : (c : tie.After-ratio-into) → let n : ℕ = length (start c .args .out .now) + 1 in n ≡ length (take n (returned 1024 n (made c)))
+made-length :
+    (c : tie.After-ratio-into)
+    → let n : ℕ = length (start c .args .out .now) + 1 in n ≡ length (take n (returned 1024 n (made c)))
 made-length c = back-length 1024 (fits (start c)) (made c) (c .ratio-into .kept .1 .1 .1 .1 .0)
 
 -- its first word
@@ -82,7 +84,8 @@ returns c q k M m n alpha beta G H L =
           ∙ remainder-made k M (of alpha) (of beta);
       is-value =
           c .multiply .ensures q (G .known .value)
-          ∙ ap (λ (w : ℕ). (of {q = q} (length (s .args .out .now) + 1) ⊗ of w) .word) (made-first t ∙ ap (λ (l : List ℕ). getD l 0 0) ratio)
+          ∙ ap (λ (w : ℕ). (of {q = q} (length (s .args .out .now) + 1) ⊗ of w) .word)
+          (made-first t ∙ ap (λ (l : List ℕ). getD l 0 0) ratio)
           ∙ value-made G H (s .pre .1 .1);
     }
 

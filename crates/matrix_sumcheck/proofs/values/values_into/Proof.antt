@@ -107,8 +107,8 @@ returns c q k G H =
     v .values-by-lists .ensures q k (a .r) (a .c) (a .alpha) (a .beta) G H
     (record {
       by-row =
-          lent-list (λ (n : ℕ). lagrangeValues {q = q} n (of (a .alpha))) (rows-fit (start r)) (rows r) (r .lagrange-values-into .kept .1 .1 .0)
-          (r .lagrange-values-into .ensures q known);
+          lent-list (λ (n : ℕ). lagrangeValues {q = q} n (of (a .alpha))) (rows-fit (start r)) (rows r)
+          (r .lagrange-values-into .kept .1 .1 .0) (r .lagrange-values-into .ensures q known);
       by-column =
           lent-list (λ (n : ℕ). lagrangeValues {q = q} n (of (a .beta))) (columns-fit (start r)) (columns l)
           (l .lagrange-values-into2 .kept .1 .1 .0) (l .lagrange-values-into2 .ensures q known);
