@@ -24,13 +24,9 @@ module _ {o : Option Refusal} where
   pub fill-done : {S : Type 0} {after result : S} (before : S) → o ≡ none → after ≡ result → filling (Done tt) after ≡ fills (judged o result) before
   fill-done {S} {after} {result} before fine same = sym (ap₂ (λ (o : Option Refusal) (w : S). fills (judged o w) before) fine (sym same))
 
-  module _ {a b c : ℕ} (w : Three ℕ) (fine : o ≡ none) (at-a : a ≡ w .a) (at-b : b ≡ w .b) (at-c : c ≡ w .c) where
-    pub three-done : Done (threeOf a b c) ≡ judged o w
-    three-done = done w fine (three-same w at-a at-b at-c)
-
-    pub fill-three-done : {S : Type 0} {after result : S} (before : S) → after ≡ result
-        → filling (Done (threeOf a b c)) after ≡ fillsThree (judged o (w, result)) before
-    fill-three-done {S} {after} {result} before same =
-        sym
-        (ap (λ (o : Option Refusal). fillsThree (judged o (w, result)) before) fine
-        ∙ ap₂ (λ (w : Three ℕ) (l : S). filling (Done w) l) (sym (three-same w at-a at-b at-c)) (sym same))
+  pub fill-three-done : {t w : Three ℕ} → o ≡ none → t ≡ w → {S : Type 0} {after result : S} (before : S) → after ≡ result
+      → filling (Done t) after ≡ fillsThree (judged o (w, result)) before
+  fill-three-done {t} {w} fine words {S} {after} {result} before same =
+      sym
+      (ap (λ (o : Option Refusal). fillsThree (judged o (w, result)) before) fine
+      ∙ ap₂ (λ (w : Three ℕ) (l : S). filling (Done w) l) (sym words) (sym same))

@@ -17,10 +17,10 @@ use call_refusals::judge_round;
 use circuit::matrices;
 use field::MODULE_PRIME;
 use matrix_sumcheck::joined::joined_quotient_into;
-use matrix_sumcheck::matrix::matrix_remainder_into;
-use matrix_sumcheck::matrix::matrix_value;
+use matrix_sumcheck::values::values_into;
 use openings::index_at;
 use openings::messages_opened;
+use prover::line::line_into;
 use shared::Fault;
 use shared::Triple;
 
@@ -67,7 +67,7 @@ pub fn first_round(
     match fault {
         Fault::Fine => {
             prover::witness::witness_into(p, c, x, z, mask, witness);
-            prover::rows::row_quotient_into(p, r, ea, eb, ec, z, rowQuotient);
+            prover::rows::row_quotient_into(p, r, ea, eb, z, rowQuotient);
             Filled::Done
         }
         Fault::Refused(number, position) => Filled::Refused(number, position),
@@ -97,11 +97,7 @@ pub fn second_round(
     let at = [alpha];
     let fault = judge_round(p, r, c, x, ea, eb, ec, z, mask, m, none, none, &at, &at);
     match fault {
-        Fault::Fine => ThreeWords::Value(Triple {
-            a: prover::rows::row_sum_value(p, r, ea, z, alpha),
-            b: prover::rows::row_sum_value(p, r, eb, z, alpha),
-            c: prover::rows::row_sum_value(p, r, ec, z, alpha),
-        }),
+        Fault::Fine => ThreeWords::Value(prover::rows::sums_at(p, r, ea, eb, ec, z, alpha)),
         Fault::Refused(number, position) => ThreeWords::Refused(number, position),
     }
 }
@@ -152,12 +148,7 @@ pub fn third_round(
     );
     match fault {
         Fault::Fine => {
-            let n = 2 * (c as usize);
-            let mut sum = [0u32; 2048];
-            let line = &mut sum[..n];
-            prover::line::line_of(p, r, c, x, ea, eb, ec, z, mask, m, alpha, eta, line);
-            prover::line::line_remainder_into(p, c, &sum[..n], remainder);
-            prover::line::line_quotient_into(p, c, &sum[..n], quotient);
+            line_into(p, r, c, x, ea, eb, ec, z, mask, m, alpha, eta, remainder, quotient);
             Filled::Done
         }
         Fault::Refused(number, position) => Filled::Refused(number, position),
@@ -212,14 +203,7 @@ pub fn fourth_round(
     );
     match fault {
         Fault::Fine => {
-            matrix_remainder_into(p, r, c, ea, alpha, beta, ga);
-            matrix_remainder_into(p, r, c, eb, alpha, beta, gb);
-            matrix_remainder_into(p, r, c, ec, alpha, beta, gc);
-            ThreeWords::Value(Triple {
-                a: matrix_value(p, r, c, ea, alpha, beta),
-                b: matrix_value(p, r, c, eb, alpha, beta),
-                c: matrix_value(p, r, c, ec, alpha, beta),
-            })
+            ThreeWords::Value(values_into(p, r, c, ea, eb, ec, alpha, beta, ga, gb, gc))
         }
         Fault::Refused(number, position) => ThreeWords::Refused(number, position),
     }

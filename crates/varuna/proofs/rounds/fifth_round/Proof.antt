@@ -92,7 +92,7 @@ joined-quotient-into-requires : tie.Need-joined-quotient-into-requires
 unfolding lengths sizesOf circuitOf largest
 joined-quotient-into-requires c κs =
     let F = fits (c .before) in
-    (babyBear-modulus, (shaped (F .fits), one-below-largest _ _ _ _ (F .lent-fit .0)))
+    (babyBear-modulus, (shaped (F .fits), (F .fits .within, one-below-largest _ _ _ _ (F .lent-fit .0))))
 
 enum-known-fault : tie.Need-enum-known-fault
 enum-known-fault c = search needs

@@ -96,7 +96,7 @@ row-quotient-into-requires : tie.Need-row-quotient-into-requires
 unfolding lengths sizesOf circuitOf
 row-quotient-into-requires c κs =
     let F = fits (c .before .before .before .before .before) in
-    (lit< tt, (R-fits (F .fits), (eqb-true _ _ (F .lent-fit .1 .0), shares (F .fits))))
+    (lit< tt, (R-fits (F .fits), (eqb-true _ _ (F .lent-fit .1 .0), (shares (F .fits) .in-a, shares (F .fits) .in-b))))
 
 enum-known-fault : tie.Need-enum-known-fault
 enum-known-fault c = search needs
@@ -105,7 +105,7 @@ same-length : tie.Need-same-length
 same-length c = c .before .before .before .before .before .before .witness-into .kept .1 .1 .1 .1 .1 .0
 
 same-length-2 : tie.Need-same-length-2
-same-length-2 c = c .before .before .row-quotient-into .kept .1 .1 .1 .1 .1 .1 .0
+same-length-2 c = c .before .before .row-quotient-into .kept .1 .1 .1 .1 .1 .0
 
 returns : tie.Need-returns
 unfolding firstRoundCall circuitOf
@@ -118,7 +118,7 @@ returns c =
     fill-done (a .witness .now, a .rowQuotient .now) (matched (d .enum-told .given .1) (judgement (d .before .before)))
     (ap₂ (λ (l m : List ℕ). (l, m))
     (c .before .before .before .before .before .before .witness-into .ensures babyBear known-prime k refl refl)
-    (c .before .before .row-quotient-into .ensures babyBear known-prime babyBear-qualifies k (F .fits .well-formed) refl refl
+    (c .before .before .row-quotient-into .ensures babyBear known-prime babyBear-qualifies k (F .fits .well-formed) refl refl refl
     (assignmentIn babyBear (input s))
     (assignment-on-C (F .fits) refl babyBear-qualifies (a .mask))))
 

@@ -2,19 +2,20 @@
 use mathlib.Core.Path.{_≡_, refl, ap, _∙_}
 use mathlib.Core.List.{List, [], _∷_}
 use Prim.Native.Nat.{ℕ}
+use lib.Dec.{lit<}
 use lib.ListN.{length}
-use Rattle.field.specs.Element.{Elem, of, words}
+use Rattle.field.specs.Element.{of, words}
 use Rattle.domain.specs.BabyBear.{babyBear}
-use Rattle.domain.proofs.Qualification.{babyBear-qualifies, babyBear-modulus}
-use Rattle.protocol.specs.Three.{A, B, C, each, mapThree}
+use Rattle.domain.proofs.Qualification.{babyBear-qualifies}
+use Rattle.protocol.specs.Three.{each}
 use Rattle.protocol.specs.Circuit.{Circuit, sizesOf}
-use Rattle.protocol.specs.Messages.{Messages, lengths, values, matrixRemainder}
+use Rattle.protocol.specs.Messages.{Messages, lengths, matrixRemainder}
 use Rattle.shared.specs.Meanings.{faultRefusal}
 use Rattle.protocol.specs.Calls.{ProverInput, circuitOf, roundRefusal, fourthRoundCall}
 use Rattle.circuit.specs.Given.{given, proverInput}
 use Rattle.varuna.specs.Inputs.{threeOf}
 use Rattle.varuna.proofs.AnswerLaws.{matched, fill-three-done, three-same}
-use Rattle.circuit.proofs.Fitting.{R-fits, C-fits}
+use Rattle.circuit.proofs.Fitting.{shaped}
 use Rattle.matrix_sumcheck.proofs.GivenLaws.{challenged, matrix-given}
 use Rattle.varuna.proofs.CallRounds.{InputFits, input-fits, one-below, known-prime}
 use borrow.Author.Needs.{needs}
@@ -68,16 +69,6 @@ fits c =
     let s = start j in
     input-fits (input s) (lent s) (due s) (challenges s) (points s) (j .judge-round .result) (judgement j) (c .enum-told .given .1)
 
--- the places of the three fills, from the last value
-abbrev at-c : tie.After-matrix-value3 → tie.After-matrix-remainder-into3
-at-c c = c .before .before .before .before .before
-
-abbrev at-b : tie.After-matrix-value3 → tie.After-matrix-remainder-into2
-at-b c = at-c c .before .before .before .before
-
-abbrev at-a : tie.After-matrix-value3 → tie.After-matrix-remainder-into
-at-a c = at-b c .before .before .before .before
-
 lengths-of-requires : tie.Need-lengths-of-requires
 lengths-of-requires c κs = tt
 
@@ -99,71 +90,43 @@ judge-round-requires c κs = search needs
 enum-told : tie.Need-enum-told
 enum-told c = search needs
 
-matrix-remainder-into-requires : tie.Need-matrix-remainder-into-requires
+values-into-requires : tie.Need-values-into-requires
 unfolding lengths sizesOf circuitOf
-matrix-remainder-into-requires c κs =
-    let F = fits (c .before) in
-    (babyBear-modulus, ((R-fits (F .fits), C-fits (F .fits)), (F .fits .lists .list-a, one-below _ _ (F .lent-fit .0))))
-
-matrix-remainder-into-requires-2 : tie.Need-matrix-remainder-into-requires-2
-unfolding lengths sizesOf circuitOf
-matrix-remainder-into-requires-2 c κs =
-    let F = fits (c .before .before .before .before .before) in
-    (babyBear-modulus, ((R-fits (F .fits), C-fits (F .fits)), (F .fits .lists .list-b, one-below _ _ (F .lent-fit .1 .0))))
-
-matrix-remainder-into-requires-3 : tie.Need-matrix-remainder-into-requires-3
-unfolding lengths sizesOf circuitOf
-matrix-remainder-into-requires-3 c κs =
-    let F = fits (c .before .before .before .before .before .before .before .before .before) in
-    (babyBear-modulus, ((R-fits (F .fits), C-fits (F .fits)), (F .fits .lists .list-c, one-below _ _ (F .lent-fit .1 .1 .0))))
-
-matrix-value-requires : tie.Need-matrix-value-requires
-matrix-value-requires c κs =
-    let F = fits (c .before .before .before .before .before .before .before .before .before .before .before .before) in
-    (babyBear-modulus, (R-fits (F .fits), C-fits (F .fits)))
-
-matrix-value-requires-2 : tie.Need-matrix-value-requires-2
-matrix-value-requires-2 c κs =
-    let F = fits (c .before .before .before .before .before .before .before .before .before .before .before .before .before) in
-    (babyBear-modulus, (R-fits (F .fits), C-fits (F .fits)))
-
-matrix-value-requires-3 : tie.Need-matrix-value-requires-3
-matrix-value-requires-3 c κs =
-    let F = fits (c .before .before .before .before .before .before .before .before .before .before .before .before .before .before) in
-    (babyBear-modulus, (R-fits (F .fits), C-fits (F .fits)))
+values-into-requires c κs =
+    let F = fits (c .before .before .before) in
+    (lit< tt,
+    (shaped (F .fits),
+    (F .fits .within, (one-below _ _ (F .lent-fit .0), (one-below _ _ (F .lent-fit .1 .0), one-below _ _ (F .lent-fit .1 .1 .0))))))
 
 enum-known-fault : tie.Need-enum-known-fault
 enum-known-fault c = search needs
 
 same-length : tie.Need-same-length
-same-length c = at-a c .matrix-remainder-into .kept .1 .1 .1 .1 .1 .1 .0
+same-length c = c .before .before .before .before .before .before .values-into .kept .1 .1 .1 .1 .1 .1 .1 .1 .0
 
 same-length-2 : tie.Need-same-length-2
-same-length-2 c = at-b c .matrix-remainder-into2 .kept .1 .1 .1 .1 .1 .1 .0
+same-length-2 c = c .before .before .before .before .before .before .values-into .kept .1 .1 .1 .1 .1 .1 .1 .1 .1 .0
 
 same-length-3 : tie.Need-same-length-3
-same-length-3 c = at-c c .matrix-remainder-into3 .kept .1 .1 .1 .1 .1 .1 .0
+same-length-3 c = c .before .before .before .before .before .before .values-into .kept .1 .1 .1 .1 .1 .1 .1 .1 .1 .1 .0
 
 returns : tie.Need-returns
-unfolding fourthRoundCall lengths sizesOf circuitOf values
+unfolding fourthRoundCall lengths sizesOf circuitOf
 returns c =
-    let d = at-a c .before .before in
+    let v = c .before .before .before .before .before .before in
+    let d = v .before .before .before .before in
     let s = start (d .before .before) in
     let a = s .args in
     let F = fits d in
     let k : Circuit = circuitOf (given (a .r) (a .c) (a .x) (a .ea .now) (a .eb .now) (a .ec .now)) in
-    let outside = challenged (F .fits) (a .alpha) (a .beta) [] (F .outside) in
-    let given-matrix = matrix-given known-prime babyBear-qualifies (a .r) (a .c) (a .x) (a .ea .now) (a .eb .now) (a .ec .now) in
-    fill-three-done (mapThree (λ (e : Elem babyBear). e .word) (values k (of (a .alpha)) (of (a .beta))))
-    (matched (d .enum-told .given .1) (judgement (d .before .before)))
-    (c .before .before .matrix-value .ensures babyBear k A (given-matrix A))
-    (c .before .matrix-value2 .ensures babyBear k B (given-matrix B))
-    (c .matrix-value3 .ensures babyBear k C (given-matrix C))
+    let made =
+    v .values-into .ensures babyBear k
+    (matrix-given known-prime babyBear-qualifies (a .r) (a .c) (a .x) (a .ea .now) (a .eb .now) (a .ec .now))
+    (challenged (F .fits) (a .alpha) (a .beta) [] (F .outside)) in
+    fill-three-done (matched (d .enum-told .given .1) (judgement (d .before .before))) (made .are-values)
     (threeOf (a .ga .now) (a .gb .now) (a .gc .now))
     (three-same (each (λ M. words (matrixRemainder {q = babyBear} k (of (a .alpha)) (of (a .beta)) M)))
-    (at-a c .matrix-remainder-into .ensures babyBear k A (given-matrix A) outside)
-    (at-b c .matrix-remainder-into2 .ensures babyBear k B (given-matrix B) outside)
-    (at-c c .matrix-remainder-into3 .ensures babyBear k C (given-matrix C) outside))
+    (made .remainder-a) (made .remainder-b) (made .remainder-c))
 
 returns-2 : tie.Need-returns-2
 unfolding fourthRoundCall lengths sizesOf circuitOf
@@ -180,12 +143,7 @@ fourth-round-spec =
     slice-aggregate-judge-round-4
     judge-round-requires
     enum-told
-    matrix-remainder-into-requires
-    matrix-remainder-into-requires-2
-    matrix-remainder-into-requires-3
-    matrix-value-requires
-    matrix-value-requires-2
-    matrix-value-requires-3
+    values-into-requires
     enum-known-fault
     same-length
     same-length-2

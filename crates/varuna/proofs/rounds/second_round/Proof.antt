@@ -6,14 +6,14 @@ use lib.Dec.{lit<}
 use Rattle.field.specs.Element.{Elem, of}
 use Rattle.domain.specs.BabyBear.{babyBear}
 use Rattle.domain.proofs.Qualification.{babyBear-qualifies}
-use Rattle.protocol.specs.Three.{A, B, C, mapThree}
+use Rattle.protocol.specs.Three.{mapThree}
 use Rattle.protocol.specs.Circuit.{Circuit}
 use Rattle.protocol.specs.Messages.{sums}
 use Rattle.shared.specs.Meanings.{faultRefusal}
 use Rattle.protocol.specs.Calls.{ProverInput, circuitOf, roundRefusal, secondRoundCall}
 use Rattle.circuit.specs.Given.{given, proverInput}
 use Rattle.prover.specs.CallGiven.{assignmentIn}
-use Rattle.varuna.proofs.AnswerLaws.{matched, three-done}
+use Rattle.varuna.proofs.AnswerLaws.{matched, done}
 use Rattle.circuit.proofs.Fitting.{R-fits, shares}
 use Rattle.prover.proofs.CallLaws.{assignment-on-C}
 use Rattle.varuna.proofs.CallRounds.{InputFits, input-fits, known-prime}
@@ -74,39 +74,27 @@ judge-round-requires c κs = search needs
 enum-told : tie.Need-enum-told
 enum-told c = search needs
 
-row-sum-value-requires : tie.Need-row-sum-value-requires
-row-sum-value-requires c κs =
-    let F = fits (c) in
-    (lit< tt, (R-fits (F .fits), shares (F .fits) .in-a))
-
-row-sum-value-requires-2 : tie.Need-row-sum-value-requires-2
-row-sum-value-requires-2 c κs =
-    let F = fits (c .before) in
-    (lit< tt, (R-fits (F .fits), shares (F .fits) .in-b))
-
-row-sum-value-requires-3 : tie.Need-row-sum-value-requires-3
-row-sum-value-requires-3 c κs =
-    let F = fits (c .before .before) in
-    (lit< tt, (R-fits (F .fits), shares (F .fits) .in-c))
+sums-at-requires : tie.Need-sums-at-requires
+sums-at-requires c κs =
+    let F = fits c in
+    (lit< tt, (R-fits (F .fits), shares (F .fits)))
 
 enum-known-fault : tie.Need-enum-known-fault
 enum-known-fault c = search needs
 
 returns : tie.Need-returns
-unfolding secondRoundCall sums circuitOf
+unfolding secondRoundCall circuitOf
 returns c =
-    let d = c .before .before .before in
+    let d = c .before in
     let s = start (d .before .before) in
     let a = s .args in
     let F = fits d in
     let k : Circuit = circuitOf (given (a .r) (a .c) (a .x) (a .ea .now) (a .eb .now) (a .ec .now)) in
     let assigned = assignmentIn babyBear (input s) in
-    let on = assignment-on-C (F .fits) refl babyBear-qualifies (a .mask) in
-    three-done (mapThree (λ (e : Elem babyBear). e .word) (sums k assigned (of (a .alpha))))
+    done (mapThree (λ (e : Elem babyBear). e .word) (sums k assigned (of (a .alpha))))
     (matched (d .enum-told .given .1) (judgement (d .before .before)))
-    (c .before .before .row-sum-value .ensures babyBear known-prime babyBear-qualifies k (F .fits .well-formed) refl A refl assigned on)
-    (c .before .row-sum-value2 .ensures babyBear known-prime babyBear-qualifies k (F .fits .well-formed) refl B refl assigned on)
-    (c .row-sum-value3 .ensures babyBear known-prime babyBear-qualifies k (F .fits .well-formed) refl C refl assigned on)
+    (c .sums-at .ensures babyBear known-prime babyBear-qualifies k (F .fits .well-formed) refl refl assigned
+    (assignment-on-C (F .fits) refl babyBear-qualifies (a .mask)))
 
 returns-2 : tie.Need-returns-2
 unfolding secondRoundCall
@@ -122,9 +110,7 @@ second-round-spec =
     slice-aggregate-judge-round-2
     judge-round-requires
     enum-told
-    row-sum-value-requires
-    row-sum-value-requires-2
-    row-sum-value-requires-3
+    sums-at-requires
     enum-known-fault
     returns
     returns-2)

@@ -18,7 +18,6 @@ use Rattle.poly.proofs.LentParts.{part-length, filled-within, filled-length, of
 use Rattle.prover.specs.CallGiven.{lineIn}
 use Rattle.varuna.proofs.AnswerLaws.{matched, fill-done}
 use Rattle.circuit.proofs.Fitting.{C-fits}
-use Rattle.prover.proofs.CallLaws.{line-bound}
 use Rattle.varuna.proofs.CallRounds.{InputFits, input-fits, known-prime}
 use borrow.Author.Needs.{needs}
 use Rattle.varuna.proofs.rounds.third_round.Statement.{statement}
@@ -71,13 +70,6 @@ fits c =
     let s = start j in
     input-fits (input s) (lent s) (due s) (challenges s) (points s) (j .judge-round .result) (judgement j) (c .enum-told .given .1)
 
--- the line in the array, that it is as long as its place, and that this is within the array
-abbrev line : tie.After-line-of → List ℕ
-line c = c .line-of .last .1 .1 .1 .1 .1 .1 .1 .1 .1 .1 .1 .1 .0
-
-bounded : (c : tie.After-line-of) → 2 * start (c .before .before .before .before) .args .c ≤ 2048
-bounded c = line-bound (fits (c .before .before) .fits)
-
 lengths-of-requires : tie.Need-lengths-of-requires
 lengths-of-requires c κs = tt
 
@@ -99,79 +91,31 @@ judge-round-requires c κs = search needs
 enum-told : tie.Need-enum-told
 enum-told c = search needs
 
-mul-n : tie.Need-mul-n
-mul-n c = search needs
-
-array-borrow-prefix-sum : tie.Need-array-borrow-prefix-sum
-array-borrow-prefix-sum c = line-bound (fits c .fits)
-
-slice-aggregate-line : tie.Need-slice-aggregate-line
-slice-aggregate-line c = part-length _ _ (line-bound (fits (c .before) .fits))
-
-line-of-requires : tie.Need-line-of-requires
-line-of-requires c κs =
-    let F = fits (c .before) in
-    (babyBear-modulus, (F .fits, sym (part-length _ _ (line-bound (F .fits)))))
-
-array-share-prefix-sum : tie.Need-array-share-prefix-sum
-array-share-prefix-sum c =
-    let l = c .before in
-    filled-within _ _ (bounded l) (line l) (l .line-of .kept .1 .1 .1 .1 .1 .1 .1 .1 .1 .1 .1 .1 .0)
-
-slice-aggregate-line-remainder-into : tie.Need-slice-aggregate-line-remainder-into
-slice-aggregate-line-remainder-into c =
-    let l = c .before .before in
-    filled-length _ _ (bounded l) (line l) (l .line-of .kept .1 .1 .1 .1 .1 .1 .1 .1 .1 .1 .1 .1 .0)
-
-line-remainder-into-requires : tie.Need-line-remainder-into-requires
+line-into-requires : tie.Need-line-into-requires
 unfolding lengths sizesOf circuitOf
-line-remainder-into-requires c κs =
-    let F = fits (c .before .before .before .before .before) in
-    (lit< tt, (C-fits (F .fits), eqb-true _ _ (F .lent-fit .0)))
-
-array-share-prefix-sum-2 : tie.Need-array-share-prefix-sum-2
-array-share-prefix-sum-2 c =
-    let l = c .before .before .before .before .before .before in
-    filled-within _ _ (bounded l) (line l) (l .line-of .kept .1 .1 .1 .1 .1 .1 .1 .1 .1 .1 .1 .1 .0)
-
-slice-aggregate-line-quotient-into : tie.Need-slice-aggregate-line-quotient-into
-slice-aggregate-line-quotient-into c =
-    let l = c .before .before .before .before .before .before .before in
-    filled-length _ _ (bounded l) (line l) (l .line-of .kept .1 .1 .1 .1 .1 .1 .1 .1 .1 .1 .1 .1 .0)
-
-line-quotient-into-requires : tie.Need-line-quotient-into-requires
-unfolding lengths sizesOf circuitOf
-line-quotient-into-requires c κs =
-    let l = c .before .before .before .before .before .before .before .before in
-    let F = fits (l .before .before) in
-    let length-kept = filled-length _ _ (bounded l) (line l) (l .line-of .kept .1 .1 .1 .1 .1 .1 .1 .1 .1 .1 .1 .1 .0) in
-    (lit< tt, (C-fits (F .fits), (sym length-kept, eqb-true _ _ (F .lent-fit .1 .0))))
+line-into-requires c κs =
+    let F = fits (c .before .before) in
+    (babyBear-modulus, (F .fits, (eqb-true _ _ (F .lent-fit .0), eqb-true _ _ (F .lent-fit .1 .0))))
 
 enum-known-fault : tie.Need-enum-known-fault
 enum-known-fault c = search needs
 
 same-length : tie.Need-same-length
-same-length c = c .before .before .before .before .before .before .before .line-remainder-into .kept .1 .1 .1 .0
+same-length c = c .before .before .before .before .line-into .kept .1 .1 .1 .1 .1 .1 .1 .1 .1 .1 .1 .1 .0
 
 same-length-2 : tie.Need-same-length-2
-same-length-2 c = c .before .before .line-quotient-into .kept .1 .1 .1 .0
+same-length-2 c = c .before .before .before .before .line-into .kept .1 .1 .1 .1 .1 .1 .1 .1 .1 .1 .1 .1 .1 .0
 
 returns : tie.Need-returns
 unfolding thirdRoundCall lengths sizesOf circuitOf
 returns c =
-    let l = c .before .before .before .before .before .before .before .before .before .before .before in
-    let d = l .before .before in
+    let l = c .before .before .before .before in
+    let d = l .before .before .before in
     let s = start (d .before .before) in
     let a = s .args in
-    let k : Circuit = circuitOf (given (a .r) (a .c) (a .x) (a .ea .now) (a .eb .now) (a .ec .now)) in
-    let made =
-    of-filled _ _ (bounded l) (line l) (l .line-of .kept .1 .1 .1 .1 .1 .1 .1 .1 .1 .1 .1 .1 .0) (lineIn babyBear (input s) (a .alpha) (three (a .eta)))
-    (l .line-of .ensures babyBear known-prime babyBear-qualifies) in
+    let made = l .line-into .ensures babyBear known-prime babyBear-qualifies in
     fill-done (a .remainder .now, a .quotient .now) (matched (d .enum-told .given .1) (judgement (d .before .before)))
-    (ap₂ (λ (l m : List ℕ). (l, m))
-    (c .before .before .before .before .before .before .before .line-remainder-into .ensures babyBear refl k refl
-    ∙ ap (λ (f : Poly babyBear). words (lineRemainder k f)) made)
-    (c .before .before .line-quotient-into .ensures babyBear refl k refl ∙ ap (λ (f : Poly babyBear). words (lineQuotient k f)) made))
+    (ap₂ (λ (l m : List ℕ). (l, m)) (made .0) (made .1))
 
 returns-2 : tie.Need-returns-2
 unfolding thirdRoundCall lengths sizesOf circuitOf
@@ -188,16 +132,7 @@ third-round-spec =
     slice-aggregate-judge-round-4
     judge-round-requires
     enum-told
-    mul-n
-    array-borrow-prefix-sum
-    slice-aggregate-line
-    line-of-requires
-    array-share-prefix-sum
-    slice-aggregate-line-remainder-into
-    line-remainder-into-requires
-    array-share-prefix-sum-2
-    slice-aggregate-line-quotient-into
-    line-quotient-into-requires
+    line-into-requires
     enum-known-fault
     same-length
     same-length-2
