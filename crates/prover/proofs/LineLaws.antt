@@ -117,7 +117,8 @@ module _ {q : Prime} where
       ring (primeRing q) (o j ∷ a j ∷ b j ∷ c j ∷ []) (λ o a b c. o :+ a :+ b :+ c := o :+ (a :+ b :+ c)) tt)
 
   -- sums that begin with 0
-  from-zero : (n : ℕ) (f : ℕ → Elem q) → tabulate (length {A = ℕ} (replicate n 0)) (λ j. of (getD {A = ℕ} (replicate n 0) j 0) ⊕ f j) ≡ tabulate n f
+  from-zero : (n : ℕ) (f : ℕ → Elem q)
+      → tabulate (length {A = ℕ} (replicate n 0)) (λ j. of (getD {A = ℕ} (replicate n 0) j 0) ⊕ f j) ≡ tabulate n f
   from-zero n f =
       ap (λ (m : ℕ). tabulate m (λ j. of (getD {A = ℕ} (replicate n 0) j 0) ⊕ f j)) (length-replicate n 0)
       ∙ tabulate-ext n _ f (λ j below. ap (λ (w : ℕ). of w ⊕ f j) (replicate-at 0 n j) ∙ zero-add (primeRing q) (f j))

@@ -64,9 +64,10 @@ module _ {q : Prime} (Q : Qualifies q) (c : Circuit) (W : WellFormed (q .p) c) (
       eval-add R m (weights ⊠ ẑ) y
       ∙ ap₂ _⊕_ (divide n positive m y) (eval-mul R weights ẑ y ∙ ap (λ v. eval weights y ⊗ v) (eval-ẑ Q c W z r y))
       ∙ ring-by R
-      (eval (quotient n m) y ∷ eval (remainder n m) y ∷ vanishing n y ∷ eval weights y ∷ eval (interpolate n z) y ∷ r ∷ eval (quotient n product) y
-      ∷ eval (remainder n product) y ∷ [])
-      (λ h l v w z r k s. h :* v :+ l :+ w :* (z :+ r :* v) := (h :+ (r :* w :+ k)) :* v :+ (l :+ s) from (:1 ⊙ (w :* z := k :* v :+ s)) ∷ [])
+      (eval (quotient n m) y ∷ eval (remainder n m) y ∷ vanishing n y ∷ eval weights y ∷ eval (interpolate n z) y ∷ r
+      ∷ eval (quotient n product) y ∷ eval (remainder n product) y ∷ [])
+      (λ h l v w z r k s. h :* v :+ l :+ w :* (z :+ r :* v) := (h :+ (r :* w :+ k)) :* v :+ (l :+ s) from
+      (:1 ⊙ (w :* z := k :* v :+ s)) ∷ [])
       (sym (eval-mul R weights (interpolate n z) y) ∙ divide n positive product y, tt) tt
       ∙ sym (ap₂ (λ h l. h ⊗ vanishing n y ⊕ l)
       (eval-add R (quotient n m) (r · weights ⊞ quotient n product) y
@@ -107,7 +108,8 @@ module _ {q : Prime} (Q : Qualifies q) (c : Circuit) (W : WellFormed (q .p) c) (
   line-divided =
       let room : 2 * n - 1 + n < q .p = omega (arith, large-enough q Q, size-bound n (W .C-size)) in
       let (l, distinct, outside, more) = outside-many Q n (W .C-size) (2 * n - 1) room in
-      division-recovers Q n (W .C-size) (line c m ẑ α η) lineHigh lineLow (omega (arith, line-length)) (omega (arith, line-length, high-length)) low-length
+      division-recovers Q n (W .C-size) (line c m ẑ α η) lineHigh lineLow (omega (arith, line-length)) (omega (arith, line-length, high-length))
+      low-length
       (2 * n - 1) (omega (arith, line-length, positive)) (l, distinct, all-map (λ y allowed. (allowed, line-splits y)) l outside, more)
 
   -- Σ η_M M̂(α,Y) from the columns' sums, and g1 and h1 from it
@@ -117,7 +119,8 @@ module _ {q : Prime} (Q : Qualifies q) (c : Circuit) (W : WellFormed (q .p) c) (
   pub line-remainder-made : tail (remainder n m ⊞ remainder n (columns ⊠ interpolate n z)) ≡ lineRemainder c (line c m ẑ α η)
   unfolding lineRemainder
   line-remainder-made =
-      ap (λ w. tail (remainder n m ⊞ remainder n (w ⊠ interpolate n z))) (sym (weighted-by-columns Q c W α η)) ∙ ap tail (sym (line-divided .1))
+      ap (λ w. tail (remainder n m ⊞ remainder n (w ⊠ interpolate n z))) (sym (weighted-by-columns Q c W α η))
+      ∙ ap tail (sym (line-divided .1))
 
   pub line-quotient-made : quotient n m ⊞ (r · columns ⊞ quotient n (columns ⊠ interpolate n z)) ≡ lineQuotient c (line c m ẑ α η)
   unfolding lineQuotient

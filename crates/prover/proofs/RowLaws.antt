@@ -97,7 +97,8 @@ module _ (q : Prime) (Q : Qualifies q) (k : Circuit) (W : WellFormed (q .p) k) {
       ap (entryTotal (rowValues r α) z) (sym same)
       ∙ sumList-ext (primeRing q) _ _ (at (k .matrices) M) (all-map (λ e fits.
       let row : getD (rowValues r α) (e .row) 𝟘 ≡ lagrange (k .|R|) (element (k .|R|) (e .row)) α =
-      getD-tabulate r (e .row) (λ i. lagrange r (element r i) α) 𝟘 (omega (arith, fits .row-below)) ∙ (λ t. lagrange (sym eR t) (element (sym eR t) (e .row)) α) in
+      getD-tabulate r (e .row) (λ i. lagrange r (element r i) α) 𝟘 (omega (arith, fits .row-below))
+      ∙ (λ t. lagrange (sym eR t) (element (sym eR t) (e .row)) α) in
       let column : getD z (e .column) 𝟘 ≡ eval ẑ (element (k .|C|) (e .column)) =
       ap (λ (l : List (Elem q)). getD l (e .column) 𝟘) (sym values) ∙ getD-valuesOn (k .|C|) (e .column) ẑ (fits .column-below) in
       ap₂ (λ x y. of (e .value) ⊗ x ⊗ y) row column

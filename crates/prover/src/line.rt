@@ -86,7 +86,8 @@ pub fn column_weights_into(
     ensures { λ _. ⌜ ((q : Prime) → Known q p → (k : Circuit) → k .|R| ≡ r
         → k .matrices ≡ entryLists (now (ea .entry)) (now (eb .entry)) (now (ec .entry))
         → map of (now (out .exit))
-        ≡ tabulate (length (now (out .entry))) (λ j. weighted (mapThree of (three eta)) (each (λ M. columnSum {q = q} k M (of alpha) j)))) ⌝ }
+        ≡ tabulate (length (now (out .entry)))
+        (λ j. weighted (mapThree of (three eta)) (each (λ M. columnSum {q = q} k M (of alpha) j)))) ⌝ }
 {
     let n = r as usize;
     let mut rows = [0u32; 1024];

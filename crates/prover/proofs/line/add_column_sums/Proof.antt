@@ -119,9 +119,10 @@ loop-again c =
       λ q same.
           let rows : List (Elem q) = map of (a .rows .now) in
           let product : of (c .before .before .multiply .result) ≡ of (e .value) ⊗ getD rows (e .row) 𝟘 =
-          of-result _ (c .before .before .multiply .ensures q same) ∙ ap (λ (x : Elem q). of (e .value) ⊗ x) (element-at (a .rows .now) (e .row)) in
-          adding-turn q (of (a .eta)) rows es (a .out .now) (l .out) (l .i) e (c .multiply-add .result) below (entry-at (a .entries .now) (l .i) e below)
-          (omega (arith, place turn .column-below))
+          of-result _ (c .before .before .multiply .ensures q same)
+          ∙ ap (λ (x : Elem q). of (e .value) ⊗ x) (element-at (a .rows .now) (e .row)) in
+          adding-turn q (of (a .eta)) rows es (a .out .now) (l .out) (l .i) e (c .multiply-add .result) below
+          (entry-at (a .entries .now) (l .i) e below) (omega (arith, place turn .column-below))
           (c .multiply-add .ensures q same ∙ ap (λ (x : Elem q). (of (a .eta) ⊗ x ⊕ of (getD (l .out) (e .column) 0)) .word) product)
           (l .inv .2 q same),
     )

@@ -10,7 +10,7 @@ use Rattle.field.specs.Element.{Elem, of, words}
 use Rattle.domain.specs.Size.{isSize}
 use Rattle.domain.specs.Domain.{element, lagrange}
 use Rattle.domain.proofs.SizeLaws.{size-bound}
-use Rattle.protocol.specs.Three.{mapThree}
+use Rattle.protocol.specs.Three.{Three, mapThree}
 use Rattle.shared.specs.Meanings.{three}
 use Rattle.poly.proofs.LentParts.{part-length, filled-within, filled-length, of-filled}
 use Rattle.prover.proofs.RowLaws.{rowValues}
@@ -21,7 +21,8 @@ use Rattle.prover.proofs.line.column_weights_into.Tie as tie
 bound : (c : tie.Start) → c .args .r ≤ 1024
 bound c = size-bound (c .args .r) (c .pre .1 .0)
 
--- the start, from the fill with the rows' values, and the words that it leaves; the place of this fill, from the zeros
+-- the start, from the fill with the rows' values, and the words that it leaves; the place of this fill, from the zeros, and of the
+-- zeros, from the sums
 abbrev start : tie.After-lagrange-values-into → tie.Start
 start c = c .before .before .before .before .before .before
 
@@ -30,6 +31,9 @@ left c = c .lagrange-values-into .last .1 .1 .0
 
 abbrev at-rows : tie.After-clear → tie.After-lagrange-values-into
 at-rows c = c .before .before .before
+
+abbrev at-zeros : tie.After-add-weights → tie.After-clear
+at-zeros c = c .before .before .before .before .before
 
 array-borrow-prefix-rows : tie.Need-array-borrow-prefix-rows
 array-borrow-prefix-rows c = bound (c .before .before .before .before)
@@ -60,20 +64,22 @@ add-weights-requires c κs =
     let d = c .before .before .before .before in
     let r = at-rows d in
     let s = start r in
-    (omega arith, each-within (filled-length _ _ (bound s) (left r) (r .lagrange-values-into .kept .1 .1 .0)) (sym (d .clear .kept .0)) (s .pre .1 .1))
+    let whole = filled-length _ _ (bound s) (left r) (r .lagrange-values-into .kept .1 .1 .0) in
+    (omega arith, each-within whole (sym (d .clear .kept .0)) (s .pre .1 .1))
 
 same-length : tie.Need-same-length
-same-length c = c .before .before .add-weights .kept .1 .1 .1 .1 .1 .1 .0 ∙ c .before .before .before .before .before .before .before .clear .kept .0
+same-length c = c .before .before .add-weights .kept .1 .1 .1 .1 .1 .1 .0 ∙ at-zeros (c .before .before) .clear .kept .0
 
 returns : tie.Need-returns
 returns c q known k eR matrices =
-    let d = c .before .before .before .before .before .before .before in
+    let d = at-zeros (c .before .before) in
     let r = at-rows d in
     let s = start r in
     let a = s .args in
+    let η : Three (Elem q) = mapThree of (three (a .eta)) in
     let α : Elem q = of (a .alpha) in
     c .before .before .add-weights .ensures q (known .value)
-    ∙ weights-made q k (length (a .out .now)) eR α (mapThree of (three (a .eta))) (a .ea .now) (a .eb .now) (a .ec .now) matrices (s .pre .1 .1)
+    ∙ weights-made q k (length (a .out .now)) eR α η (a .ea .now) (a .eb .now) (a .ec .now) matrices (s .pre .1 .1)
     (of-filled _ _ (bound s) (left r) (r .lagrange-values-into .kept .1 .1 .0) (rowValues (a .r) α)
     (r .lagrange-values-into .ensures q known
     ∙ ap (λ (n : ℕ). words (tabulate n (λ i. lagrange n (element n i) α))) (sym (part-length _ _ (bound s)))))

@@ -67,7 +67,8 @@ abbrev high : tie.After-divide-product-into → List ℕ
 high c = c .divide-product-into .last .1 .1 .1 .1 .1 .0
 
 -- the lengths of the parts that are lent again
-values-whole : (c : tie.After-column-weights-into) → start c .args .c ≡ length (take (start c .args .c) (returned 1024 (start c .args .c) (values c)))
+values-whole : (c : tie.After-column-weights-into)
+    → start c .args .c ≡ length (take (start c .args .c) (returned 1024 (start c .args .c) (values c)))
 values-whole c = back-length 1024 (bound (start c)) (values c) (c .column-weights-into .kept .1 .1 .1 .1 .1 .1 .1 .0)
 
 weights-whole : (c : tie.After-divide-product-into)

@@ -106,19 +106,19 @@ loop-again c =
     let a = c .before .before .before .before .before .before .before .before .before .before .before .args in
     let l = c .before .before .before .before .before .before .loop in
     let n : ℕ = length (a .out .now) in
-    let word : ℕ = getD (a .weights .now) (l .i) 0 in (
+    let ws : List ℕ = a .weights .now in
+    let hs : List ℕ = a .high .now in
+    let m : List ℕ = a .m .now in (
       simp length-set (omega arith),
       length-set (l .out) (l .i) (c .add .result) ∙ l .inv .1,
       λ q e.
-          let size : length (words (target q n (a .mask) (a .weights .now) (a .high .now) (a .m .now))) ≡ n =
-          length-target q n (a .mask) (a .weights .now) (a .high .now) (a .m .now) (omega arith) (omega arith) (omega arith) (omega arith) in
-          fill-turn (words (target q n (a .mask) (a .weights .now) (a .high .now) (a .m .now))) (l .out) (l .i) (c .add .result) (omega arith)
-          (omega arith) (l .inv .2 q e)
-          (sum-at q n (a .mask) (a .weights .now) (a .high .now) (a .m .now) (omega arith) (omega arith) (l .i)
+          let size = length-target q n (a .mask) ws hs m (omega arith) (omega arith) (omega arith) (omega arith) in
+          fill-turn (words (target q n (a .mask) ws hs m)) (l .out) (l .i) (c .add .result) (omega arith) (omega arith) (l .inv .2 q e)
+          (sum-at q n (a .mask) ws hs m (omega arith) (omega arith) (l .i)
           (c .add .ensures q e
-          ∙ ap (λ (x : Elem q). (of (getD (a .m .now) (n + l .i) 0) ⊕ x) .word)
+          ∙ ap (λ (x : Elem q). (of (getD m (n + l .i) 0) ⊕ x) .word)
           (of-result _ (c .before .before .multiply-add .ensures q e)
-          ∙ ap (λ (w : ℕ). of (a .mask) ⊗ of word ⊕ of w) (c .before .before .before .word-or-zero .ensures)))),
+          ∙ ap (λ (w : ℕ). of (a .mask) ⊗ of (getD ws (l .i) 0) ⊕ of w) (c .before .before .before .word-or-zero .ensures)))),
     )
 
 same-length : tie.Need-same-length Inv-loop μ-loop
@@ -129,9 +129,9 @@ returns c q e =
     let a = c .before .before .before .before .before .before .args in
     let l = c .before .loop in
     let n : ℕ = length (a .out .now) in
-    let size : length (words (target q n (a .mask) (a .weights .now) (a .high .now) (a .m .now))) ≡ n =
-    length-target q n (a .mask) (a .weights .now) (a .high .now) (a .m .now) (omega arith) (omega arith) (omega arith) (omega arith) in
-    fill-end (words (target q n (a .mask) (a .weights .now) (a .high .now) (a .m .now))) (l .out) (l .i) (omega arith) (omega arith) (l .inv .2 q e)
+    let size = length-target q n (a .mask) (a .weights .now) (a .high .now) (a .m .now) (omega arith) (omega arith) (omega arith) (omega arith) in
+    fill-end (words (target q n (a .mask) (a .weights .now) (a .high .now) (a .m .now))) (l .out) (l .i) (omega arith) (omega arith)
+    (l .inv .2 q e)
 
 pub quotient-from-spec : {M : Type 1} → statement M
 quotient-from-spec =

@@ -119,9 +119,11 @@ loop-again c =
       simp length-set (omega arith),
       length-set (l .out) (l .i) (c .add2 .result) ∙ l .inv .1,
       λ q e.
-          fill-turn (words (tail (whole q rest m))) (l .out) (l .i) (c .add2 .result) (omega arith) (omega (arith, length-target q rest m)) (l .inv .2 q e)
+          fill-turn (words (tail (whole q rest m))) (l .out) (l .i) (c .add2 .result) (omega arith) (omega (arith, length-target q rest m))
+          (l .inv .2 q e)
           (sum-at q rest m (omega arith) (l .i) below
-          (c .add2 .ensures q e ∙ ap (λ (x : Elem q). (x ⊕ of (getD rest (l .i + 1) 0)) .word) (of-result _ (c .before .before .add .ensures q e)))),
+          (c .add2 .ensures q e
+          ∙ ap (λ (x : Elem q). (x ⊕ of (getD rest (l .i + 1) 0)) .word) (of-result _ (c .before .before .add .ensures q e)))),
     )
 
 same-length : tie.Need-same-length Inv-loop μ-loop
@@ -131,8 +133,8 @@ returns : tie.Need-returns Inv-loop μ-loop
 returns c q e =
     let a = c .before .before .before .before .before .args in
     let l = c .before .loop in
-    fill-end (words (tail (whole q (a .rest .now) (a .m .now)))) (l .out) (l .i) (omega arith) (omega (arith, length-target q (a .rest .now) (a .m .now)))
-    (l .inv .2 q e)
+    fill-end (words (tail (whole q (a .rest .now) (a .m .now)))) (l .out) (l .i) (omega arith)
+    (omega (arith, length-target q (a .rest .now) (a .m .now))) (l .inv .2 q e)
 
 pub remainder-from-spec : {M : Type 1} → statement M
 remainder-from-spec =

@@ -31,7 +31,8 @@ place :
     Within (length (a .rows .now)) (length (a .z .now)) (entryWords (a .entries .now) (c .before .loop .i))
 place c =
     let s = c .before .before .before .before .before in
-    entry-within (length (s .args .rows .now)) (length (s .args .z .now)) (s .args .entries .now) (s .pre .1) (c .before .loop .i) (omega arith)
+    entry-within (length (s .args .rows .now)) (length (s .args .z .now)) (s .args .entries .now) (s .pre .1) (c .before .loop .i)
+    (omega arith)
 
 loop-holds : tie.Need-loop-holds Inv-loop μ-loop
 loop-holds c =
@@ -114,7 +115,8 @@ loop-again c =
           let rows : List (Elem q) = map of (a .rows .now) in
           let made : of (product .result) ≡ of (e .value) ⊗ getD rows (e .row) 𝟘 =
           of-result _ (product .ensures q same) ∙ ap (λ (x : Elem q). of (e .value) ⊗ x) (element-at (a .rows .now) (e .row)) in
-          total-turn q rows (map of (a .z .now)) es (l .sum) (l .i) (c .multiply-add .result) e below (entry-at (a .entries .now) (l .i) e below)
+          total-turn q rows (map of (a .z .now)) es (l .sum) (l .i) (c .multiply-add .result) e below
+          (entry-at (a .entries .now) (l .i) e below)
           (c .multiply-add .ensures q same
           ∙ ap₂ (λ (x y : Elem q). (x ⊗ y ⊕ of (l .sum)) .word) made (element-at (a .z .now) (e .column)))
           (l .inv .1 q same),

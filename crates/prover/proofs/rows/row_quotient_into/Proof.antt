@@ -3,7 +3,7 @@ use mathlib.Core.Path.{_≡_, sym, ap, _∙_}
 use mathlib.Core.List.{List, map}
 use Prim.Native.Nat.{ℕ, _+_, _≤_}
 use native.Mathlib.Omega.{arith}
-use lib.ListN.{length, replicate}
+use lib.ListN.{length}
 use Rattle.algebra.specs.Lists.{tabulate}
 use Rattle.field.specs.Element.{Elem, of, words}
 use Rattle.domain.specs.Size.{isSize}
@@ -11,7 +11,7 @@ use Rattle.domain.proofs.SizeLaws.{size-positive, size-bound}
 use Rattle.protocol.specs.Three.{MatrixName, A, B}
 use Rattle.protocol.specs.Circuit.{rowSum}
 use Rattle.protocol.specs.Calls.{entriesOf}
-use Rattle.poly.proofs.LentParts.{part-length, filled-within, filled-length, of-filled}
+use Rattle.poly.proofs.LentParts.{part-length, filled-within, filled-length, of-filled, lent-length}
 use Rattle.prover.proofs.ProductLaws.{quotient-made}
 use Rattle.prover.proofs.RowLaws.{known-formed, rows-within, row-quotient-made}
 use Rattle.prover.proofs.rows.row_quotient_into.Statement.{statement}
@@ -42,7 +42,7 @@ slice-aggregate-row-sums c = part-length _ _ (bound (c .before .before .before .
 row-sums-requires : tie.Need-row-sums-requires
 row-sums-requires c κs =
     let s = c .before .before .before .before .before in
-    (omega arith, rows-within (part-length (s .args .r) (replicate 1024 0) (bound s)) (length (s .args .z .now)) (entriesOf (s .args .ea .now)) (s .pre .1 .1 .1 .0))
+    (omega arith, rows-within (lent-length 1024 (bound s)) (length (s .args .z .now)) (entriesOf (s .args .ea .now)) (s .pre .1 .1 .1 .0))
 
 array-borrow-prefix-right : tie.Need-array-borrow-prefix-right
 array-borrow-prefix-right c = bound (start (c .before))
@@ -53,7 +53,7 @@ slice-aggregate-row-sums-2 c = part-length _ _ (bound (start (c .before .before)
 row-sums-requires-2 : tie.Need-row-sums-requires-2
 row-sums-requires-2 c κs =
     let s = start (c .before .before) in
-    (omega arith, rows-within (part-length (s .args .r) (replicate 1024 0) (bound s)) (length (s .args .z .now)) (entriesOf (s .args .eb .now)) (s .pre .1 .1 .1 .1))
+    (omega arith, rows-within (lent-length 1024 (bound s)) (length (s .args .z .now)) (entriesOf (s .args .eb .now)) (s .pre .1 .1 .1 .1))
 
 array-share-prefix-left : tie.Need-array-share-prefix-left
 array-share-prefix-left c =

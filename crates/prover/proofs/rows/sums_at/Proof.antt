@@ -108,11 +108,15 @@ returns c q known Q k W eR matrices ẑ values =
     → entryTotal (map of (take (a .r) (again r))) z es .word ≡ (image k ẑ M α) .word =
     λ M es same.
     ap (λ (x : Elem q). x .word)
-    (ap (λ (rows : List (Elem q)). entryTotal rows z es) (rows-made r known) ∙ row-sum-made q Q k (known-formed known W) eR ẑ z values M same α) in
+    (ap (λ (rows : List (Elem q)). entryTotal rows z es) (rows-made r known)
+    ∙ row-sum-made q Q k (known-formed known W) eR ẑ z values M same α) in
+    let in-a = ap (λ (l : Three (List Entry)). l .a) matrices in
+    let in-b = ap (λ (l : Three (List Entry)). l .b) matrices in
+    let in-c = ap (λ (l : Three (List Entry)). l .c) matrices in
     λ t. record {
-      a = (c .before .before .before .before .entries-sum .ensures q (known .value) ∙ sum A (entriesOf (a .ea .now)) (ap (λ (l : Three (List Entry)). l .a) matrices)) t;
-      b = (c .before .before .entries-sum2 .ensures q (known .value) ∙ sum B (entriesOf (a .eb .now)) (ap (λ (l : Three (List Entry)). l .b) matrices)) t;
-      c = (c .entries-sum3 .ensures q (known .value) ∙ sum C (entriesOf (a .ec .now)) (ap (λ (l : Three (List Entry)). l .c) matrices)) t;
+      a = (c .before .before .before .before .entries-sum .ensures q (known .value) ∙ sum A (entriesOf (a .ea .now)) in-a) t;
+      b = (c .before .before .entries-sum2 .ensures q (known .value) ∙ sum B (entriesOf (a .eb .now)) in-b) t;
+      c = (c .entries-sum3 .ensures q (known .value) ∙ sum C (entriesOf (a .ec .now)) in-c) t;
     }
 
 pub sums-at-spec : {M : Type 1} → statement M

@@ -67,7 +67,8 @@ returns c q known =
     c .before .before .quotient-into .ensures q (known .value)
     ∙ ap (λ (l : Poly q). words (quotient (s .args .x) l))
     (of-filled _ _ (bound s) (values .last .1 .1 .1 .0) (values .kept .1 .1 .1 .0) (interpolate (s .args .c) z)
-    (values .ensures q (known-qualifies known) (known .value) (v .before .before .root-of .ensures q known ∙ ap (λ (n : ℕ). root {q = q} n .word) (sym size))
+    (values .ensures q (known-qualifies known) (known .value)
+    (v .before .before .root-of .ensures q known ∙ ap (λ (n : ℕ). root {q = q} n .word) (sym size))
     ∙ ap (λ (n : ℕ). words (interpolate {q = q} n z)) size))
 
 pub private-quotient-into-spec : {M : Type 1} → statement M
