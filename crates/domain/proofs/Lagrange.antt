@@ -11,8 +11,7 @@ use native.Mathlib.Omega.{arith}
 use Rattle.algebra.specs.Lists.{pick, tabulate}
 use Rattle.algebra.specs.Ring.{pow}
 use Rattle.algebra.specs.Sum.{sum}
-use Rattle.algebra.proofs.Choice.{pick-true, pick-false}
-use Rattle.algebra.proofs.RingLaws.{mul-zero, zero-mul, one-pow, mul-pow, pow-add, sub-zero→eq, eq→sub-zero}
+use Rattle.algebra.proofs.RingLaws.{mul-zero, zero-mul, one-pow, mul-pow, pow-add, sub-zero→eq}
 use Rattle.algebra.proofs.FieldLaws.{mul-not-zero}
 use Rattle.algebra.proofs.Solver.{_:-_, _:*_, :-_, :0, :1, _:=_, _⊙_, _from_, ring-by}
 use Rattle.algebra.proofs.SumLaws.{sum-ext, sum-scale, sum-const, geometric}
@@ -28,7 +27,7 @@ use Rattle.domain.specs.Polynomial.{Poly, eval}
 use Rattle.domain.specs.Qualifies.{Qualifies}
 use Rattle.domain.proofs.SizeLaws.{size-not-zero}
 use Rattle.domain.proofs.DomainLaws.{domain-order, element-injective, element-power, element-not-zero, inside-element}
-use Rattle.domain.proofs.DomainLaws.{inside-or-outside, vanishing-inside, inside-vanishing, vanishing-outside}
+use Rattle.domain.proofs.DomainLaws.{inside-or-outside, vanishing-inside, vanishing-outside}
 use Rattle.domain.proofs.Divisors.{lagrange-divisor}
 use Rattle.domain.proofs.Interpolation.{IsPolynomial}
 
@@ -48,15 +47,6 @@ module _ {q : Prime} (Q : Qualifies q) (n : ℕ) (s : isSize n ≡ true) where
       same : (b : Bool) → eqb i j ≡ b → equal (element {q = q} n j) (element n i) ≡ b
       same true e = true-equal (element n j) (element n i) (ap (element n) (sym (eqb-true i j e)))
       same false e = false-equal (element n j) (element n i) (λ d. eqb-false i j e (sym (element-injective Q n s j i j<n i<n d)))
-
-  -- the same for any y in the domain, by the vanishing value and the difference
-  pub lagrange-same : (a y : Elem q) → vanishing n y ≡ 𝟘 → y ⊖ a ≡ 𝟘 → lagrange n a y ≡ 𝟙
-  lagrange-same a y v d = lagrange-inside n a y (inside-vanishing Q n s y v)
-      ∙ pick-true 𝟙 𝟘 (true-equal y a (sub-zero→eq (primeRing q) y a d))
-
-  pub lagrange-other : (a y : Elem q) → vanishing n y ≡ 𝟘 → y ⊖ a ≢ 𝟘 → lagrange n a y ≡ 𝟘
-  lagrange-other a y v d = lagrange-inside n a y (inside-vanishing Q n s y v)
-      ∙ pick-false 𝟙 𝟘 (false-equal y a (λ e. d (eq→sub-zero (primeRing q) y a e)))
 
   -- for a = element i, with reciprocal b
   module _ (i : ℕ) (i<n : i < n) where

@@ -9,18 +9,17 @@ use borrow.Author.Tests.{eqb-true, eq-eqb}
 use Rattle.algebra.specs.Ring.{pow}
 use Rattle.algebra.proofs.RingLaws.{sub-zero→eq, eq→sub-zero}
 use Rattle.field.specs.Prime.{Prime}
-use Rattle.field.specs.Element.{Elem, of, 𝟘, 𝟙}
+use Rattle.field.specs.Element.{Elem, 𝟘, 𝟙}
 use Rattle.field.specs.Power.{power}
 use Rattle.field.proofs.ElementLaws.{same-word, primeRing}
 use Rattle.field.proofs.Field.{power-is-pow}
 use Rattle.field.proofs.Words.{word-of}
 use Rattle.domain.specs.Size.{isSize}
-use Rattle.domain.specs.Domain.{element, inside, vanishing}
+use Rattle.domain.specs.Domain.{inside, vanishing}
 use Rattle.domain.specs.Qualifies.{Qualifies}
-use Rattle.domain.specs.Known.{KnownPrime, InDomain}
-use Rattle.domain.proofs.Qualification.{one-word, known-qualifies}
+use Rattle.domain.proofs.Qualification.{one-word}
 use Rattle.domain.proofs.ListLaws.{same-test}
-use Rattle.domain.proofs.DomainLaws.{element-power, vanishing-inside, inside-vanishing}
+use Rattle.domain.proofs.DomainLaws.{vanishing-inside, inside-vanishing}
 
 pub zero-word : (q : Prime) → 𝟘 {q = q} .word ≡ 0
 zero-word q = word-of q 0 (omega (arith, q .above-two))
@@ -45,7 +44,3 @@ module _ {q : Prime} (Q : Qualifies q) (n : ℕ) (s : isSize n ≡ true) where
       (λ h. eq-eqb (power y n .word) 1 (ap (λ (x : Elem q). x .word) (power-is-pow y n ∙ inside-power y h) ∙ one-word q))
 
 -- a word that is an element of the domain is in it
-pub in-domain : {p : ℕ} (k : KnownPrime p) (n : ℕ) → isSize n ≡ true → (i w : ℕ) → of w ≡ element {q = k .prime} n i → InDomain p n w
-in-domain k n s i w e =
-    let Q = known-qualifies (k .known) in
-    record { over = k; is-inside = ap (inside n) e ∙ power-inside Q n s (element n i) (element-power Q n s i) }

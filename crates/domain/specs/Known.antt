@@ -1,11 +1,10 @@
--- The primes that the code knows by their value, with the table of their roots, and words that are in their domains or outside.
+-- The primes that the code knows by their value, with the table of their roots, and words that are outside their domains.
 -- Assumes nothing.
 use mathlib.Core.Path.{_≡_}
-use mathlib.Core.Bool.{true}
 use Prim.Native.Nat.{ℕ, _<_}
 use Rattle.field.specs.Prime.{Prime}
 use Rattle.field.specs.Element.{of}
-use Rattle.domain.specs.Domain.{inside, Outside}
+use Rattle.domain.specs.Domain.{Outside}
 use Rattle.domain.specs.BabyBear.{babyBear}
 
 -- q is the module's prime, and p its value
@@ -22,12 +21,7 @@ pub record KnownPrime (p : ℕ) : Type 0 where
 abbrev pub Modulus : ℕ → Type 0
 Modulus p = (1 < p) × KnownPrime p
 
--- y is in the prime's domain of size n
-pub record InDomain (p n y : ℕ) : Type 0 where
-  pub over : KnownPrime p
-  pub is-inside : inside n (of {q = over .prime} y) ≡ true
-
--- y is outside it
+-- y is outside the prime's domain of size n
 pub record OutsideDomain (p n y : ℕ) : Type 0 where
   pub over : KnownPrime p
   pub is-outside : Outside n (of {q = over .prime} y)

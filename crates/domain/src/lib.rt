@@ -15,7 +15,7 @@ ghost use Rattle.domain.specs.Size.{isSize, sizeFor};
 ghost use Rattle.domain.specs.Domain.{root, element, domain, inside, vanishing, lagrange};
 ghost use Rattle.domain.specs.Polynomial.{eval, interpolate};
 ghost use Rattle.domain.specs.Qualifies.{Qualifies};
-ghost use Rattle.domain.specs.Known.{Known, InDomain};
+ghost use Rattle.domain.specs.Known.{Known};
 
 pub const MAX_SIZE: u32 = 1024;
 
@@ -117,28 +117,6 @@ pub fn is_inside(p: u32, n: u32, y: u32) -> bool
     ensures { λ r. ⌜ ((q : Prime) → Qualifies q → q .p ≡ p → r ≡ inside n (of {q = q} y)) ⌝ }
 {
     field::raise(p, y, n) == 1
-}
-
-// L_a(y) of the domain of size n, for an element a of it.
-pub fn lagrange_value(p: u32, n: u32, a: u32, y: u32) -> u32
-    requires { ⌜ 1 < p ⌝ }
-    requires { ⌜ isSize n ≡ true ⌝ }
-    requires { ⌜ InDomain p n a ⌝ }
-    ensures { λ r. ⌜ ((q : Prime) → Qualifies q → q .p ≡ p → r ≡ (lagrange n (of {q = q} a) (of y)) .word) ⌝ }
-{
-    let v = vanishing_value(p, n, y);
-    let difference = field::subtract(p, y, a);
-    if v == 0 {
-        // On the domain: 1 where y and a are the same element.
-        if difference == 0 {
-            return 1;
-        }
-        return 0;
-    }
-    // Off it: a·v / (n·(y - a)).
-    let divisor = field::multiply(p, n, difference);
-    let dividend = field::multiply(p, a, v);
-    field::divide(p, dividend, divisor)
 }
 
 // The first half of the slice has the Lagrange values of the domain of half its length at y²; the slice gets those of the domain of

@@ -7,7 +7,7 @@ ghost use lib.ListN.{length, getD, drop, replicate};
 ghost use Rattle.algebra.specs.Polynomial.{mapRunning};
 ghost use Rattle.field.specs.Prime.{Prime};
 ghost use Rattle.field.specs.Element.{of, 𝟘, wordOf, words};
-ghost use Rattle.domain.specs.Polynomial.{eval, evalPart, _⊞_, _·_, _⊠_, quotient, remainder};
+ghost use Rattle.domain.specs.Polynomial.{eval, evalPart, _⊞_, _·_, quotient, remainder};
 ghost use Rattle.poly.specs.Meanings.{underWay};
 
 // An evaluation under way: the sum so far, and the power of the point that the next coefficient is multiplied by.
@@ -76,24 +76,6 @@ pub fn add_scaled(p: u32, f: &mut [u32], k: u32, g: &[u32])
     while i < f.len() {
         f[i] = field::multiply_add(p, k, word_or_zero(g, i), f[i]);
         i += 1;
-    }
-}
-
-// f·g into the slice, neither of them empty.
-pub fn multiply_into(p: u32, f: &[u32], g: &[u32], out: &mut [u32])
-    requires { ⌜ 0 < p ⌝ }
-    requires { ⌜ (0 < length (now f)) × (0 < length (now g)) ⌝ }
-    requires { ⌜ length (now out) + 1 ≡ length (now f) + length (now g) ⌝ }
-    ensures { λ _. ⌜ ((q : Prime) → q .p ≡ p
-        → now (out .exit) ≡ words (map (of {q = q}) (now (f .entry)) ⊠ map of (now (g .entry)))) ⌝ }
-{
-    clear(out);
-    let mut i = f.len();
-    while 0 < i {
-        i -= 1;
-        // The row f_i·g, from place i on.
-        let end = i + g.len();
-        add_scaled(p, &mut out[i..end], f[i], g);
     }
 }
 
