@@ -4,3 +4,4 @@ pub mod ElementLaws
 pub mod Fermat
 pub mod Field
 pub mod Words
+pub mod Prepared

@@ -79,6 +79,20 @@ module _ {q : Prime} where
   pub result-below : {r : ℕ} (x : Elem q) → r ≡ x .word → r < q .p
   result-below x e = subst (λ (n : ℕ). n < q .p) (sym e) (word-below x)
 
+  -- what is computed from the words of two elements
+  pub result-product : {a b r : ℕ} (x y : Elem q) → r ≡ (of {q = q} a ⊗ of b) .word → a ≡ x .word → b ≡ y .word → r ≡ (x ⊗ y) .word
+  result-product x y made of-x of-y = made ∙ ap₂ (λ (x y : Elem q). (x ⊗ y) .word) (of-result x of-x) (of-result y of-y)
+
+  module _ {p a b : ℕ} (e : q .p ≡ p) (x y : Elem q) (of-x : a ≡ x .word) (of-y : b ≡ y .word) where
+    both-below : (a < p) × (b < p)
+    both-below = (omega (arith, result-below x of-x), omega (arith, result-below y of-y))
+
+    pub result-sum : {r : ℕ} → ((a < p) × (b < p) → r ≡ (of {q = q} a ⊕ of b) .word) → r ≡ (x ⊕ y) .word
+    result-sum made = made both-below ∙ ap₂ (λ (x y : Elem q). (x ⊕ y) .word) (of-result x of-x) (of-result y of-y)
+
+    pub result-difference : {r : ℕ} → ((a < p) × (b < p) → r ≡ (of {q = q} a ⊖ of b) .word) → r ≡ (x ⊖ y) .word
+    result-difference made = made both-below ∙ ap₂ (λ (x y : Elem q). (x ⊖ y) .word) (of-result x of-x) (of-result y of-y)
+
 -- whether a number stands for 0 depends on the prime's value alone
 pub nonzero-by-value : {q r : Prime} → q .p ≡ r .p → (n : ℕ) → of {q = r} n ≢ 𝟘 → of {q = q} n ≢ 𝟘
 unfolding of

@@ -3,7 +3,7 @@
 ghost use mathlib.Core.Path.{_≡_};
 ghost use mathlib.Core.Logic.{_≢_};
 ghost use mathlib.Core.Option.{Option·map};
-ghost use Prim.Native.Nat.{_%_, _<_};
+ghost use Prim.Native.Nat.{_*_, _/_, _%_, _^_, _<_};
 ghost use Rattle.field.specs.Prime.{Prime};
 ghost use Rattle.field.specs.Element.{of, 𝟘, _⊕_, _⊗_, _⊖_, wordOf};
 ghost use Rattle.field.specs.Power.{power, inverse, _⊘_};
@@ -58,6 +58,29 @@ pub fn multiply_add(p: u32, a: u32, b: u32, c: u32) -> u32
     ensures { λ r. ⌜ ((q : Prime) → q .p ≡ p → r ≡ (of {q = q} a ⊗ of b ⊕ of c) .word) ⌝ }
 {
     reduce(p, wide(a) * wide(b) + wide(c))
+}
+
+// What a product by w needs in place of a division, for a word w below p: w·2^32 divided by p.
+pub fn prepare(p: u32, w: u32) -> u32
+    requires { ⌜ 0 < p ⌝ }
+    ensures { λ r. ⌜ (w < p → r ≡ w * 4294967296 / p) ⌝ }
+{
+    let shifted = wide(w) * 4294967296;
+    if p == MODULE_PRIME {
+        (shifted / (MODULE_PRIME as u64) % 4294967296) as u32
+    } else {
+        (shifted / wide(p) % 4294967296) as u32
+    }
+}
+
+// w·x for a word w below p < 2^31 with its prepared quotient: quotient·x / 2^32 is at most one less than w·x / p.
+pub fn multiply_prepared(p: u32, w: u32, quotient: u32, x: u32) -> u32
+    ensures { λ r. ⌜ ((q : Prime) → q .p ≡ p → p < 2 ^ 31 → w < p → quotient ≡ w * 4294967296 / p → r ≡ (of {q = q} w ⊗ of x) .word) ⌝ }
+{
+    let estimate = wide(quotient) * wide(x) / 4294967296;
+    let rest = std::num::wrapping_sub_u64(wide(w) * wide(x), estimate * wide(p));
+    let low = (rest % 4294967296) as u32;
+    if low < p { low } else { low - p }
 }
 
 // a + b of words below p, with no division.

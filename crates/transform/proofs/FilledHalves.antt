@@ -2,17 +2,12 @@
 -- entries of each from the target of that half. Assumes nothing.
 use mathlib.Core.Path.{_≡_, refl, sym, ap, ap₂, _∙_}
 use mathlib.Core.List.{List, _++_}
-use Prim.Native.Nat.{ℕ, _+_, _*_, _≤_, _<_}
+use Prim.Native.Nat.{ℕ, _+_, _≤_, _<_}
 use native.Mathlib.Omega.{arith}
-use native.Mathlib.Nat.{mul-suc, mul-le-mul-left}
 use lib.ListN.{length, take, drop, set, getD, length-append, length-take, length-drop, List·getD-append}
 use lib.Seq.{set-append-left, getD-append-add}
 use Rattle.algebra.proofs.ListLaws.{set-append-add}
 use Rattle.poly.proofs.Stores.{joined, joined-none, joined-all, joined-second, store-up}
-
--- step places after place step · i, where i is below h
-pub next-place : (step i h n : ℕ) → i < h → step * h ≤ n → step * i + step ≤ n
-next-place step i h n below enough = omega (arith, mul-suc step i, mul-le-mul-left step below)
 
 module _ {A : Type 0} where
   length-joined : (l m : List A) (i : ℕ) → length l ≡ length m → i ≤ length m → length (joined l m i) ≡ length m

@@ -6,7 +6,7 @@ use mathlib.Core.Bool.{true}
 use mathlib.Core.List.{List, [], _∷_, _++_, append-nil}
 use Prim.Native.Nat.{ℕ, zero, suc, _+_, _-_, _*_, _/_, _^_, _≤_, _<_}
 use native.Mathlib.Omega.{arith}
-use native.Mathlib.Nat.{mul-add, add-mul, mul-one, mul-le-mul-left}
+use native.Mathlib.Nat.{mul-add, add-mul, mul-one}
 use lib.Pow.{pow-pos}
 use lib.ListN.{length, take, drop, set, length-append, length-drop, drop-of-length-le}
 use lib.Seq.{take-all, take-at, drop-at}
@@ -14,21 +14,19 @@ use Rattle.algebra.proofs.HalvingLaws.{twice}
 use Rattle.domain.specs.Size.{isSize}
 use Rattle.domain.proofs.SizeLaws.{size-is-power, power-is-size}
 
--- n places of a list of length m, step apart and the first at `from`, and powers at the places below n / 2, step apart
-pub record Halved (n from step m powers : ℕ) : Type 0 where
+-- n places of a list of length m, step apart and the first at `from`
+pub record Halved (n from step m : ℕ) : Type 0 where
   pub doubled : n ≡ n / 2 + n / 2
   pub some : 0 < n / 2
   pub size : isSize (n / 2) ≡ true
   pub even : from + (step + step) * (n / 2 - 1) < m
   pub odd : from + step + (step + step) * (n / 2 - 1) < m
   pub room : from + step < m
-  pub spread : (step + step) * (n / 2 / 2) ≤ powers
 
-pub halved : (n from step m powers : ℕ) → isSize n ≡ true → n ≢ 1 → from + step * (n - 1) < m → step * (n / 2) ≤ powers
-    → Halved n from step m powers
-halved n from step m powers s many within enough = let (k, l, e) = size-is-power n s in go k l e
+pub halved : (n from step m : ℕ) → isSize n ≡ true → n ≢ 1 → from + step * (n - 1) < m → Halved n from step m
+halved n from step m s many within = let (k, l, e) = size-is-power n s in go k l e
   where
-    go : (k : ℕ) → k < 11 → n ≡ 2 ^ k → Halved n from step m powers
+    go : (k : ℕ) → k < 11 → n ≡ 2 ^ k → Halved n from step m
     go zero l e = absurd (many e)
     go (suc k) l e =
         let h : ℕ = n / 2 in
@@ -38,8 +36,6 @@ halved n from step m powers s many within enough = let (k, l, e) = size-is-power
         let less : n - 1 ≡ (h - 1) + (h - 1) + 1 = omega arith in
         let places : step * (n - 1) ≡ step * (h - 1) + step * (h - 1) + step = ap (λ j. step * j) less ∙ simp (mul-add, mul-one) in
         let both : (step + step) * (h - 1) ≡ step * (h - 1) + step * (h - 1) = add-mul step step (h - 1) in
-        let quarters : (step + step) * (h / 2) ≡ step * (h / 2 + h / 2) = add-mul step step (h / 2) ∙ sym (mul-add step (h / 2) (h / 2)) in
-        let fewer : h / 2 + h / 2 ≤ h = omega arith in
         record {
           doubled = doubled;
           some = some;
@@ -47,13 +43,20 @@ halved n from step m powers s many within enough = let (k, l, e) = size-is-power
           even = omega arith;
           odd = omega arith;
           room = omega arith;
-          spread = omega (arith, mul-le-mul-left step fewer);
         }
 
--- the exponents of 1, and of the half of any other size
+-- the exponents of 1, of 2 and of 4, and of the half of any size but 1
 pub exponent-none : (k : ℕ) → 2 ^ k ≡ 1 → k ≡ 0
 exponent-none zero e = refl
 exponent-none (suc k) e = absurd (omega (arith, twice k, pow-pos k))
+
+pub exponent-one : (k : ℕ) → 2 ^ k ≡ 2 → k ≡ 1
+exponent-one zero e = absurd (omega arith)
+exponent-one (suc k) e = ap suc (exponent-none k (omega (arith, twice k)))
+
+pub exponent-two : (k : ℕ) → 2 ^ k ≡ 4 → k ≡ 2
+exponent-two zero e = absurd (omega arith)
+exponent-two (suc k) e = ap suc (exponent-one k (omega (arith, twice k)))
 
 pub exponent-less : (n k : ℕ) → n ≡ 2 ^ k → n ≢ 1 → (suc (k - 1) ≡ k) × (n / 2 ≡ 2 ^ (k - 1))
 exponent-less n zero e many = absurd (many e)
@@ -66,6 +69,16 @@ pub one-set : (d : List ℕ) (v : ℕ) → length d ≡ 1 → set d 0 v ≡ v �
 one-set [] v h = absurd (omega arith)
 one-set (x ∷ []) v h = refl
 one-set (x ∷ (y ∷ d)) v h = absurd (omega arith)
+
+-- stores into all entries of a list of two, and of four
+pub two-set : (d : List ℕ) (a b : ℕ) → length d ≡ 2 → set (set d 0 a) 1 b ≡ a ∷ (b ∷ [])
+two-set [] a b h = absurd (omega arith)
+two-set (x ∷ d) a b h = ap (λ (l : List ℕ). a ∷ l) (one-set d b (omega arith))
+
+pub four-set : (d : List ℕ) (a b c e : ℕ) → length d ≡ 4 → set (set (set (set d 0 a) 1 b) 2 c) 3 e ≡ a ∷ (b ∷ (c ∷ (e ∷ [])))
+four-set [] a b c e h = absurd (omega arith)
+four-set (x ∷ []) a b c e h = absurd (omega arith)
+four-set (x ∷ (y ∷ d)) a b c e h = ap (λ (l : List ℕ). a ∷ (b ∷ l)) (two-set d c e (omega arith))
 
 -- the slice d, once its first half has become e
 module _ (h : ℕ) (d e : List ℕ) (two : length d ≡ h + h) (first : length e ≡ h) where

@@ -4,3 +4,4 @@ pub mod Parts
 pub mod Directions
 pub mod CosetLaws
 pub mod CosetWords
+pub mod TableLaws

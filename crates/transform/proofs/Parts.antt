@@ -1,35 +1,32 @@
 -- What the code's transform gives for the words of a list at places a step apart, and that it is joined from what it gives for every
--- second of these places. Also the powers that a call left in the front of an array. Assumes nothing.
+-- second of these places; and what it gives for one, two and four words. Assumes nothing.
 use mathlib.Core.Path.{_≡_, sym, ap, ap₂, _∙_}
-use mathlib.Core.List.{List, [], _∷_, _++_, map}
-use Prim.Native.Nat.{ℕ, suc, _+_, _*_, _^_, _≤_}
+use mathlib.Core.List.{List, [], _∷_, map}
+use Prim.Native.Nat.{ℕ, suc, _+_, _*_, _^_}
 use native.Mathlib.Omega.{arith}
 use native.Mathlib.Nat.{mul-zero, mul-add, add-mul}
-use lib.ListN.{length, take, drop, getD, length-map}
+use lib.ListN.{length, getD, length-map}
 use Rattle.algebra.specs.Lists.{tabulate}
-use Rattle.algebra.specs.Ring.{pow}
-use Rattle.algebra.proofs.RingLaws.{pow-add}
 use Rattle.algebra.proofs.ListLaws.{tabulate-ext}
 use Rattle.algebra.proofs.PolynomialLaws.{length-tabulate, getD-tabulate, length-scale}
 use Rattle.algebra.specs.Halving.{evens, odds, join, transform}
-use Rattle.algebra.proofs.HalvingLaws.{twice, evens-tabulate, odds-tabulate}
+use Rattle.algebra.proofs.HalvingLaws.{twice, evens-tabulate, odds-tabulate, transform-two, transform-four}
 use Rattle.field.specs.Prime.{Prime}
-use Rattle.field.specs.Element.{Elem, of, 𝟘, _⊗_, words}
-use Rattle.field.proofs.ElementLaws.{primeRing, mul-one}
+use Rattle.field.specs.Element.{Elem, of, 𝟘, _⊕_, _⊗_, _⊖_}
+use Rattle.field.proofs.ElementLaws.{primeRing}
 use Rattle.domain.specs.Polynomial.{_·_}
 use Rattle.domain.proofs.ListLaws.{equal-entries}
 use Rattle.poly.proofs.Coefficients.{coefficient-scale}
 use Rattle.poly.proofs.WordLists.{element-at}
-use Rattle.poly.proofs.LentParts.{filled-part}
-use Rattle.transform.specs.Reading.{PowersOf, spread}
+use Rattle.transform.specs.Reading.{spread}
 
-module _ {q : Prime} (factor : ℕ) (input : List ℕ) (w : Elem q) where
+module _ {q : Prime} (factor : ℕ) (input : List ℕ) where
   -- the word at place i of the part, times the factor
   abbrev taken : ℕ → ℕ → ℕ → Elem q
   taken from step i = of factor ⊗ of (getD input (from + step * i) 0)
 
-  abbrev pub part : ℕ → ℕ → ℕ → List (Elem q)
-  part k from step = transform (primeRing q) k (pow (primeRing q) w step) (spread factor input from step (2 ^ k))
+  abbrev pub part : ℕ → Elem q → ℕ → ℕ → List (Elem q)
+  part k w from step = transform (primeRing q) k w (spread factor input from step (2 ^ k))
 
   even-places : (k from step : ℕ) → evens (tabulate (2 ^ suc k) (taken from step)) ≡ tabulate (2 ^ k) (taken from (step + step))
   even-places k from step =
@@ -46,25 +43,53 @@ module _ {q : Prime} (factor : ℕ) (input : List ℕ) (w : Elem q) where
       omega (arith, mul-add step (i + i) 1, mul-add step i i, native.Mathlib.Nat.mul-one step, add-mul step step i) in
       ap (λ n. of factor ⊗ of (getD input n 0)) e)
 
-  pub part-single : (from step : ℕ) → part 0 from step ≡ (of factor ⊗ of (getD input from 0)) ∷ []
+  pub part-single : (w : Elem q) (from step : ℕ) → part 0 w from step ≡ (of factor ⊗ of (getD input from 0)) ∷ []
   unfolding transform
-  part-single from step =
+  part-single w from step =
       let e : from + step * 0 ≡ from = omega (arith, mul-zero step) in
       ap (λ n. (of factor ⊗ of (getD input n 0)) ∷ []) e
 
-  pub part-joined : (k from step : ℕ)
-      → join (primeRing q) (2 ^ k) (pow (primeRing q) w step) (part k from (step + step)) (part k (from + step) (step + step))
-      ≡ part (suc k) from step
+  -- the word at a place, times the factor
+  abbrev pub word-at-place : ℕ → Elem q
+  word-at-place n = of factor ⊗ of (getD input n 0)
+
+  pub part-two : (w : Elem q) (from step : ℕ)
+      → transform (primeRing q) 1 w (spread factor input from step 2)
+      ≡ word-at-place from ⊕ word-at-place (from + step) ∷ (word-at-place from ⊖ word-at-place (from + step) ∷ [])
+  part-two w from step =
+      let first : from + step * 0 ≡ from = omega (arith, mul-zero step) in
+      let second : from + step * 1 ≡ from + step = omega arith in
+      transform-two (primeRing q) w (taken from step 0) (taken from step 1)
+      ∙ ap₂ (λ (m n : ℕ). word-at-place m ⊕ word-at-place n ∷ (word-at-place m ⊖ word-at-place n ∷ [])) first second
+
+  -- what the transform gives for four words
+  abbrev four : Elem q → Elem q → Elem q → Elem q → Elem q → List (Elem q)
+  four w a b c d = (a ⊕ c ⊕ (b ⊕ d)) ∷ ((a ⊖ c ⊕ w ⊗ (b ⊖ d)) ∷ ((a ⊕ c ⊖ (b ⊕ d)) ∷ ((a ⊖ c ⊖ w ⊗ (b ⊖ d)) ∷ [])))
+
+  pub part-four : (w : Elem q) (from step : ℕ)
+      → transform (primeRing q) 2 w (spread factor input from step 4)
+      ≡ four w (word-at-place from) (word-at-place (from + step)) (word-at-place (from + step + step)) (word-at-place (from + step + step + step))
+  part-four w from step =
+      let at-0 : from + step * 0 ≡ from = omega (arith, mul-zero step) in
+      let at-1 : from + step * 1 ≡ from + step = omega arith in
+      let at-2 : from + step * 2 ≡ from + step + step = omega arith in
+      let at-3 : from + step * 3 ≡ from + step + step + step = omega arith in
+      transform-four (primeRing q) w (taken from step 0) (taken from step 1) (taken from step 2) (taken from step 3)
+      ∙ ap₂ (λ (k l : ℕ). four w (word-at-place k) (word-at-place l) (taken from step 2) (taken from step 3)) at-0 at-1
+      ∙ ap₂ (λ (m n : ℕ). four w (word-at-place from) (word-at-place (from + step)) (word-at-place m) (word-at-place n)) at-2 at-3
+
+  pub part-joined : (k : ℕ) (w : Elem q) (from step : ℕ)
+      → join (primeRing q) (2 ^ k) w (part k (w ⊗ w) from (step + step)) (part k (w ⊗ w) (from + step) (step + step)) ≡ part (suc k) w from step
   unfolding transform
-  part-joined k from step =
-      ap₂ (join (primeRing q) (2 ^ k) (pow (primeRing q) w step))
-      (ap₂ (transform (primeRing q) k) (pow-add (primeRing q) w step step) (sym (even-places k from step)))
-      (ap₂ (transform (primeRing q) k) (pow-add (primeRing q) w step step) (sym (odd-places k from step)))
+  part-joined k w from step =
+      ap₂ (join (primeRing q) (2 ^ k) w)
+      (ap (transform (primeRing q) k (w ⊗ w)) (sym (even-places k from step)))
+      (ap (transform (primeRing q) k (w ⊗ w)) (sym (odd-places k from step)))
 
   -- the part that is the whole list
-  pub part-whole : (k : ℕ) → length input ≡ 2 ^ k → part k 0 1 ≡ transform (primeRing q) k w (of factor · map of input)
-  part-whole k size =
-      ap₂ (transform (primeRing q) k) (mul-one w)
+  pub part-whole : (k : ℕ) (w : Elem q) → length input ≡ 2 ^ k → part k w 0 1 ≡ transform (primeRing q) k w (of factor · map of input)
+  part-whole k w size =
+      ap (transform (primeRing q) k w)
       (equal-entries 𝟘 _ _
       (length-tabulate (2 ^ k) (taken 0 1) ∙ sym size ∙ sym (length-map input (of {q = q})) ∙ sym (length-scale (primeRing q) (of factor) (map of input)))
       (λ i l.
@@ -72,10 +97,3 @@ module _ {q : Prime} (factor : ℕ) (input : List ℕ) (w : Elem q) where
       getD-tabulate (2 ^ k) i (taken 0 1) 𝟘 (omega (arith, length-tabulate (2 ^ k) (taken 0 1)))
       ∙ ap (λ (n : ℕ). of factor ⊗ of (getD input n 0)) place ∙ ap (λ (x : Elem q). of factor ⊗ x) (element-at input i)
       ∙ sym (coefficient-scale (primeRing q) (of factor) (map of input) i)))
-
--- the powers of g, as they were left in the first n entries of an array
-pub powers-lent : {q : Prime} (g : Elem q) (n : ℕ) (d : List ℕ) → n ≤ length d → (e : List ℕ) → length e ≡ length (take n d)
-    → e ≡ words (tabulate (length (take n d)) (pow (primeRing q) g)) → PowersOf g (take n (e ++ drop n d))
-powers-lent {q} g n d within e kept made =
-    let front : take n (e ++ drop n d) ≡ e = filled-part n d within e kept in
-    front ∙ made ∙ ap (λ (m : ℕ). words (tabulate m (pow (primeRing q) g))) (sym kept ∙ ap length (sym front))

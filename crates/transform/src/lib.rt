@@ -5,51 +5,154 @@ ghost use mathlib.Core.Bool.{true};
 ghost use mathlib.Core.List.{List, _++_, map};
 ghost use Prim.Native.Nat.{ℕ, _+_, _-_, _*_, _/_, _^_, _≤_, _<_};
 ghost use lib.ListN.{length};
-ghost use Rattle.algebra.specs.Ring.{pow};
 ghost use Rattle.algebra.specs.Halving.{join as joining, transform as transforming};
 ghost use Rattle.field.specs.Prime.{Prime};
 ghost use Rattle.field.specs.Element.{Elem, of, words};
 ghost use Rattle.field.proofs.ElementLaws.{primeRing};
 ghost use Rattle.domain.specs.Size.{isSize};
 ghost use Rattle.domain.specs.Domain.{root};
-ghost use Rattle.domain.specs.Polynomial.{_·_, valuesOn, interpolate as interpolation};
+ghost use Rattle.domain.specs.Polynomial.{valuesOn, interpolate as interpolation};
 ghost use Rattle.domain.specs.Qualifies.{Qualifies};
-ghost use Rattle.transform.specs.Reading.{PowersOf, spread};
+ghost use Rattle.transform.specs.Reading.{LevelOf, Levels, Prepared, Tables, ValueTables, CoefficientTables, Folded, spread};
 
 pub mod product;
 
-// As many powers as the largest size needs: half of it.
-const MAX_POWERS: usize = 512;
-
-// The two halves of the slice are joined in place: each i-th word of the second is multiplied by the power i·step, then added to the
-// i-th word of the first, and subtracted from it.
-fn join(p: u32, powers: &[u32], step: usize, out: &mut [u32])
-    requires { ⌜ 0 < p ⌝ }
-    requires { ⌜ (0 < step) × (step * (length (now out) / 2) ≤ length (now powers)) ⌝ }
-    ensures { λ _. ⌜ ((q : Prime) → q .p ≡ p → (w : Elem q) → PowersOf w (now (powers .entry))
-        → (e o : List (Elem q)) → length e ≡ length (now (out .entry)) / 2 → length o ≡ length (now (out .entry)) / 2
-        → now (out .entry) ≡ words e ++ words o
-        → now (out .exit) ≡ words (joining (primeRing q) (length (now (out .entry)) / 2) (pow (primeRing q) w step) e o)) ⌝ }
+// Each place of a table from the first to the middle takes the word at twice its place, the last of these places first: below the powers of
+// a root then stand those of its square, of its fourth power, and so on.
+fn fold_levels(powers: &mut [u32])
+    ensures { λ _. ⌜ Folded (now (powers .entry)) (now (powers .exit)) ⌝ }
 {
-    let half = out.len() / 2;
+    let mut j = powers.len() / 2;
+    while 1 < j {
+        j -= 1;
+        let twice = j + j;
+        powers[j] = powers[twice];
+    }
+}
+
+// The quotient that prepares a product, for each word of the table.
+fn prepare_all(p: u32, powers: &[u32], quotients: &mut [u32])
+    requires { ⌜ 0 < p ⌝ }
+    requires { ⌜ length (now quotients) ≡ length (now powers) ⌝ }
+    ensures { λ _. ⌜ Prepared p (now (powers .entry)) (now (quotients .exit)) ⌝ }
+{
     let mut i = 0;
-    let mut at = 0;
-    while i < half {
-        let j = half + i;
-        let even = out[i];
-        let odd = field::multiply(p, powers[at], out[j]);
-        out[i] = field::add_reduced(p, even, odd);
-        out[j] = field::subtract_reduced(p, even, odd);
-        at += step;
+    while i < quotients.len() {
+        quotients[i] = field::prepare(p, powers[i]);
         i += 1;
     }
 }
 
-// The words of the input at the places from, from + step, .., each times the factor, transformed into the slice.
+// The tables of a transform with the powers of g, as long as what it transforms.
+pub fn fill_tables(p: u32, g: u32, powers: &mut [u32], quotients: &mut [u32])
+    requires { ⌜ 1 < p ⌝ }
+    requires { ⌜ length (now quotients) ≡ length (now powers) ⌝ }
+    ensures { λ _. ⌜ ((q : Prime) → q .p ≡ p → (k : ℕ) → length (now (powers .entry)) ≡ 2 ^ k
+        → Tables q k (of g) (now (powers .exit)) (now (quotients .exit))) ⌝ }
+{
+    let half = powers.len() / 2;
+    domain::fill_powers(p, g, &mut powers[half..]);
+    fold_levels(powers);
+    prepare_all(p, powers, quotients);
+}
+
+// The tables for the way from values to coefficients; 1/g is the last power of g before 1.
+pub fn fill_inverse_tables(p: u32, g: u32, powers: &mut [u32], quotients: &mut [u32])
+    requires { ⌜ 1 < p ⌝ }
+    requires { ⌜ (length (now quotients) ≡ length (now powers)) × (isSize (length (now powers)) ≡ true) ⌝ }
+    ensures { λ _. ⌜ ((q : Prime) → q .p ≡ p → g ≡ (root {q = q} (length (now (powers .entry)))) .word
+        → CoefficientTables q (length (now (powers .entry))) (now (powers .exit)) (now (quotients .exit))) ⌝ }
+{
+    let n = powers.len() as u32;
+    let last = field::raise(p, g, n - 1);
+    fill_tables(p, last, powers, quotients);
+}
+
+// The two halves of the slice are joined in place: each i-th word of the second is multiplied by the i-th power of its level, then added to
+// the i-th word of the first, and subtracted from it.
+fn join(p: u32, powers: &[u32], quotients: &[u32], out: &mut [u32])
+    requires { ⌜ (length (now out) ≤ length (now powers)) × (length (now out) ≤ length (now quotients)) ⌝ }
+    ensures { λ _. ⌜ ((q : Prime) → q .p ≡ p → p < 2 ^ 31 → (w : Elem q) → LevelOf (length (now (out .entry)) / 2) w (now (powers .entry))
+        → Prepared p (now (powers .entry)) (now (quotients .entry))
+        → (e o : List (Elem q)) → length e ≡ length (now (out .entry)) / 2 → length o ≡ length (now (out .entry)) / 2
+        → now (out .entry) ≡ words e ++ words o
+        → now (out .exit) ≡ words (joining (primeRing q) (length (now (out .entry)) / 2) w e o)) ⌝ }
+{
+    let half = out.len() / 2;
+    let mut i = 0;
+    while i < half {
+        let j = half + i;
+        let even = out[i];
+        let odd = field::multiply_prepared(p, powers[j], quotients[j], out[j]);
+        out[i] = field::add_reduced(p, even, odd);
+        out[j] = field::subtract_reduced(p, even, odd);
+        i += 1;
+    }
+}
+
+// The transform of two words of the input, each times the factor.
+fn transform_two(p: u32, factor: u32, input: &[u32], from: usize, step: usize, out: &mut [u32])
+    requires { ⌜ 0 < p ⌝ }
+    requires { ⌜ length (now out) ≡ 2 ⌝ }
+    requires { ⌜ from + step < length (now input) ⌝ }
+    ensures { λ _. ⌜ ((q : Prime) → q .p ≡ p → (w : Elem q)
+        → now (out .exit) ≡ words (transforming (primeRing q) 1 w (spread factor (now (input .entry)) from step 2))) ⌝ }
+{
+    let second = from + step;
+    let a = field::multiply(p, factor, input[from]);
+    let b = field::multiply(p, factor, input[second]);
+    out[0] = field::add_reduced(p, a, b);
+    out[1] = field::subtract_reduced(p, a, b);
+}
+
+// The transform of four words of the input, each times the factor: the sum and the difference of the even ones, and of the odd ones.
+fn transform_four(
+    p: u32,
+    factor: u32,
+    powers: &[u32],
+    quotients: &[u32],
+    input: &[u32],
+    from: usize,
+    step: usize,
+    out: &mut [u32],
+)
+    requires { ⌜ 0 < p ⌝ }
+    requires { ⌜ length (now out) ≡ 4 ⌝ }
+    requires { ⌜ from + step + step + step < length (now input) ⌝ }
+    requires { ⌜ (4 ≤ length (now powers)) × (4 ≤ length (now quotients)) ⌝ }
+    ensures { λ _. ⌜ ((q : Prime) → q .p ≡ p → p < 2 ^ 31 → (w : Elem q) → LevelOf 2 w (now (powers .entry))
+        → Prepared p (now (powers .entry)) (now (quotients .entry))
+        → now (out .exit) ≡ words (transforming (primeRing q) 2 w (spread factor (now (input .entry)) from step 4))) ⌝ }
+{
+    let second = from + step;
+    let third = second + step;
+    let fourth = third + step;
+    let a = field::multiply(p, factor, input[from]);
+    let b = field::multiply(p, factor, input[second]);
+    let c = field::multiply(p, factor, input[third]);
+    let d = field::multiply(p, factor, input[fourth]);
+    let even = field::add_reduced(p, a, c);
+    let odd = field::add_reduced(p, b, d);
+    let turned = field::multiply_prepared(
+        p,
+        powers[3],
+        quotients[3],
+        field::subtract_reduced(p, b, d),
+    );
+    let rest = field::subtract_reduced(p, a, c);
+    out[0] = field::add_reduced(p, even, odd);
+    out[1] = field::add_reduced(p, rest, turned);
+    out[2] = field::subtract_reduced(p, even, odd);
+    out[3] = field::subtract_reduced(p, rest, turned);
+}
+
+// The words of the input at the places from, from + step, .., each times the factor, transformed into the slice. Two and four words are done
+// at once, which is what two halvings would do.
 fn transform(
     p: u32,
     factor: u32,
     powers: &[u32],
+    quotients: &[u32],
     input: &[u32],
     from: usize,
     step: usize,
@@ -58,35 +161,71 @@ fn transform(
     requires { ⌜ 0 < p ⌝ }
     requires { ⌜ isSize (length (now out)) ≡ true ⌝ }
     requires { ⌜ from + step * (length (now out) - 1) < length (now input) ⌝ }
-    requires { ⌜ (0 < step) × (step * (length (now out) / 2) ≤ length (now powers)) ⌝ }
-    ensures { λ _. ⌜ ((q : Prime) → q .p ≡ p → (w : Elem q) → PowersOf w (now (powers .entry))
-        → (k : ℕ) → length (now (out .entry)) ≡ 2 ^ k
-        → now (out .exit)
-        ≡ words (transforming (primeRing q) k (pow (primeRing q) w step) (spread factor (now (input .entry)) from step (2 ^ k)))) ⌝ }
+    requires { ⌜ (length (now out) ≤ length (now powers)) × (length (now out) ≤ length (now quotients)) ⌝ }
+    ensures { λ _. ⌜ ((q : Prime) → q .p ≡ p → p < 2 ^ 31 → (w : Elem q) (k : ℕ) → length (now (out .entry)) ≡ 2 ^ k
+        → Levels k w (now (powers .entry)) → Prepared p (now (powers .entry)) (now (quotients .entry))
+        → now (out .exit) ≡ words (transforming (primeRing q) k w (spread factor (now (input .entry)) from step (2 ^ k)))) ⌝ }
 {
     if out.len() == 1 {
         out[0] = field::multiply(p, factor, input[from]);
         return;
     }
+    if out.len() == 2 {
+        transform_two(p, factor, input, from, step, out);
+        return;
+    }
+    if out.len() == 4 {
+        transform_four(p, factor, powers, quotients, input, from, step, out);
+        return;
+    }
     let half = out.len() / 2;
     let twice = step + step;
     let next = from + step;
-    transform(p, factor, powers, input, from, twice, &mut out[..half]);
-    transform(p, factor, powers, input, next, twice, &mut out[half..]);
-    join(p, powers, step, out);
+    transform(
+        p,
+        factor,
+        powers,
+        quotients,
+        input,
+        from,
+        twice,
+        &mut out[..half],
+    );
+    transform(
+        p,
+        factor,
+        powers,
+        quotients,
+        input,
+        next,
+        twice,
+        &mut out[half..],
+    );
+    join(p, powers, quotients, out);
 }
 
-// The whole input, each word times the factor, transformed with the powers of g into the slice.
-fn transform_all(p: u32, g: u32, factor: u32, input: &[u32], out: &mut [u32])
+// The values of the polynomial f of length n on the domain of size n into the slice, with the tables of g_n.
+pub fn evaluate_with(p: u32, powers: &[u32], quotients: &[u32], f: &[u32], out: &mut [u32])
     requires { ⌜ 1 < p ⌝ }
-    requires { ⌜ (length (now out) ≡ length (now input)) × (isSize (length (now input)) ≡ true) ⌝ }
-    ensures { λ _. ⌜ ((q : Prime) → q .p ≡ p → (k : ℕ) → length (now (input .entry)) ≡ 2 ^ k
-        → now (out .exit) ≡ words (transforming (primeRing q) k (of g) (of factor · map of (now (input .entry))))) ⌝ }
+    requires { ⌜ (length (now out) ≡ length (now f)) × (isSize (length (now f)) ≡ true) ⌝ }
+    requires { ⌜ (length (now f) ≤ length (now powers)) × (length (now f) ≤ length (now quotients)) ⌝ }
+    ensures { λ _. ⌜ ((q : Prime) → Qualifies q → q .p ≡ p → ValueTables q (length (now (f .entry))) (now (powers .entry)) (now (quotients .entry))
+        → now (out .exit) ≡ words (valuesOn (length (now (f .entry))) (map (of {q = q}) (now (f .entry))))) ⌝ }
 {
-    let mut powers = [0u32; MAX_POWERS];
-    let half = input.len() / 2;
-    domain::fill_powers(p, g, &mut powers[..half]);
-    transform(p, factor, &powers[..half], input, 0, 1, out);
+    transform(p, 1, powers, quotients, f, 0, 1, out);
+}
+
+// The polynomial with the given values on the domain of size n into the slice, with the tables of 1/g_n.
+pub fn interpolate_with(p: u32, powers: &[u32], quotients: &[u32], values: &[u32], out: &mut [u32])
+    requires { ⌜ 1 < p ⌝ }
+    requires { ⌜ (length (now out) ≡ length (now values)) × (isSize (length (now values)) ≡ true) ⌝ }
+    requires { ⌜ (length (now values) ≤ length (now powers)) × (length (now values) ≤ length (now quotients)) ⌝ }
+    ensures { λ _. ⌜ ((q : Prime) → Qualifies q → q .p ≡ p
+        → CoefficientTables q (length (now (values .entry))) (now (powers .entry)) (now (quotients .entry))
+        → now (out .exit) ≡ words (interpolation (length (now (values .entry))) (map (of {q = q}) (now (values .entry))))) ⌝ }
+{
+    let share = domain::size_inverse(p, values.len() as u32);
+    transform(p, share, powers, quotients, values, 0, 1, out);
 }
 
 // The values of the polynomial f of length n on the domain of size n into the slice; g is the root g_n.
@@ -96,7 +235,11 @@ pub fn evaluate_into(p: u32, g: u32, f: &[u32], out: &mut [u32])
     ensures { λ _. ⌜ ((q : Prime) → Qualifies q → q .p ≡ p → g ≡ (root {q = q} (length (now (f .entry)))) .word
         → now (out .exit) ≡ words (valuesOn (length (now (f .entry))) (map (of {q = q}) (now (f .entry))))) ⌝ }
 {
-    transform_all(p, g, 1, f, out);
+    let n = f.len();
+    let mut powers = [0u32; 1024];
+    let mut quotients = [0u32; 1024];
+    fill_tables(p, g, &mut powers[..n], &mut quotients[..n]);
+    evaluate_with(p, &powers[..n], &quotients[..n], f, out);
 }
 
 // The polynomial with the given values on the domain of size n into the slice; g is the root g_n.
@@ -106,8 +249,9 @@ pub fn interpolate_into(p: u32, g: u32, values: &[u32], out: &mut [u32])
     ensures { λ _. ⌜ ((q : Prime) → Qualifies q → q .p ≡ p → g ≡ (root {q = q} (length (now (values .entry)))) .word
         → now (out .exit) ≡ words (interpolation (length (now (values .entry))) (map (of {q = q}) (now (values .entry))))) ⌝ }
 {
-    let n = values.len() as u32;
-    // 1/g is the last power of g before 1.
-    let last = field::raise(p, g, n - 1);
-    transform_all(p, last, field::divide(p, 1, n), values, out);
+    let n = values.len();
+    let mut powers = [0u32; 1024];
+    let mut quotients = [0u32; 1024];
+    fill_inverse_tables(p, g, &mut powers[..n], &mut quotients[..n]);
+    interpolate_with(p, &powers[..n], &quotients[..n], values, out);
 }

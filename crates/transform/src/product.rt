@@ -1,5 +1,6 @@
 // The product of two polynomials of length n, given by their values on the domain of size n, divided by v_D = Y^n - 1: its remainder from
-// values on the domain, and its quotient from values on a coset s·D too, on which v_D is the constant s^n - 1. Here root is g_n.
+// values on the domain, and its quotient from values on a coset s·D too, on which v_D is the constant s^n - 1. Here root is g_n, and powers and
+// quotients are the tables of transforms of length n: for coefficients where nothing else is said.
 ghost use mathlib.Core.Path.{_≡_};
 ghost use mathlib.Core.Bool.{true};
 ghost use mathlib.Core.List.{map};
@@ -16,9 +17,12 @@ ghost use Rattle.domain.specs.Domain.{root as rootOf};
 ghost use Rattle.domain.specs.Polynomial.{Poly, _⊠_, quotient, remainder, valuesOn};
 ghost use Rattle.domain.specs.Qualifies.{Qualifies};
 ghost use Rattle.domain.specs.Known.{Known};
+ghost use Rattle.transform.specs.Reading.{ValueTables, CoefficientTables};
 ghost use Rattle.transform.specs.Product.{Shift, ProductDivided};
-use crate::evaluate_into;
-use crate::interpolate_into;
+use crate::evaluate_with;
+use crate::fill_inverse_tables;
+use crate::fill_tables;
+use crate::interpolate_with;
 
 // An element of no domain: the generator.
 const SHIFT: u32 = 31;
@@ -40,11 +44,20 @@ fn products_into(p: u32, left: &[u32], right: &[u32], out: &mut [u32])
 }
 
 // The remainder of f·g by v_D into the slice, from the values of f and g.
-fn remainder_from(p: u32, root: u32, left: &[u32], right: &[u32], out: &mut [u32])
+fn remainder_from(
+    p: u32,
+    powers: &[u32],
+    quotients: &[u32],
+    left: &[u32],
+    right: &[u32],
+    out: &mut [u32],
+)
     requires { ⌜ 1 < p ⌝ }
     requires { ⌜ isSize (length (now out)) ≡ true ⌝ }
     requires { ⌜ (length (now left) ≡ length (now out)) × (length (now right) ≡ length (now out)) ⌝ }
-    ensures { λ _. ⌜ ((q : Prime) → Qualifies q → q .p ≡ p → root ≡ (rootOf {q = q} (length (now (out .entry)))) .word → (f g : Poly q)
+    requires { ⌜ (length (now out) ≤ length (now powers)) × (length (now out) ≤ length (now quotients)) ⌝ }
+    ensures { λ _. ⌜ ((q : Prime) → Qualifies q → q .p ≡ p
+        → CoefficientTables q (length (now (out .entry))) (now (powers .entry)) (now (quotients .entry)) → (f g : Poly q)
         → map of (now (left .entry)) ≡ valuesOn (length (now (out .entry))) f
         → map of (now (right .entry)) ≡ valuesOn (length (now (out .entry))) g
         → now (out .exit) ≡ words (remainder (length (now (out .entry))) (f ⊠ g))) ⌝ }
@@ -52,7 +65,7 @@ fn remainder_from(p: u32, root: u32, left: &[u32], right: &[u32], out: &mut [u32
     let n = out.len();
     let mut products = [0u32; 1024];
     products_into(p, left, right, &mut products[..n]);
-    interpolate_into(p, root, &products[..n], out);
+    interpolate_with(p, powers, quotients, &products[..n], out);
 }
 
 // f(s·Y) into the slice.
@@ -70,36 +83,52 @@ fn twist_into(p: u32, s: u32, f: &[u32], out: &mut [u32])
     }
 }
 
-// The values of f on the coset into the slice: those of f(s·Y) on the domain.
-fn coset_values_into(p: u32, root: u32, s: u32, f: &[u32], out: &mut [u32])
+// The values of f on the coset into the slice: those of f(s·Y) on the domain. The tables are those for values.
+fn coset_values_into(p: u32, powers: &[u32], quotients: &[u32], s: u32, f: &[u32], out: &mut [u32])
     requires { ⌜ 1 < p ⌝ }
     requires { ⌜ isSize (length (now out)) ≡ true ⌝ }
     requires { ⌜ length (now f) ≡ length (now out) ⌝ }
-    ensures { λ _. ⌜ ((q : Prime) → Qualifies q → q .p ≡ p → root ≡ (rootOf {q = q} (length (now (out .entry)))) .word
+    requires { ⌜ (length (now out) ≤ length (now powers)) × (length (now out) ≤ length (now quotients)) ⌝ }
+    ensures { λ _. ⌜ ((q : Prime) → Qualifies q → q .p ≡ p
+        → ValueTables q (length (now (out .entry))) (now (powers .entry)) (now (quotients .entry))
         → now (out .exit) ≡ words (valuesOn (length (now (out .entry))) (twist (primeRing q) (of s) (map of (now (f .entry)))))) ⌝ }
 {
     let n = out.len();
     let mut twisted = [0u32; 1024];
     twist_into(p, s, f, &mut twisted[..n]);
-    evaluate_into(p, root, &twisted[..n], out);
+    evaluate_with(p, powers, quotients, &twisted[..n], out);
 }
 
 // The remainder of f(s·Y)·g(s·Y) by v_D into the slice.
-fn coset_remainder_into(p: u32, root: u32, s: u32, f: &[u32], g: &[u32], out: &mut [u32])
+fn coset_remainder_into(
+    p: u32,
+    root: u32,
+    powers: &[u32],
+    quotients: &[u32],
+    s: u32,
+    f: &[u32],
+    g: &[u32],
+    out: &mut [u32],
+)
     requires { ⌜ 1 < p ⌝ }
     requires { ⌜ isSize (length (now out)) ≡ true ⌝ }
     requires { ⌜ (length (now f) ≡ length (now out)) × (length (now g) ≡ length (now out)) ⌝ }
+    requires { ⌜ (length (now out) ≤ length (now powers)) × (length (now out) ≤ length (now quotients)) ⌝ }
     ensures { λ _. ⌜ ((q : Prime) → Qualifies q → q .p ≡ p → root ≡ (rootOf {q = q} (length (now (out .entry)))) .word
+        → CoefficientTables q (length (now (out .entry))) (now (powers .entry)) (now (quotients .entry))
         → now (out .exit)
         ≡ words (remainder (length (now (out .entry)))
         (twist (primeRing q) (of s) (map of (now (f .entry))) ⊠ twist (primeRing q) (of s) (map of (now (g .entry)))))) ⌝ }
 {
     let n = out.len();
+    let mut ahead = [0u32; 1024];
+    let mut shares = [0u32; 1024];
+    fill_tables(p, root, &mut ahead[..n], &mut shares[..n]);
     let mut left = [0u32; 1024];
-    coset_values_into(p, root, s, f, &mut left[..n]);
+    coset_values_into(p, &ahead[..n], &shares[..n], s, f, &mut left[..n]);
     let mut right = [0u32; 1024];
-    coset_values_into(p, root, s, g, &mut right[..n]);
-    remainder_from(p, root, &left[..n], &right[..n], out);
+    coset_values_into(p, &ahead[..n], &shares[..n], s, g, &mut right[..n]);
+    remainder_from(p, powers, quotients, &left[..n], &right[..n], out);
 }
 
 // The i-th word of the second list times the i-th power of s, less that of the first, times the share.
@@ -137,6 +166,46 @@ fn quotient_from(p: u32, n: u32, s: u32, plain: &[u32], turned: &[u32], out: &mu
     combine_into(p, turn, share, plain, turned, out);
 }
 
+// The work of the call below, with the tables made.
+fn divide_with(
+    p: u32,
+    root: u32,
+    powers: &[u32],
+    quotients: &[u32],
+    left: &[u32],
+    right: &[u32],
+    factor: &mut [u32],
+    rest: &mut [u32],
+    out: &mut [u32],
+)
+    requires { ⌜ 1 < p ⌝ }
+    requires { ⌜ isSize (length (now left)) ≡ true ⌝ }
+    requires { ⌜ (length (now left) ≤ length (now powers)) × (length (now left) ≤ length (now quotients)) ⌝ }
+    requires { ⌜ (length (now right) ≡ length (now left)) × (length (now factor) ≡ length (now left)) ⌝ }
+    requires { ⌜ (length (now rest) ≡ length (now left)) × (length (now out) + 1 ≡ length (now left)) ⌝ }
+    ensures { λ _. ⌜ ((q : Prime) → Known q p → root ≡ (rootOf {q = q} (length (now (left .entry)))) .word
+        → CoefficientTables q (length (now (left .entry))) (now (powers .entry)) (now (quotients .entry))
+        → ProductDivided q (now (left .entry)) (now (right .entry)) (now (factor .exit)) (now (rest .exit)) (now (out .exit))) ⌝ }
+{
+    let n = left.len();
+    interpolate_with(p, powers, quotients, left, factor);
+    let mut other = [0u32; 1024];
+    interpolate_with(p, powers, quotients, right, &mut other[..n]);
+    remainder_from(p, powers, quotients, left, right, rest);
+    let mut turned = [0u32; 1024];
+    coset_remainder_into(
+        p,
+        root,
+        powers,
+        quotients,
+        SHIFT,
+        factor,
+        &other[..n],
+        &mut turned[..n],
+    );
+    quotient_from(p, n as u32, SHIFT, rest, &turned[..n], out);
+}
+
 // With f and g given by their values on the domain of size n: the n coefficients of f, and the remainder (n words) and the quotient
 // (n - 1 words) of f·g by v_D.
 pub fn divide_product_into(
@@ -155,13 +224,19 @@ pub fn divide_product_into(
         → ProductDivided q (now (left .entry)) (now (right .entry)) (now (factor .exit)) (now (rest .exit)) (now (out .exit))) ⌝ }
 {
     let n = left.len();
-    let size = n as u32;
-    let root = domain::root_of(p, size);
-    interpolate_into(p, root, left, factor);
-    let mut other = [0u32; 1024];
-    interpolate_into(p, root, right, &mut other[..n]);
-    remainder_from(p, root, left, right, rest);
-    let mut turned = [0u32; 1024];
-    coset_remainder_into(p, root, SHIFT, factor, &other[..n], &mut turned[..n]);
-    quotient_from(p, size, SHIFT, rest, &turned[..n], out);
+    let root = domain::root_of(p, n as u32);
+    let mut powers = [0u32; 1024];
+    let mut quotients = [0u32; 1024];
+    fill_inverse_tables(p, root, &mut powers[..n], &mut quotients[..n]);
+    divide_with(
+        p,
+        root,
+        &powers[..n],
+        &quotients[..n],
+        left,
+        right,
+        factor,
+        rest,
+        out,
+    );
 }

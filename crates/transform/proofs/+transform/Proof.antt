@@ -3,75 +3,85 @@
 use borrow.Author.Needs.{needs}
 use borrow.Fn.Kinds.{In}
 use borrow.Fn.PlainCycle.{Measures, is, falls, and}
-use mathlib.Core.Path.{_≡_, sym, ap, ap₂, _∙_, subst⁻¹}
+use mathlib.Core.Path.{_≡_, sym, ap, ap₂, _∙_, subst, subst⁻¹}
 use mathlib.Core.Bool.{true}
 use mathlib.Core.List.{List, [], _∷_, _++_}
-use Prim.Native.Nat.{ℕ, _+_, _-_, _*_, _/_, _≤_, _<_}
+use Prim.Native.Nat.{ℕ, suc, _+_, _-_, _*_, _/_, _≤_, _<_}
 use native.Mathlib.Omega.{arith}
 use lib.ListN.{length, take, drop, length-append}
 use lib.Seq.{length-take-le}
-use Rattle.algebra.specs.Ring.{pow}
 use Rattle.algebra.specs.Halving.{join}
-use Rattle.field.specs.Element.{Elem, words}
+use Rattle.field.specs.Element.{Elem, _⊗_, words}
 use Rattle.field.proofs.ElementLaws.{primeRing}
 use Rattle.field.proofs.multiply.Reads as multiply-reads
 use Rattle.domain.specs.Size.{isSize}
 use Rattle.domain.proofs.Fill.{length-words}
-use Rattle.transform.proofs.Halves.{Halved, halved, exponent-none, exponent-less, one-set, second-length, both-halves}
+use Rattle.transform.specs.Reading.{LevelOf, Levels}
+use Rattle.transform.proofs.Halves.{Halved, halved, exponent-none, exponent-one, exponent-two, exponent-less, one-set}
+use Rattle.transform.proofs.Halves.{second-length, both-halves}
 use Rattle.transform.proofs.Parts.{part, part-single, part-joined}
 use Rattle.transform.proofs.join.Reads as join-reads
+use Rattle.transform.proofs.transform_two.Reads as two-reads
+use Rattle.transform.proofs.transform_four.Reads as four-reads
 use Rattle.transform.proofs.transform.Reads as transform
 use Rattle.transform.proofs.transform.Kinds as transform-kinds
 use Rattle.transform.proofs.+transform.Lts-transform as lts
 use Rattle.transform.proofs.+transform.{statement}
 use Rattle.transform.proofs.+transform.Tie.{close}
 
-abbrev μ-transform : Measures 3 transform-kinds.ps ℕ
-μ-transform κs a = length (a .1 .1 .1 .1 .1 .1 .0 .now)
+abbrev μ-transform : Measures 4 transform-kinds.ps ℕ
+μ-transform κs a = length (a .1 .1 .1 .1 .1 .1 .1 .0 .now)
 
-abbrev at : ℕ → In 3 transform-kinds.ps
-at t = and 3 transform-kinds.ps (is 3 transform-kinds.ps μ-transform t) transform.Pre
+abbrev at : ℕ → In 4 transform-kinds.ps
+at t = and 4 transform-kinds.ps (is 4 transform-kinds.ps μ-transform t) transform.Pre
 
-abbrev below : ℕ → In 3 transform-kinds.ps
-below t = and 3 transform-kinds.ps (falls 3 transform-kinds.ps _<_ μ-transform t) transform.Pre
+abbrev below : ℕ → In 4 transform-kinds.ps
+below t = and 4 transform-kinds.ps (falls 4 transform-kinds.ps _<_ μ-transform t) transform.Pre
 
 abbrev claims : ℕ → lts.Claims
-claims t = (multiply-reads.Asked, multiply-reads.Learnt, below t, transform.Post, join-reads.Asked, join-reads.Learnt)
+claims t = (
+  multiply-reads.Asked,
+  multiply-reads.Learnt,
+  two-reads.Asked,
+  two-reads.Learnt,
+  four-reads.Asked,
+  four-reads.Learnt,
+  below t,
+  transform.Post,
+  join-reads.Asked,
+  join-reads.Learnt,
+)
 
 -- what is asked of a call on a half, whose length n is h
-asked : (t p from step m powers h n : ℕ) → n ≡ h → h < t → 0 < p → isSize h ≡ true → from + (step + step) * (h - 1) < m → 0 < step
-    → (step + step) * (h / 2) ≤ powers
-    → (n < t) × ((0 < p) × ((isSize n ≡ true) × ((from + (step + step) * (n - 1) < m) × ((0 < step + step) × ((step + step) * (n / 2) ≤ powers)))))
-asked t p from step m powers h n e less positive size within forward spread = (
+asked : (t p from step m powers quotients h n whole : ℕ) → n ≡ h → h < t → h ≤ whole → 0 < p → isSize h ≡ true
+    → from + (step + step) * (h - 1) < m → whole ≤ powers → whole ≤ quotients
+    → (n < t) × ((0 < p) × ((isSize n ≡ true) × ((from + (step + step) * (n - 1) < m) × ((n ≤ powers) × (n ≤ quotients)))))
+asked t p from step m powers quotients h n whole e less fewer positive size within in-powers in-quotients = (
   omega arith,
   (
     positive,
     (
       ap isSize e ∙ size,
-      (
-        subst⁻¹ (λ (n : ℕ). from + (step + step) * (n - 1) < m) e within,
-        (omega arith, subst⁻¹ (λ (n : ℕ). (step + step) * (n / 2) ≤ powers) e spread),
-      ),
+      (subst⁻¹ (λ (n : ℕ). from + (step + step) * (n - 1) < m) e within, (omega arith, omega arith)),
     ),
   ),
 )
 
 module _ (t : ℕ) where
   -- where the slice has two halves
-  halves : (c : lts.Else1 (claims t) (at t) transform.Post)
-      → Halved (length (c .before .before .before .before .args .out .now)) (c .before .before .before .before .args .from)
-      (c .before .before .before .before .args .step) (length (c .before .before .before .before .args .input .now))
-      (length (c .before .before .before .before .args .powers .now))
+  halves : (c : lts.Else3 (claims t) (at t) transform.Post)
+      → Halved (length (c .before .before .before .before .before .before .before .args .out .now)) (c .before .before .before .before .before .before .before .args .from)
+      (c .before .before .before .before .before .before .before .args .step) (length (c .before .before .before .before .before .before .before .args .input .now))
   halves c =
-      let s = c .before .before .before .before in
-      halved (length (s .args .out .now)) (s .args .from) (s .args .step) (length (s .args .input .now)) (length (s .args .powers .now))
-      (s .pre .1 .1 .0) (c .if1 .left) (s .pre .1 .1 .1 .0) (s .pre .1 .1 .1 .1 .1)
+      let s = c .before .before .before .before .before .before .before in
+      halved (length (s .args .out .now)) (s .args .from) (s .args .step) (length (s .args .input .now))
+      (s .pre .1 .1 .0) (c .before .before .if1 .left) (s .pre .1 .1 .1 .0)
 
   mul-multiply : lts.Need-mul-multiply (claims t) (at t) transform.Post
-  mul-multiply c = omega (arith, c .before .before .before .before .pre .1 .1 .1 .0)
+  mul-multiply c = omega (arith, c .before .before .before .before .before .pre .1 .1 .1 .0)
 
   shared-slice-read-multiply : lts.Need-shared-slice-read-multiply (claims t) (at t) transform.Post
-  shared-slice-read-multiply c = omega (arith, c .before .before .before .before .before .pre .1 .1 .1 .0)
+  shared-slice-read-multiply c = omega (arith, c .before .before .before .before .before .before .pre .1 .1 .1 .0)
 
   multiply-requires : lts.Need-multiply-requires (claims t) (at t) transform.Post
   multiply-requires c κs = search needs
@@ -83,14 +93,55 @@ module _ (t : ℕ) where
   same-length c = search needs
 
   returns : lts.Need-returns (claims t) (at t) transform.Post
-  returns c q e w is-powers k size =
-      let s = c .before .before .before .before .before .before in
-      let a = s .args in
+  returns c q e small w k size levels prepared =
+      let a = c .before .before .before .before .before .before .before .args in
       let one : length (a .out .now) ≡ 1 = c .before .before .if1 .taken in
       one-set (a .out .now) (c .multiply .result) one
       ∙ ap (λ (word : ℕ). word ∷ []) (c .multiply .ensures q e)
       ∙ ap words (sym (part-single (a .factor) (a .input .now) w (a .from) (a .step)))
-      ∙ ap (λ (j : ℕ). words (part (a .factor) (a .input .now) w j (a .from) (a .step))) (sym (exponent-none k (sym size ∙ one)))
+      ∙ ap (λ (j : ℕ). words (part (a .factor) (a .input .now) j w (a .from) (a .step))) (sym (exponent-none k (sym size ∙ one)))
+
+  transform-two-requires : lts.Need-transform-two-requires (claims t) (at t) transform.Post
+  transform-two-requires c κs =
+      let s = c .before .before .before .before .before .before .before in
+      let two : length (s .args .out .now) ≡ 2 = c .before .if2 .taken in
+      (s .pre .1 .0, (two, omega (arith, s .pre .1 .1 .1 .0, ap (λ (n : ℕ). s .args .step * (n - 1)) two)))
+
+  same-length-2 : lts.Need-same-length-2 (claims t) (at t) transform.Post
+  same-length-2 c = search needs
+
+  returns-2 : lts.Need-returns-2 (claims t) (at t) transform.Post
+  returns-2 c q e small w k size levels prepared =
+      let a = c .before .before .before .before .before .before .before .before .before .before .args in
+      let two : length (a .out .now) ≡ 2 = c .before .before .before .before .if2 .taken in
+      c .before .before .transform-two .ensures q e w
+      ∙ ap (λ (j : ℕ). words (part (a .factor) (a .input .now) j w (a .from) (a .step))) (sym (exponent-one k (sym size ∙ two)))
+
+  transform-four-requires : lts.Need-transform-four-requires (claims t) (at t) transform.Post
+  transform-four-requires c κs =
+      let s = c .before .before .before .before .before .before .before .before in
+      let four : length (s .args .out .now) ≡ 4 = c .before .if3 .taken in
+      let in-powers = s .pre .1 .1 .1 .1 .0 in
+      let in-quotients = s .pre .1 .1 .1 .1 .1 in (
+        s .pre .1 .0,
+        (
+          four,
+          (
+            omega (arith, s .pre .1 .1 .1 .0, ap (λ (n : ℕ). s .args .step * (n - 1)) four),
+            (omega (arith, in-powers), omega (arith, in-quotients)),
+          ),
+        ),
+      )
+
+  same-length-3 : lts.Need-same-length-3 (claims t) (at t) transform.Post
+  same-length-3 c = search needs
+
+  returns-3 : lts.Need-returns-3 (claims t) (at t) transform.Post
+  returns-3 c q e small w k size levels prepared =
+      let a = c .before .before .before .before .before .before .before .before .before .before .before .args in
+      let two : k ≡ 2 = exponent-two k (sym size ∙ c .before .before .before .before .if3 .taken) in
+      c .before .before .transform-four .ensures q e small w (subst (λ (j : ℕ). Levels j w (a .powers .now)) two levels .0) prepared
+      ∙ ap (λ (j : ℕ). words (part (a .factor) (a .input .now) j w (a .from) (a .step))) (sym two)
 
   add-twice : lts.Need-add-twice (claims t) (at t) transform.Post
   add-twice c = omega (arith, halves c .room)
@@ -103,60 +154,58 @@ module _ (t : ℕ) where
 
   slice-aggregate-transform : lts.Need-slice-aggregate-transform (claims t) (at t) transform.Post
   slice-aggregate-transform c =
-      let a = c .before .before .before .before .before .args in
+      let a = c .before .before .before .before .before .before .before .before .args in
       sym (length-take-le (length (a .out .now) / 2) (a .out .now) (omega arith))
 
   -- what the first call left is as long as half
   first-kept : (c : lts.After-transform (claims t) (at t) transform.Post)
-      → length (c .transform .last .1 .1 .1 .1 .1 .1 .0) ≡ length (c .before .before .before .before .before .before .args .out .now) / 2
+      → length (c .transform .last .1 .1 .1 .1 .1 .1 .1 .0) ≡ length (c .before .before .before .before .before .before .before .before .before .args .out .now) / 2
   first-kept c =
-      let a = c .before .before .before .before .before .before .args in
-      c .transform .kept .1 .1 .1 .1 .1 .1 .0 ∙ length-take-le (length (a .out .now) / 2) (a .out .now) (omega arith)
+      let a = c .before .before .before .before .before .before .before .before .before .args in
+      c .transform .kept .1 .1 .1 .1 .1 .1 .1 .0 ∙ length-take-le (length (a .out .now) / 2) (a .out .now) (omega arith)
 
   second-kept : (c : lts.After-transform2 (claims t) (at t) transform.Post)
-      → length (c .transform2 .last .1 .1 .1 .1 .1 .1 .0)
-      ≡ length (c .before .before .before .before .before .before .before .before .before .before .args .out .now) / 2
+      → length (c .transform2 .last .1 .1 .1 .1 .1 .1 .1 .0) ≡ length (c .before .before .before .before .before .before .before .before .before .before .before .before .before .args .out .now) / 2
   second-kept c =
       let f = c .before .before .before .before in
-      let d : List ℕ = f .before .before .before .before .before .before .args .out .now in
-      c .transform2 .kept .1 .1 .1 .1 .1 .1 .0
-      ∙ second-length (length d / 2) d (f .transform .last .1 .1 .1 .1 .1 .1 .0) (halves (f .before .before) .doubled) (first-kept f)
+      let d : List ℕ = c .before .before .before .before .before .before .before .before .before .before .before .before .before .args .out .now in
+      c .transform2 .kept .1 .1 .1 .1 .1 .1 .1 .0
+      ∙ second-length (length d / 2) d (f .transform .last .1 .1 .1 .1 .1 .1 .1 .0) (halves (f .before .before) .doubled) (first-kept f)
 
   -- after both calls the slice is what they left, one after the other
   second-in : (c : lts.After-transform2 (claims t) (at t) transform.Post)
       → (let f = c .before .before .before .before in
-      let d = f .before .before .before .before .before .before .args .out .now in
-      let e = f .transform .last .1 .1 .1 .1 .1 .1 .0 in
+      let d = c .before .before .before .before .before .before .before .before .before .before .before .before .before .args .out .now in
+      let e = f .transform .last .1 .1 .1 .1 .1 .1 .1 .0 in
       let w = e ++ drop (length d / 2) d in
-      take (length d / 2) w ++ (c .transform2 .last .1 .1 .1 .1 .1 .1 .0 ++ drop (length w - length d / 2) (drop (length d / 2) w))
-      ≡ e ++ c .transform2 .last .1 .1 .1 .1 .1 .1 .0)
+      take (length d / 2) w ++ (c .transform2 .last .1 .1 .1 .1 .1 .1 .1 .0 ++ drop (length w - length d / 2) (drop (length d / 2) w))
+      ≡ e ++ c .transform2 .last .1 .1 .1 .1 .1 .1 .1 .0)
   second-in c =
       let f = c .before .before .before .before in
-      let d : List ℕ = f .before .before .before .before .before .before .args .out .now in
-      both-halves (length d / 2) d (f .transform .last .1 .1 .1 .1 .1 .1 .0) (halves (f .before .before) .doubled) (first-kept f)
-      (c .transform2 .last .1 .1 .1 .1 .1 .1 .0) (second-kept c)
+      let d : List ℕ = c .before .before .before .before .before .before .before .before .before .before .before .before .before .args .out .now in
+      both-halves (length d / 2) d (f .transform .last .1 .1 .1 .1 .1 .1 .1 .0) (halves (f .before .before) .doubled) (first-kept f)
+      (c .transform2 .last .1 .1 .1 .1 .1 .1 .1 .0) (second-kept c)
 
   both-length : (c : lts.After-transform2 (claims t) (at t) transform.Post)
       → (let f = c .before .before .before .before in
-      let d = f .before .before .before .before .before .before .args .out .now in
-      let e = f .transform .last .1 .1 .1 .1 .1 .1 .0 in
+      let d = c .before .before .before .before .before .before .before .before .before .before .before .before .before .args .out .now in
+      let e = f .transform .last .1 .1 .1 .1 .1 .1 .1 .0 in
       let w = e ++ drop (length d / 2) d in
-      length (take (length d / 2) w ++ (c .transform2 .last .1 .1 .1 .1 .1 .1 .0 ++ drop (length w - length d / 2) (drop (length d / 2) w)))
-      ≡ length d)
+      length (take (length d / 2) w ++ (c .transform2 .last .1 .1 .1 .1 .1 .1 .1 .0 ++ drop (length w - length d / 2) (drop (length d / 2) w))) ≡ length d)
   both-length c =
       let f = c .before .before .before .before in
-      ap length (second-in c) ∙ length-append (f .transform .last .1 .1 .1 .1 .1 .1 .0) (c .transform2 .last .1 .1 .1 .1 .1 .1 .0)
+      ap length (second-in c) ∙ length-append (f .transform .last .1 .1 .1 .1 .1 .1 .1 .0) (c .transform2 .last .1 .1 .1 .1 .1 .1 .1 .0)
       ∙ omega (arith, first-kept f, second-kept c, halves (f .before .before) .doubled)
 
   transform-requires : lts.Need-transform-requires (claims t) (at t) transform.Post
   transform-requires c κs =
-      let s = c .before .before .before .before .before in
+      let s = c .before .before .before .before .before .before .before .before in
       let a = s .args in
       let d : List ℕ = a .out .now in
       let h = halves (c .before) in
-      asked t (a .p) (a .from) (a .step) (length (a .input .now)) (length (a .powers .now)) (length d / 2) (length (take (length d / 2) d))
-      (length-take-le (length d / 2) d (omega arith)) (omega (arith, s .pre .0, h .doubled, h .some)) (s .pre .1 .0) (h .size) (h .even)
-      (s .pre .1 .1 .1 .1 .0) (h .spread)
+      asked t (a .p) (a .from) (a .step) (length (a .input .now)) (length (a .powers .now)) (length (a .quotients .now)) (length d / 2)
+      (length (take (length d / 2) d)) (length d) (length-take-le (length d / 2) d (omega arith)) (omega (arith, s .pre .0, h .doubled, h .some))
+      (omega arith) (s .pre .1 .0) (h .size) (h .even) (s .pre .1 .1 .1 .1 .0) (s .pre .1 .1 .1 .1 .1)
 
   mul-transform : lts.Need-mul-transform (claims t) (at t) transform.Post
   mul-transform c = search needs
@@ -172,51 +221,52 @@ module _ (t : ℕ) where
 
   transform-requires-2 : lts.Need-transform-requires-2 (claims t) (at t) transform.Post
   transform-requires-2 c κs =
-      let s = c .before .before .before .before .before .before .before .before .before in
+      let s = c .before .before .before .before .before .before .before .before .before .before .before .before in
       let f = c .before .before .before in
       let a = s .args in
       let d : List ℕ = a .out .now in
-      let h = halves (f .before .before) in
-      asked t (a .p) (a .from + a .step) (a .step) (length (a .input .now)) (length (a .powers .now)) (length d / 2) _
-      (second-length (length d / 2) d (f .transform .last .1 .1 .1 .1 .1 .1 .0) (h .doubled) (first-kept f))
-      (omega (arith, s .pre .0, h .doubled, h .some)) (s .pre .1 .0) (h .size) (h .odd) (s .pre .1 .1 .1 .1 .0) (h .spread)
+      let h = halves (c .before .before .before .before .before) in
+      asked t (a .p) (a .from + a .step) (a .step) (length (a .input .now)) (length (a .powers .now)) (length (a .quotients .now)) (length d / 2) _
+      (length d) (second-length (length d / 2) d (f .transform .last .1 .1 .1 .1 .1 .1 .1 .0) (h .doubled) (first-kept f))
+      (omega (arith, s .pre .0, h .doubled, h .some)) (omega arith) (s .pre .1 .0) (h .size) (h .odd) (s .pre .1 .1 .1 .1 .0)
+      (s .pre .1 .1 .1 .1 .1)
 
   join-requires : lts.Need-join-requires (claims t) (at t) transform.Post
   join-requires c κs =
       let g = c .before .before .before in
-      let s = g .before .before .before .before .before .before .before .before .before .before in
-      let a = s .args in
-      (s .pre .1 .0, (s .pre .1 .1 .1 .1 .0, subst⁻¹ (λ (n : ℕ). a .step * (n / 2) ≤ length (a .powers .now)) (both-length g) (s .pre .1 .1 .1 .1 .1)))
+      let s = c .before .before .before .before .before .before .before .before .before .before .before .before .before .before .before .before in
+      let a = s .args in (
+        subst⁻¹ (λ (n : ℕ). n ≤ length (a .powers .now)) (both-length g) (s .pre .1 .1 .1 .1 .0),
+        subst⁻¹ (λ (n : ℕ). n ≤ length (a .quotients .now)) (both-length g) (s .pre .1 .1 .1 .1 .1),
+      )
 
-  same-length-2 : lts.Need-same-length-2 (claims t) (at t) transform.Post
-  same-length-2 c =
-      let b = c .before .before in
-      b .join .kept .1 .1 .1 .0 ∙ both-length (b .before .before .before .before)
+  same-length-4 : lts.Need-same-length-4 (claims t) (at t) transform.Post
+  same-length-4 c = c .before .before .join .kept .1 .1 .1 .0 ∙ both-length (c .before .before .before .before .before .before)
 
-  returns-2 : lts.Need-returns-2 (claims t) (at t) transform.Post
-  returns-2 c q e w is-powers k size =
-      let b = c .before .before in
-      let g = b .before .before .before .before in
-      let f = g .before .before .before .before in
-      let l = f .before .before in
-      let a = l .before .before .before .before .args in
+  returns-4 : lts.Need-returns-4 (claims t) (at t) transform.Post
+  returns-4 c q e small w k size levels prepared =
+      let g = c .before .before .before .before .before .before in
+      let f = c .before .before .before .before .before .before .before .before .before .before in
+      let l = c .before .before .before .before .before .before .before .before .before .before .before .before in
+      let a = c .before .before .before .before .before .before .before .before .before .before .before .before .before .before .before .before .before .before .before .args in
       let n : ℕ = length (a .out .now) in
-      let (exponent, half) = exponent-less n k size (l .if1 .left) in
-      let even : List (Elem q) = part (a .factor) (a .input .now) w (k - 1) (a .from) (a .step + a .step) in
-      let odd : List (Elem q) = part (a .factor) (a .input .now) w (k - 1) (a .from + a .step) (a .step + a .step) in
-      let is-even : f .transform .last .1 .1 .1 .1 .1 .1 .0 ≡ words even =
-      f .transform .ensures q e w is-powers (k - 1) (length-take-le (n / 2) (a .out .now) (omega arith) ∙ half) in
-      let is-odd : g .transform2 .last .1 .1 .1 .1 .1 .1 .0 ≡ words odd =
-      g .transform2 .ensures q e w is-powers (k - 1)
-      (second-length (n / 2) (a .out .now) (f .transform .last .1 .1 .1 .1 .1 .1 .0) (halves l .doubled) (first-kept f) ∙ half) in
+      let (exponent, half) = exponent-less n k size (c .before .before .before .before .before .before .before .before .before .before .before .before .before .before .if1 .left) in
+      let both : Levels (suc (k - 1)) w (a .powers .now) = subst⁻¹ (λ (j : ℕ). Levels j w (a .powers .now)) exponent levels in
+      let even : List (Elem q) = part (a .factor) (a .input .now) (k - 1) (w ⊗ w) (a .from) (a .step + a .step) in
+      let odd : List (Elem q) = part (a .factor) (a .input .now) (k - 1) (w ⊗ w) (a .from + a .step) (a .step + a .step) in
+      let is-even : f .transform .last .1 .1 .1 .1 .1 .1 .1 .0 ≡ words even =
+      f .transform .ensures q e small (w ⊗ w) (k - 1) (length-take-le (n / 2) (a .out .now) (omega arith) ∙ half) (both .1) prepared in
+      let is-odd : g .transform2 .last .1 .1 .1 .1 .1 .1 .1 .0 ≡ words odd =
+      g .transform2 .ensures q e small (w ⊗ w) (k - 1)
+      (second-length (n / 2) (a .out .now) (f .transform .last .1 .1 .1 .1 .1 .1 .1 .0) (halves l .doubled) (first-kept f) ∙ half) (both .1) prepared in
       let same : n / 2 ≡ _ = ap (λ (m : ℕ). m / 2) (sym (both-length g)) in
-      b .join .ensures q e w is-powers even odd
+      c .before .before .join .ensures q e small w (subst (λ (m : ℕ). LevelOf m w (a .powers .now)) (sym half ∙ same) (both .0)) prepared even odd
       (sym (length-words even) ∙ ap length (sym is-even) ∙ first-kept f ∙ same)
       (sym (length-words odd) ∙ ap length (sym is-odd) ∙ second-kept g ∙ same)
       (second-in g ∙ ap₂ _++_ is-even is-odd)
-      ∙ ap (λ (m : ℕ). words (join (primeRing q) m (pow (primeRing q) w (a .step)) even odd)) (sym same ∙ half)
-      ∙ ap words (part-joined (a .factor) (a .input .now) w (k - 1) (a .from) (a .step))
-      ∙ ap (λ (j : ℕ). words (part (a .factor) (a .input .now) w j (a .from) (a .step))) exponent
+      ∙ ap (λ (m : ℕ). words (join (primeRing q) m w even odd)) (sym same ∙ half)
+      ∙ ap words (part-joined (a .factor) (a .input .now) (k - 1) w (a .from) (a .step))
+      ∙ ap (λ (j : ℕ). words (part (a .factor) (a .input .now) j w (a .from) (a .step))) exponent
 
 pub +transform-spec : {M : Type 1} → statement M
 +transform-spec = close μ-transform λ t. lts.spec (claims t) (at t) transform.Post
@@ -226,6 +276,12 @@ pub +transform-spec : {M : Type 1} → statement M
     (slice-write-out t)
     (same-length t)
     (returns t)
+    (transform-two-requires t)
+    (same-length-2 t)
+    (returns-2 t)
+    (transform-four-requires t)
+    (same-length-3 t)
+    (returns-3 t)
     (add-twice t)
     (add-next t)
     (slice-relend-prefix-transform t)
@@ -237,5 +293,5 @@ pub +transform-spec : {M : Type 1} → statement M
     (part-transform-end t)
     (transform-requires-2 t)
     (join-requires t)
-    (same-length-2 t)
-    (returns-2 t)
+    (same-length-4 t)
+    (returns-4 t)

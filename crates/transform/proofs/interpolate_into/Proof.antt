@@ -1,60 +1,102 @@
 -- `transform::interpolate_into` meets its contract. Assumes nothing.
 use borrow.Author.Needs.{needs}
-use mathlib.Core.Path.{sym, ap, _∙_}
-use mathlib.Core.List.{List, map}
-use Prim.Native.Nat.{ℕ, _-_}
+use mathlib.Core.Path.{_≡_, sym, ap, _∙_}
+use mathlib.Core.List.{List}
+use Prim.Native.Nat.{ℕ, _-_, _≤_}
 use native.Mathlib.Omega.{arith}
-use lib.ListN.{length}
-use Rattle.field.specs.Element.{Elem, of, words}
-use Rattle.field.specs.Power.{power, _⊘_}
+use lib.ListN.{length, take}
+use Rattle.domain.specs.Size.{isSize}
 use Rattle.domain.specs.Domain.{root}
-use Rattle.domain.specs.Polynomial.{interpolate}
-use Rattle.domain.proofs.SizeLaws.{size-is-power, size-positive, size-bound, size-not-zero}
-use Rattle.transform.proofs.Directions.{toCoefficients-words}
+use Rattle.domain.proofs.SizeLaws.{size-bound}
+use Rattle.poly.proofs.LentParts.{returned, lent-length, back-holds, back-length}
+use Rattle.transform.proofs.TableLaws.{coefficients-lent}
 use Rattle.transform.proofs.interpolate_into.Statement.{statement}
 use Rattle.transform.proofs.interpolate_into.Tie as tie
 
-cast-n : tie.Need-cast-n
-cast-n c = omega (arith, size-bound (length (c .before .before .args .values .now)) (c .before .before .pre .1 .1))
+bound : (c : tie.Start) → length (c .args .values .now) ≤ 1024
+bound c = size-bound (length (c .args .values .now)) (c .pre .1 .1)
 
-sub-raise : tie.Need-sub-raise
-sub-raise c = size-positive _ (c .before .before .pre .1 .1)
+-- the tables in their arrays
+module _ (c : tie.After-fill-inverse-tables) where
+  abbrev start : tie.Start
+  start = c .before .before .before .before .before
 
-raise-requires : tie.Need-raise-requires
-raise-requires c κs = search needs
+  abbrev n : ℕ
+  n = length (start .args .values .now)
 
-divide-requires : tie.Need-divide-requires
-divide-requires c κs =
-    let start = c .before .before .before in
-    (omega arith, λ q e. size-not-zero (length (start .args .values .now)) (start .pre .1 .1))
+  abbrev powers : List ℕ
+  powers = c .fill-inverse-tables .last .1 .1 .0
 
-transform-all-requires : tie.Need-transform-all-requires
-transform-all-requires c κs = search needs
+  abbrev quotients : List ℕ
+  quotients = c .fill-inverse-tables .last .1 .1 .1 .0
+
+  powers-length : n ≡ length (take n (returned 1024 n powers))
+  powers-length = back-length 1024 (bound start) powers (c .fill-inverse-tables .kept .1 .1 .0)
+
+  quotients-length : n ≡ length (take n (returned 1024 n quotients))
+  quotients-length = back-length 1024 (bound start) quotients (c .fill-inverse-tables .kept .1 .1 .1 .0)
+
+array-borrow-prefix-powers : tie.Need-array-borrow-prefix-powers
+array-borrow-prefix-powers c = bound (c .before .before)
+
+slice-aggregate-fill-inverse-tables : tie.Need-slice-aggregate-fill-inverse-tables
+slice-aggregate-fill-inverse-tables c = lent-length 1024 (bound (c .before .before .before))
+
+array-borrow-prefix-quotients : tie.Need-array-borrow-prefix-quotients
+array-borrow-prefix-quotients c = bound (c .before .before .before)
+
+slice-aggregate-fill-inverse-tables-2 : tie.Need-slice-aggregate-fill-inverse-tables-2
+slice-aggregate-fill-inverse-tables-2 c = lent-length 1024 (bound (c .before .before .before .before))
+
+fill-inverse-tables-requires : tie.Need-fill-inverse-tables-requires
+fill-inverse-tables-requires c κs =
+    let s = c .before .before .before .before in
+    let part = lent-length 1024 (bound s) in
+    (s .pre .0, (sym part ∙ part, ap isSize (sym part) ∙ s .pre .1 .1))
+
+array-share-prefix-powers : tie.Need-array-share-prefix-powers
+array-share-prefix-powers c = back-holds 1024 (bound (c .before .before .before .before .before .before .before)) (powers (c .before .before)) (c .before .before .fill-inverse-tables .kept .1 .1 .0)
+
+slice-aggregate-interpolate-with : tie.Need-slice-aggregate-interpolate-with
+slice-aggregate-interpolate-with c = powers-length (c .before .before .before)
+
+array-share-prefix-quotients : tie.Need-array-share-prefix-quotients
+array-share-prefix-quotients c = back-holds 1024 (bound (c .before .before .before .before .before .before .before .before)) (quotients (c .before .before .before)) (c .before .before .before .fill-inverse-tables .kept .1 .1 .1 .0)
+
+slice-aggregate-interpolate-with-2 : tie.Need-slice-aggregate-interpolate-with-2
+slice-aggregate-interpolate-with-2 c = quotients-length (c .before .before .before .before)
+
+interpolate-with-requires : tie.Need-interpolate-with-requires
+interpolate-with-requires c κs =
+    let s = c .before .before .before .before .before .before .before .before .before .before in
+    let t = c .before .before .before .before .before in
+    (s .pre .0, (s .pre .1, (omega (arith, powers-length t), omega (arith, quotients-length t))))
 
 same-length : tie.Need-same-length
 same-length c = search needs
 
 returns : tie.Need-returns
 returns c q Q e root-word =
-    let start = c .before .before .before .before .before .before .before .before in
-    let vs : List (Elem q) = map of (start .args .values .now) in
-    let n : ℕ = length (start .args .values .now) in
-    let (k, within, size) = size-is-power n (start .pre .1 .1) in
-    c .before .before .transform-all .ensures q e k size
-    ∙ ap words (toCoefficients-words Q k within (start .args .values .now) size (start .args .g) _ _
-    (root-word ∙ ap (λ (m : ℕ). root {q = q} m .word) size)
-    (c .before .before .before .before .before .raise .ensures q e ∙ ap (λ (m : ℕ). power (of {q = q} (start .args .g)) (m - 1) .word) size)
-    (c .before .before .before .before .divide .ensures q e ∙ ap (λ (m : ℕ). (of {q = q} 1 ⊘ of m) .word) size)
-    ∙ ap (λ (m : ℕ). interpolate m vs) (sym size))
+    let t = c .before .before .before .before .before .before .before .before in
+    let call = t .fill-inverse-tables in
+    let fits = bound (start t) in
+    c .before .before .interpolate-with .ensures q Q e
+    (coefficients-lent q 1024 fits (powers t) (quotients t) (call .kept .1 .1 .0) (call .kept .1 .1 .1 .0)
+    (call .ensures q e (root-word ∙ ap (λ (m : ℕ). root {q = q} m .word) (lent-length 1024 fits))))
 
 pub interpolate-into-spec : {M : Type 1} → statement M
 interpolate-into-spec =
     tie.close
     (tie.spec
-    cast-n
-    sub-raise
-    raise-requires
-    divide-requires
-    transform-all-requires
+    array-borrow-prefix-powers
+    slice-aggregate-fill-inverse-tables
+    array-borrow-prefix-quotients
+    slice-aggregate-fill-inverse-tables-2
+    fill-inverse-tables-requires
+    array-share-prefix-powers
+    slice-aggregate-interpolate-with
+    array-share-prefix-quotients
+    slice-aggregate-interpolate-with-2
+    interpolate-with-requires
     same-length
     returns)

@@ -1,24 +1,21 @@
--- `transform::join` meets its contract: the first i entries of each half are joined, and `at` is the place of the power. The measure
--- is what is left of a half. Assumes nothing.
+-- `transform::join` meets its contract: the first i entries of each half are joined. The measure is what is left of a half. Assumes
+-- nothing.
 use borrow.Author.Needs.{needs}
-use mathlib.Core.Path.{_≡_, refl, sym, ap, ap₂, _∙_}
+use mathlib.Core.Path.{_≡_, refl, sym, ap, _∙_}
 use mathlib.Core.List.{List, _++_, map-append}
-use Prim.Native.Nat.{ℕ, _+_, _-_, _*_, _/_, _≤_, _<_}
+use Prim.Native.Nat.{ℕ, _+_, _-_, _/_, _^_, _≤_, _<_}
 use native.Mathlib.Omega.{arith}
-use native.Mathlib.Numerals.{add-one}
-use native.Mathlib.Nat.{mul-zero, mul-suc}
 use lib.ListN.{length, getD, set, length-set}
 use Rattle.algebra.specs.Lists.{tabulate}
 use Rattle.algebra.specs.Ring.{pow}
-use Rattle.algebra.proofs.RingLaws.{pow-mul}
 use Rattle.algebra.specs.Halving.{join}
 use Rattle.field.specs.Prime.{Prime}
 use Rattle.field.specs.Element.{Elem, 𝟘, _⊕_, _⊗_, _⊖_, words}
 use Rattle.field.proofs.ElementLaws.{primeRing}
-use Rattle.field.proofs.Words.{of-result, result-below}
+use Rattle.field.proofs.Words.{result-below, result-product, result-sum, result-difference}
 use Rattle.domain.proofs.Fill.{length-words, word-at, length-rule-words, rule-word-at}
-use Rattle.transform.specs.Reading.{PowersOf}
-use Rattle.transform.proofs.FilledHalves.{next-place, halves, halves-none, halves-all, even-at, odd-at, halves-turn}
+use Rattle.transform.specs.Reading.{LevelOf, Prepared}
+use Rattle.transform.proofs.FilledHalves.{halves, halves-none, halves-all, even-at, odd-at, halves-turn}
 use Rattle.transform.proofs.join.Statement.{statement}
 use Rattle.transform.proofs.join.Tie as tie
 
@@ -75,30 +72,20 @@ module _ {q : Prime} (h : ℕ) (v : Elem q) (e o : List (Elem q)) (even-length :
         (is-plus ∙ sym (rule-word-at h (plus-at v e o) i below)) (is-minus ∙ sym (rule-word-at h (minus-at v e o) i below))
 
 abbrev Inv-loop : tie.InvT-loop
-Inv-loop p powers step out₀ half i₀ at₀ out i at =
-    (i ≤ half) × (at ≡ step * i) × (length out ≡ length out₀)
-    × ((q : Prime) → q .p ≡ p → (w : Elem q) → PowersOf w powers
-    → (e o : List (Elem q)) → length e ≡ half → length o ≡ half → out₀ ≡ words e ++ words o
-    → out ≡ so-far (pow (primeRing q) w step) e o half i)
+Inv-loop p powers quotients out₀ half i₀ out i =
+    (i ≤ half) × (length out ≡ length out₀)
+    × ((q : Prime) → q .p ≡ p → p < 2 ^ 31 → (w : Elem q) → LevelOf half w powers → Prepared p powers quotients
+    → (e o : List (Elem q)) → length e ≡ half → length o ≡ half → out₀ ≡ words e ++ words o → out ≡ so-far w e o half i)
 
 abbrev μ-loop : tie.MeasureT-loop
-μ-loop p powers step out₀ half i₀ at₀ out i at = half - i
+μ-loop p powers quotients out₀ half i₀ out i = half - i
 
 loop-holds : tie.Need-loop-holds Inv-loop μ-loop
-loop-holds c =
-    let a = c .before .before .args in
-    let h : ℕ = length (a .out .now) / 2 in (
-      search needs,
-      sym (mul-zero (a .step)),
-      refl,
-      λ q e w is-powers es os even-length odd-length split.
-          split ∙ started h (pow (primeRing q) w (a .step)) es os even-length odd-length,
-    )
-
--- the powers reach to the next place
-powers-left : (s : tie.Start Inv-loop μ-loop) (i : ℕ) → i < length (s .args .out .now) / 2 → s .args .step * i + s .args .step ≤ length (s .args .powers .now)
-powers-left s i below =
-    next-place (s .args .step) i (length (s .args .out .now) / 2) (length (s .args .powers .now)) below (s .pre .1 .1)
+loop-holds c = (
+  search needs,
+  refl,
+  λ q e small w level prepared es os even-length odd-length split. split ∙ started _ w es os even-length odd-length,
+)
 
 add-j : tie.Need-add-j Inv-loop μ-loop
 add-j c = search needs
@@ -109,21 +96,27 @@ mul-even c = search needs
 slice-read-even : tie.Need-slice-read-even Inv-loop μ-loop
 slice-read-even c = search needs
 
-mul-multiply : tie.Need-mul-multiply Inv-loop μ-loop
-mul-multiply c = omega (arith, powers-left (c .before .before .before .before .before) (c .before .before .loop .i) (omega arith))
+mul-multiply-prepared : tie.Need-mul-multiply-prepared Inv-loop μ-loop
+mul-multiply-prepared c = search needs
 
-shared-slice-read-multiply : tie.Need-shared-slice-read-multiply Inv-loop μ-loop
-shared-slice-read-multiply c =
-    omega (arith, powers-left (c .before .before .before .before .before .before) (c .before .before .before .loop .i) (omega arith))
+shared-slice-read-multiply-prepared : tie.Need-shared-slice-read-multiply-prepared Inv-loop μ-loop
+shared-slice-read-multiply-prepared c = omega arith
 
-mul-multiply-2 : tie.Need-mul-multiply-2 Inv-loop μ-loop
-mul-multiply-2 c = search needs
+mul-multiply-prepared-2 : tie.Need-mul-multiply-prepared-2 Inv-loop μ-loop
+mul-multiply-prepared-2 c = search needs
 
-slice-read-multiply : tie.Need-slice-read-multiply Inv-loop μ-loop
-slice-read-multiply c = search needs
+shared-slice-read-multiply-prepared-2 :
+    tie.Need-shared-slice-read-multiply-prepared-2 Inv-loop μ-loop
+shared-slice-read-multiply-prepared-2 c = omega arith
 
-multiply-requires : tie.Need-multiply-requires Inv-loop μ-loop
-multiply-requires c κs = search needs
+mul-multiply-prepared-3 : tie.Need-mul-multiply-prepared-3 Inv-loop μ-loop
+mul-multiply-prepared-3 c = search needs
+
+slice-read-multiply-prepared : tie.Need-slice-read-multiply-prepared Inv-loop μ-loop
+slice-read-multiply-prepared c = search needs
+
+multiply-prepared-requires : tie.Need-multiply-prepared-requires Inv-loop μ-loop
+multiply-prepared-requires c κs = search needs
 
 add-reduced-requires : tie.Need-add-reduced-requires Inv-loop μ-loop
 add-reduced-requires c κs = search needs
@@ -143,12 +136,6 @@ mul-out-2 c = search needs
 slice-write-out-2 : tie.Need-slice-write-out-2 Inv-loop μ-loop
 slice-write-out-2 c = simp length-set (omega arith)
 
-add-at : tie.Need-add-at Inv-loop μ-loop
-add-at c =
-    let l = c .before .before .before .before .before .before .before .loop in
-    let s = c .before .before .before .before .before .before .before .before .before .before in
-    omega (arith, powers-left s (l .i) (omega arith))
-
 add-i : tie.Need-add-i Inv-loop μ-loop
 add-i c = search needs
 
@@ -157,52 +144,43 @@ loop-less c = search needs
 
 loop-again : tie.Need-loop-again Inv-loop μ-loop
 loop-again c =
-    let l = c .before .before .before .before .before .before .before .loop in
-    let s = c .before .before .before .before .before .before .before .before .before .before in
-    let a = s .args in
+    let l = c .before .before .before .before .before .before .before .before .loop in
+    let a = c .before .before .before .before .before .before .before .before .before .before .before .before .args in
     let i : ℕ = l .i in
     let h : ℕ = length (a .out .now) / 2 in
-    let n : ℕ = length (a .powers .now) in
-    let below : i < h = omega arith in
-    let within : a .step * i + a .step ≤ n = powers-left s i below in (
+    let below : i < h = omega arith in (
       omega arith,
-      ap (λ (at : ℕ). at + a .step) (l .inv .1) ∙ sym (mul-suc (a .step) i) ∙ ap (λ (m : ℕ). a .step * m) (sym (add-one i)),
-      simp length-set (l .inv .2),
-      λ q e w is-powers es os even-length odd-length split.
-          let v : Elem q = pow (primeRing q) w (a .step) in
-          let before : l .out ≡ so-far v es os h i = l .inv .3 q e w is-powers es os even-length odd-length split in
+      simp length-set (l .inv .1),
+      λ q e small w level prepared es os even-length odd-length split.
+          let before : l .out ≡ so-far w es os h i = l .inv .2 q e small w level prepared es os even-length odd-length split in
           let even : getD (l .out) i 0 ≡ getD es i 𝟘 .word =
-          ap (λ (r : List ℕ). getD r i 0) before ∙ even-word h v es os even-length odd-length i below in
+          ap (λ (r : List ℕ). getD r i 0) before ∙ even-word h w es os even-length odd-length i below in
           let odd : getD (l .out) (h + i) 0 ≡ getD os i 𝟘 .word =
-          ap (λ (r : List ℕ). getD r (h + i) 0) before ∙ odd-word h v es os even-length odd-length i below in
-          let power : getD (a .powers .now) (l .at) 0 ≡ pow (primeRing q) v i .word =
-          ap (λ (r : List ℕ). getD r (l .at) 0) is-powers ∙ rule-word-at n (pow (primeRing q) w) (l .at) (omega arith)
-          ∙ ap (λ (m : ℕ). pow (primeRing q) w m .word) (l .inv .1) ∙ ap (λ (x : Elem q). x .word) (pow-mul (primeRing q) w (a .step) i) in
-          let product : c .before .before .multiply .result ≡ (pow (primeRing q) v i ⊗ getD os i 𝟘) .word =
-          c .before .before .multiply .ensures q e
-          ∙ ap₂ (λ (x y : Elem q). (x ⊗ y) .word) (of-result (pow (primeRing q) v i) power) (of-result (getD os i 𝟘) odd) in
+          ap (λ (r : List ℕ). getD r (h + i) 0) before ∙ odd-word h w es os even-length odd-length i below in
+          let v : Elem q = pow (primeRing q) w i in
+          let power : getD (a .powers .now) (h + i) 0 ≡ v .word = level i below in
+          let reduced : getD (a .powers .now) (h + i) 0 < a .p = omega (arith, result-below v power) in
+          let call = c .before .before .multiply-prepared in
           let x : Elem q = getD es i 𝟘 in
-          let y : Elem q = pow (primeRing q) v i ⊗ getD os i 𝟘 in
-          ap (λ (r : List ℕ). set (set r i (c .before .add-reduced .result)) (h + i) (c .subtract-reduced .result)) before
-          ∙ turned h v es os even-length odd-length i below (c .before .add-reduced .result) (c .subtract-reduced .result)
-          (c .before .add-reduced .ensures q e (omega (arith, result-below x even), omega (arith, result-below y product))
-          ∙ ap₂ (λ (x y : Elem q). (x ⊕ y) .word) (of-result x even) (of-result y product))
-          (c .subtract-reduced .ensures q e (omega (arith, result-below x even), omega (arith, result-below y product))
-          ∙ ap₂ (λ (x y : Elem q). (x ⊖ y) .word) (of-result x even) (of-result y product)),
+          let y : Elem q = v ⊗ getD os i 𝟘 in
+          let product : call .result ≡ y .word =
+          result-product v (getD os i 𝟘) (call .ensures q e small reduced (prepared (h + i) (omega arith) reduced)) power odd in
+          let plus = c .before .add-reduced in
+          let minus = c .subtract-reduced in
+          ap (λ (r : List ℕ). set (set r i (plus .result)) (h + i) (minus .result)) before
+          ∙ turned h w es os even-length odd-length i below (plus .result) (minus .result)
+          (result-sum e x y even product (plus .ensures q e)) (result-difference e x y even product (minus .ensures q e)),
     )
 
 same-length : tie.Need-same-length Inv-loop μ-loop
 same-length c = search needs
 
 returns : tie.Need-returns Inv-loop μ-loop
-returns c q e w is-powers es os even-length odd-length split =
-    let s = c .before .before .before .before in
-    let a = s .args in
+returns c q e small w level prepared es os even-length odd-length split =
     let l = c .before .loop in
-    let h : ℕ = length (a .out .now) / 2 in
-    let v : Elem q = pow (primeRing q) w (a .step) in
-    l .inv .3 q e w is-powers es os even-length odd-length split
-    ∙ joined-words h v es os even-length odd-length (l .i) (omega arith)
+    let h : ℕ = length (c .before .before .before .before .before .args .out .now) / 2 in
+    l .inv .2 q e small w level prepared es os even-length odd-length split
+    ∙ joined-words h w es os even-length odd-length (l .i) (omega arith)
 
 pub join-spec : {M : Type 1} → statement M
 join-spec =
@@ -214,18 +192,19 @@ join-spec =
     add-j
     mul-even
     slice-read-even
-    mul-multiply
-    shared-slice-read-multiply
-    mul-multiply-2
-    slice-read-multiply
-    multiply-requires
+    mul-multiply-prepared
+    shared-slice-read-multiply-prepared
+    mul-multiply-prepared-2
+    shared-slice-read-multiply-prepared-2
+    mul-multiply-prepared-3
+    slice-read-multiply-prepared
+    multiply-prepared-requires
     add-reduced-requires
     mul-out
     slice-write-out
     subtract-reduced-requires
     mul-out-2
     slice-write-out-2
-    add-at
     add-i
     loop-less
     loop-again

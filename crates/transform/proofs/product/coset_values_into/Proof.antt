@@ -1,6 +1,6 @@
 -- `transform::product::coset_values_into` meets its contract. Assumes nothing.
 use borrow.Author.Needs.{needs}
-use mathlib.Core.Path.{_≡_, sym, ap, ap₂, _∙_}
+use mathlib.Core.Path.{_≡_, sym, ap, ap₂, _∙_, subst}
 use mathlib.Core.List.{List, map}
 use Prim.Native.Nat.{ℕ, _≤_}
 use lib.ListN.{length, take}
@@ -8,10 +8,10 @@ use Rattle.algebra.specs.Polynomial.{twist}
 use Rattle.field.specs.Element.{of, words}
 use Rattle.field.proofs.ElementLaws.{primeRing}
 use Rattle.domain.specs.Size.{isSize}
-use Rattle.domain.specs.Domain.{root}
 use Rattle.domain.specs.Polynomial.{Poly, valuesOn}
 use Rattle.domain.proofs.SizeLaws.{size-bound}
-use Rattle.poly.proofs.LentParts.{returned, lent-length, back-holds, back-length, back-list}
+use Rattle.poly.proofs.LentParts.{part-order, returned, lent-length, back-holds, back-length, back-list}
+use Rattle.transform.specs.Reading.{ValueTables}
 use Rattle.transform.proofs.product.coset_values_into.Statement.{statement}
 use Rattle.transform.proofs.product.coset_values_into.Tie as tie
 
@@ -20,7 +20,7 @@ bound c = size-bound (length (c .args .out .now)) (c .pre .1 .0)
 
 -- the start, from the twist, and the twist's length
 abbrev start : tie.After-twist-into → tie.Start
-start c = c .before .before .before .before
+start c = c .before .before .before .before .before .before
 
 module _ (c : tie.After-twist-into) where
   abbrev n : ℕ
@@ -33,40 +33,46 @@ module _ (c : tie.After-twist-into) where
   made-length = back-length 1024 (bound (start c)) made (c .twist-into .kept .1 .1 .1 .0)
 
 array-borrow-prefix-twisted : tie.Need-array-borrow-prefix-twisted
-array-borrow-prefix-twisted c = bound (c .before .before)
+array-borrow-prefix-twisted c = bound (c .before .before .before .before)
 
 slice-aggregate-twist-into : tie.Need-slice-aggregate-twist-into
-slice-aggregate-twist-into c = lent-length 1024 (bound (c .before .before .before))
+slice-aggregate-twist-into c = lent-length 1024 (bound (c .before .before .before .before .before))
 
 twist-into-requires : tie.Need-twist-into-requires
 twist-into-requires c κs =
-    let s = c .before .before .before in
-    (s .pre .0, s .pre .1 .1 ∙ lent-length 1024 (bound s))
+    let s = c .before .before .before .before .before in
+    (s .pre .0, s .pre .1 .1 .0 ∙ lent-length 1024 (bound s))
 
 array-share-prefix-twisted : tie.Need-array-share-prefix-twisted
 array-share-prefix-twisted c =
     let t = c .before in
     back-holds 1024 (bound (start t)) (made t) (t .twist-into .kept .1 .1 .1 .0)
 
-slice-aggregate-evaluate-into : tie.Need-slice-aggregate-evaluate-into
-slice-aggregate-evaluate-into c = made-length (c .before .before)
+slice-aggregate-evaluate-with : tie.Need-slice-aggregate-evaluate-with
+slice-aggregate-evaluate-with c = made-length (c .before .before)
 
-evaluate-into-requires : tie.Need-evaluate-into-requires
-evaluate-into-requires c κs =
+evaluate-with-requires : tie.Need-evaluate-with-requires
+evaluate-with-requires c κs =
     let t = c .before .before .before in
     let s = start t in
-    (s .pre .0, (made-length t, ap isSize (sym (made-length t)) ∙ s .pre .1 .0))
+    let long = made-length t in (
+      s .pre .0,
+      (
+        (long, ap isSize (sym long) ∙ s .pre .1 .0),
+        (part-order long (s .pre .1 .1 .1 .0), part-order long (s .pre .1 .1 .1 .1)),
+      ),
+    )
 
 same-length : tie.Need-same-length
 same-length c = search needs
 
 returns : tie.Need-returns
-returns c q Q e root-word =
+returns c q Q e tables =
     let t = c .before .before .before .before .before .before in
     let s = start t in
     let a = s .args in
     let f : Poly q = twist (primeRing q) (of (a .s)) (map of (a .f .now)) in
-    c .before .before .evaluate-into .ensures q Q e (root-word ∙ ap (λ (k : ℕ). root {q = q} k .word) (made-length t))
+    c .before .before .evaluate-with .ensures q Q e (subst (λ (k : ℕ). ValueTables q k (a .powers .now) (a .quotients .now)) (made-length t) tables)
     ∙ ap₂ (λ (k : ℕ) (f : Poly q). words (valuesOn k f)) (sym (made-length t))
     (back-list 1024 (bound s) (made t) (t .twist-into .kept .1 .1 .1 .0) f (t .twist-into .ensures q e))
 
@@ -78,7 +84,7 @@ coset-values-into-spec =
     slice-aggregate-twist-into
     twist-into-requires
     array-share-prefix-twisted
-    slice-aggregate-evaluate-into
-    evaluate-into-requires
+    slice-aggregate-evaluate-with
+    evaluate-with-requires
     same-length
     returns)

@@ -1,139 +1,86 @@
 -- `transform::product::divide_product_into` meets its contract. Assumes nothing.
 use borrow.Author.Needs.{needs}
-use mathlib.Core.Path.{_≡_, sym, ap, ap₂, _∙_, subst}
-use mathlib.Core.Bool.{true}
-use mathlib.Core.List.{List, map}
-use Prim.Native.Nat.{ℕ, _+_, _≤_, _<_}
+use mathlib.Core.Path.{_≡_, sym, ap, _∙_}
+use mathlib.Core.List.{List}
+use Prim.Native.Nat.{ℕ, _≤_}
 use native.Mathlib.Omega.{arith}
-use lib.ListN.{length, take, length-map}
-use Rattle.algebra.specs.Polynomial.{twist}
-use Rattle.algebra.proofs.PolynomialLaws.{length-product}
-use Rattle.field.specs.Prime.{Prime}
-use Rattle.field.specs.Element.{of, words}
-use Rattle.field.proofs.ElementLaws.{primeRing}
-use Rattle.field.proofs.Words.{of-results}
+use lib.ListN.{length, take}
 use Rattle.domain.specs.Size.{isSize}
 use Rattle.domain.specs.Domain.{root}
-use Rattle.domain.specs.Polynomial.{Poly, _⊠_, remainder, valuesOn, interpolate}
-use Rattle.domain.proofs.SizeLaws.{size-positive, size-bound}
-use Rattle.domain.proofs.Interpolation.{length-interpolate, values-interpolate}
-use Rattle.domain.proofs.Qualification.{known-qualifies}
-use Rattle.poly.proofs.LentParts.{returned, lent-length, back-holds, back-length, back-is, back-list}
-use Rattle.transform.proofs.CosetWords.{known-shift}
+use Rattle.domain.proofs.SizeLaws.{size-bound}
+use Rattle.poly.proofs.LentParts.{returned, lent-length, back-holds, back-length}
+use Rattle.transform.proofs.TableLaws.{coefficients-lent}
 use Rattle.transform.proofs.product.divide_product_into.Statement.{statement}
 use Rattle.transform.proofs.product.divide_product_into.Tie as tie
 
 bound : (c : tie.Start) → length (c .args .left .now) ≤ 1024
 bound c = size-bound (length (c .args .left .now)) (c .pre .1 .0)
 
-fewer : {k m : ℕ} → k + 1 ≡ m → k ≤ m
-fewer e = omega arith
-
-product-length : {q : Prime} (f g : Poly q) (k m : ℕ) → length f ≡ m → length g ≡ m → 0 < m → k + 1 ≡ m → length (f ⊠ g) ≡ k + m
-product-length {q} f g k m f-length g-length positive e = omega (arith, length-product (primeRing q) f g (omega arith) (omega arith))
-
--- the coefficients of g in their array, and their length
-module _ (c : tie.After-interpolate-into2) where
+-- the tables in their arrays
+module _ (c : tie.After-fill-inverse-tables) where
   abbrev start : tie.Start
-  start = c .before .before .before .before .before .before .before .before .before .before .before .before
+  start = c .before .before .before .before .before .before .before .before .before
 
   abbrev n : ℕ
   n = length (start .args .left .now)
 
-  abbrev other : List ℕ
-  other = c .interpolate-into2 .last .1 .1 .1 .0
+  abbrev powers : List ℕ
+  powers = c .fill-inverse-tables .last .1 .1 .0
 
-  other-length : n ≡ length (take n (returned 1024 n other))
-  other-length = back-length 1024 (bound start) other (c .interpolate-into2 .kept .1 .1 .1 .0)
+  abbrev quotients : List ℕ
+  quotients = c .fill-inverse-tables .last .1 .1 .1 .0
 
--- the remainder on the coset, and its length
-module _ (c : tie.After-coset-remainder-into) where
-  abbrev at-other : tie.After-interpolate-into2
-  at-other = c .before .before .before .before .before .before .before .before .before
+  powers-length : n ≡ length (take n (returned 1024 n powers))
+  powers-length = back-length 1024 (bound start) powers (c .fill-inverse-tables .kept .1 .1 .0)
 
-  abbrev turned : List ℕ
-  turned = c .coset-remainder-into .last .1 .1 .1 .1 .1 .0
+  quotients-length : n ≡ length (take n (returned 1024 n quotients))
+  quotients-length = back-length 1024 (bound start) quotients (c .fill-inverse-tables .kept .1 .1 .1 .0)
 
-  turned-length : n at-other ≡ length (take (n at-other) (returned 1024 (n at-other) turned))
-  turned-length = back-length 1024 (bound (start at-other)) turned (c .coset-remainder-into .kept .1 .1 .1 .1 .1 .0)
-
-cast-size : tie.Need-cast-size
-cast-size c = omega (arith, bound (c .before .before .before .before .before))
+cast-root-of : tie.Need-cast-root-of
+cast-root-of c = omega (arith, bound (c .before .before .before .before .before))
 
 root-of-requires : tie.Need-root-of-requires
 root-of-requires c κs = search needs
 
-interpolate-into-requires : tie.Need-interpolate-into-requires
-interpolate-into-requires c κs = search needs
+array-borrow-prefix-powers : tie.Need-array-borrow-prefix-powers
+array-borrow-prefix-powers c = bound (c .before .before .before .before .before .before)
 
-array-borrow-prefix-other : tie.Need-array-borrow-prefix-other
-array-borrow-prefix-other c = bound (c .before .before .before .before .before .before .before .before .before .before)
+slice-aggregate-fill-inverse-tables : tie.Need-slice-aggregate-fill-inverse-tables
+slice-aggregate-fill-inverse-tables c = lent-length 1024 (bound (c .before .before .before .before .before .before .before))
 
-slice-aggregate-interpolate-into : tie.Need-slice-aggregate-interpolate-into
-slice-aggregate-interpolate-into c = lent-length 1024 (bound (c .before .before .before .before .before .before .before .before .before .before .before))
+array-borrow-prefix-quotients : tie.Need-array-borrow-prefix-quotients
+array-borrow-prefix-quotients c = bound (c .before .before .before .before .before .before .before)
 
-interpolate-into-requires-2 : tie.Need-interpolate-into-requires-2
-interpolate-into-requires-2 c κs =
-    let s = c .before .before .before .before .before .before .before .before .before .before .before in
-    let right : length (s .args .right .now) ≡ length (s .args .left .now) = s .pre .1 .1 .0 .0 in
-    (s .pre .0, (sym (lent-length 1024 (bound s)) ∙ sym right, ap isSize right ∙ s .pre .1 .0))
+slice-aggregate-fill-inverse-tables-2 : tie.Need-slice-aggregate-fill-inverse-tables-2
+slice-aggregate-fill-inverse-tables-2 c = lent-length 1024 (bound (c .before .before .before .before .before .before .before .before))
 
-remainder-from-requires : tie.Need-remainder-from-requires
-remainder-from-requires c κs =
-    let s = c .before .before .before .before .before .before .before .before .before .before .before .before .before .before in
-    let rest : length (s .args .rest .now) ≡ length (s .args .left .now) = s .pre .1 .1 .1 .0 in
-    (s .pre .0, (ap isSize rest ∙ s .pre .1 .0, (sym rest, s .pre .1 .1 .0 .0 ∙ sym rest)))
+fill-inverse-tables-requires : tie.Need-fill-inverse-tables-requires
+fill-inverse-tables-requires c κs =
+    let s = c .before .before .before .before .before .before .before .before in
+    let part = lent-length 1024 (bound s) in
+    (s .pre .0, (sym part ∙ part, ap isSize (sym part) ∙ s .pre .1 .0))
 
-array-share-prefix-other : tie.Need-array-share-prefix-other
-array-share-prefix-other c =
-    let o = c .before .before .before .before .before .before in
-    back-holds 1024 (bound (start o)) (other o) (o .interpolate-into2 .kept .1 .1 .1 .0)
-
-slice-aggregate-coset-remainder-into : tie.Need-slice-aggregate-coset-remainder-into
-slice-aggregate-coset-remainder-into c = other-length (c .before .before .before .before .before .before .before)
-
-array-borrow-prefix-turned : tie.Need-array-borrow-prefix-turned
-array-borrow-prefix-turned c = bound (c .before .before .before .before .before .before .before .before .before .before .before .before .before .before .before .before .before .before .before)
-
-slice-aggregate-coset-remainder-into-2 : tie.Need-slice-aggregate-coset-remainder-into-2
-slice-aggregate-coset-remainder-into-2 c = lent-length 1024 (bound (c .before .before .before .before .before .before .before .before .before .before .before .before .before .before .before .before .before .before .before .before))
-
-coset-remainder-into-requires : tie.Need-coset-remainder-into-requires
-coset-remainder-into-requires c κs =
-    let s = c .before .before .before .before .before .before .before .before .before .before .before .before .before .before .before .before .before .before .before .before in
-    let part = lent-length 1024 (bound s) in (
-      s .pre .0,
-      (
-        ap isSize (sym part) ∙ s .pre .1 .0,
-        (
-          c .before .before .before .before .before .before .before .before .before .before .before .before .interpolate-into .kept .1 .1 .1 .0 ∙ s .pre .1 .1 .0 .1 ∙ part,
-          sym (other-length (c .before .before .before .before .before .before .before .before)) ∙ part,
-        ),
-      ),
-    )
-
-array-share-prefix-turned : tie.Need-array-share-prefix-turned
-array-share-prefix-turned c =
+array-share-prefix-powers : tie.Need-array-share-prefix-powers
+array-share-prefix-powers c =
     let t = c .before .before in
-    back-holds 1024 (bound (c .before .before .before .before .before .before .before .before .before .before .before .before .before .before .before .before .before .before .before .before .before .before .before)) (turned t) (t .coset-remainder-into .kept .1 .1 .1 .1 .1 .0)
+    back-holds 1024 (bound (start t)) (powers t) (t .fill-inverse-tables .kept .1 .1 .0)
 
-slice-aggregate-quotient-from : tie.Need-slice-aggregate-quotient-from
-slice-aggregate-quotient-from c = turned-length (c .before .before .before)
+slice-aggregate-divide-with : tie.Need-slice-aggregate-divide-with
+slice-aggregate-divide-with c = powers-length (c .before .before .before)
 
-quotient-from-requires : tie.Need-quotient-from-requires
-quotient-from-requires c κs =
-    let s = c .before .before .before .before .before .before .before .before .before .before .before .before .before .before .before .before .before .before .before .before .before .before .before .before .before in
-    let m : ℕ = length (s .args .out .now) in
-    let less : m ≤ length (s .args .left .now) = fewer (s .pre .1 .1 .1 .1) in (
-      s .pre .0,
-      (
-        s .pre .1 .0,
-        (
-          subst (λ (k : ℕ). m ≤ k) (sym (c .before .before .before .before .before .before .before .before .before .before .remainder-from .kept .1 .1 .1 .1 .0 ∙ s .pre .1 .1 .1 .0)) less,
-          subst (λ (k : ℕ). m ≤ k) (turned-length (c .before .before .before .before)) less,
-        ),
-      ),
-    )
+array-share-prefix-quotients : tie.Need-array-share-prefix-quotients
+array-share-prefix-quotients c =
+    let t = c .before .before .before in
+    back-holds 1024 (bound (start t)) (quotients t) (t .fill-inverse-tables .kept .1 .1 .1 .0)
+
+slice-aggregate-divide-with-2 : tie.Need-slice-aggregate-divide-with-2
+slice-aggregate-divide-with-2 c = quotients-length (c .before .before .before .before)
+
+divide-with-requires : tie.Need-divide-with-requires
+divide-with-requires c κs =
+    let s = c .before .before .before .before .before .before .before .before .before .before .before .before .before .before .before .before in
+    let t = c .before .before .before .before .before .before .before in
+    (s .pre .0, (s .pre .1 .0, ((omega (arith, powers-length t), omega (arith, quotients-length t)), s .pre .1 .1)))
 
 same-length : tie.Need-same-length
 same-length c = search needs
@@ -146,67 +93,30 @@ same-length-3 c = search needs
 
 returns : tie.Need-returns
 returns c q known =
-    let o = c .before .before .before .before .before .before .before .before .before .before .before .before .before .before .before .before in
-    let s = start o in
-    let a = s .args in
-    let m : ℕ = n o in
-    let size : isSize m ≡ true = s .pre .1 .0 in
-    let right-length : length (a .right .now) ≡ m = s .pre .1 .1 .0 .0 in
-    let rest-length : length (a .rest .now) ≡ m = s .pre .1 .1 .1 .0 in
-    let out-length : length (a .out .now) + 1 ≡ m = s .pre .1 .1 .1 .1 in
-    let Q = known-qualifies known in
-    let e = known .value in
-    let root-word = c .before .before .before .before .before .before .before .before .before .before .before .before .before .before .before .before .before .before .before .before .before .before .root-of .ensures q known in
-    let part : m ≡ _ = lent-length 1024 (bound s) in
-    let f : Poly q = interpolate m (map of (a .left .now)) in
-    let g : Poly q = interpolate m (map of (a .right .now)) in
-    let factor : List ℕ = c .before .before .before .before .before .before .before .before .before .before .before .before .before .before .before .before .before .before .before .before .interpolate-into .last .1 .1 .1 .0 in
-    let is-factor : factor ≡ words f = c .before .before .before .before .before .before .before .before .before .before .before .before .before .before .before .before .before .before .before .before .interpolate-into .ensures q Q e root-word in
-    let is-other : map of (take m (returned 1024 m (other o))) ≡ g =
-    back-list 1024 (bound s) (other o) (o .interpolate-into2 .kept .1 .1 .1 .0) g
-    (o .interpolate-into2 .ensures q Q e (root-word ∙ ap (λ (k : ℕ). root {q = q} k .word) (sym right-length))
-    ∙ ap (λ (k : ℕ). words {q = q} (interpolate k (map of (a .right .now)))) right-length) in
-    let is-rest : _ ≡ words (remainder m (f ⊠ g)) =
-    c .before .before .before .before .before .before .before .before .before .before .before .before .before .remainder-from .ensures q Q e (root-word ∙ ap (λ (k : ℕ). root {q = q} k .word) (sym rest-length)) f g
-    (sym (ap (λ (k : ℕ). valuesOn k f) rest-length ∙ values-interpolate Q m size (map of (a .left .now)) (length-map (a .left .now) (of {q = q}))))
-    (sym (ap (λ (k : ℕ). valuesOn k g) rest-length
-    ∙ values-interpolate Q m size (map of (a .right .now)) (length-map (a .right .now) (of {q = q}) ∙ right-length)))
-    ∙ ap (λ (k : ℕ). words (remainder k (f ⊠ g))) rest-length in
-    let t = c .before .before .before .before .before .before .before in
-    let twisted : Poly q → Poly q = twist (primeRing q) (of 31) in
-    let is-turned : take m (returned 1024 m (turned t)) ≡ words (remainder m (twisted f ⊠ twisted g)) =
-    back-is 1024 (bound s) (turned t) (t .coset-remainder-into .kept .1 .1 .1 .1 .1 .0)
-    ∙ t .coset-remainder-into .ensures q Q e (root-word ∙ ap (λ (k : ℕ). root {q = q} k .word) part)
-    ∙ ap (λ (k : ℕ). words {q = q} (remainder k (twisted (map of factor) ⊠ twisted (map of (take m (returned 1024 m (other o))))))) (sym part)
-    ∙ ap₂ (λ (x y : Poly q). words (remainder m (twisted x ⊠ twisted y))) (of-results f is-factor) is-other in
-    let long : length (f ⊠ g) ≡ length (a .out .now) + m =
-    product-length f g (length (a .out .now)) m (length-interpolate m (map of (a .left .now))) (length-interpolate m (map of (a .right .now)))
-    (size-positive m size) out-length in
-    record {
-      is-factor = is-factor;
-      is-rest = is-rest;
-      is-quotient = c .before .before .quotient-from .ensures q Q e (known-shift known m size) f g long (fewer out-length) is-rest is-turned;
-    }
+    let t = c .before .before .before .before .before .before .before .before .before .before .before .before .before .before in
+    let call = t .fill-inverse-tables in
+    let fits = bound (start t) in
+    let root-word = c .before .before .before .before .before .before .before .before .before .before .before .before .before .before .before .before .before .root-of .ensures q known in
+    c .before .before .before .before .before .before .divide-with .ensures q known root-word
+    (coefficients-lent q 1024 fits (powers t) (quotients t) (call .kept .1 .1 .0) (call .kept .1 .1 .1 .0)
+    (call .ensures q (known .value) (root-word ∙ ap (λ (m : ℕ). root {q = q} m .word) (lent-length 1024 fits))))
 
 pub divide-product-into-spec : {M : Type 1} → statement M
 divide-product-into-spec =
     tie.close
     (tie.spec
-    cast-size
+    cast-root-of
     root-of-requires
-    interpolate-into-requires
-    array-borrow-prefix-other
-    slice-aggregate-interpolate-into
-    interpolate-into-requires-2
-    remainder-from-requires
-    array-share-prefix-other
-    slice-aggregate-coset-remainder-into
-    array-borrow-prefix-turned
-    slice-aggregate-coset-remainder-into-2
-    coset-remainder-into-requires
-    array-share-prefix-turned
-    slice-aggregate-quotient-from
-    quotient-from-requires
+    array-borrow-prefix-powers
+    slice-aggregate-fill-inverse-tables
+    array-borrow-prefix-quotients
+    slice-aggregate-fill-inverse-tables-2
+    fill-inverse-tables-requires
+    array-share-prefix-powers
+    slice-aggregate-divide-with
+    array-share-prefix-quotients
+    slice-aggregate-divide-with-2
+    divide-with-requires
     same-length
     same-length-2
     same-length-3

@@ -1,6 +1,6 @@
 -- `transform::product::remainder_from` meets its contract. Assumes nothing.
 use borrow.Author.Needs.{needs}
-use mathlib.Core.Path.{_≡_, sym, ap, ap₂, _∙_}
+use mathlib.Core.Path.{_≡_, sym, ap, ap₂, _∙_, subst}
 use mathlib.Core.List.{List, map}
 use Prim.Native.Nat.{ℕ, _≤_}
 use native.Mathlib.Omega.{arith}
@@ -8,10 +8,10 @@ use lib.ListN.{length, getD, take}
 use Rattle.algebra.specs.Lists.{tabulate}
 use Rattle.field.specs.Element.{Elem, of, _⊗_, words}
 use Rattle.domain.specs.Size.{isSize}
-use Rattle.domain.specs.Domain.{root}
 use Rattle.domain.specs.Polynomial.{Poly, interpolate}
 use Rattle.domain.proofs.SizeLaws.{size-bound}
-use Rattle.poly.proofs.LentParts.{returned, lent-length, back-holds, back-length, back-list}
+use Rattle.poly.proofs.LentParts.{part-order, returned, lent-length, back-holds, back-length, back-list}
+use Rattle.transform.specs.Reading.{CoefficientTables}
 use Rattle.transform.proofs.CosetWords.{product-words}
 use Rattle.transform.proofs.product.remainder_from.Statement.{statement}
 use Rattle.transform.proofs.product.remainder_from.Tie as tie
@@ -21,7 +21,7 @@ bound c = size-bound (length (c .args .out .now)) (c .pre .1 .0)
 
 -- the start, from the products, and their length
 abbrev start : tie.After-products-into → tie.Start
-start c = c .before .before .before .before .before
+start c = c .before .before .before .before .before .before .before
 
 module _ (c : tie.After-products-into) where
   abbrev n : ℕ
@@ -34,36 +34,42 @@ module _ (c : tie.After-products-into) where
   made-length = back-length 1024 (bound (start c)) made (c .products-into .kept .1 .1 .1 .0)
 
 array-borrow-prefix-products : tie.Need-array-borrow-prefix-products
-array-borrow-prefix-products c = bound (c .before .before .before)
+array-borrow-prefix-products c = bound (c .before .before .before .before .before)
 
 slice-aggregate-products-into : tie.Need-slice-aggregate-products-into
-slice-aggregate-products-into c = lent-length 1024 (bound (c .before .before .before .before))
+slice-aggregate-products-into c = lent-length 1024 (bound (c .before .before .before .before .before .before))
 
 products-into-requires : tie.Need-products-into-requires
 products-into-requires c κs =
-    let s = c .before .before .before .before in
+    let s = c .before .before .before .before .before .before in
     let part = lent-length 1024 (bound s) in
-    (omega (arith, s .pre .0), (s .pre .1 .1 .0 ∙ part, s .pre .1 .1 .1 ∙ part))
+    (omega (arith, s .pre .0), (s .pre .1 .1 .0 .0 ∙ part, s .pre .1 .1 .0 .1 ∙ part))
 
 array-share-prefix-products : tie.Need-array-share-prefix-products
 array-share-prefix-products c =
     let m = c .before in
     back-holds 1024 (bound (start m)) (made m) (m .products-into .kept .1 .1 .1 .0)
 
-slice-aggregate-interpolate-into : tie.Need-slice-aggregate-interpolate-into
-slice-aggregate-interpolate-into c = made-length (c .before .before)
+slice-aggregate-interpolate-with : tie.Need-slice-aggregate-interpolate-with
+slice-aggregate-interpolate-with c = made-length (c .before .before)
 
-interpolate-into-requires : tie.Need-interpolate-into-requires
-interpolate-into-requires c κs =
+interpolate-with-requires : tie.Need-interpolate-with-requires
+interpolate-with-requires c κs =
     let m = c .before .before .before in
     let s = start m in
-    (s .pre .0, (made-length m, ap isSize (sym (made-length m)) ∙ s .pre .1 .0))
+    let long = made-length m in (
+      s .pre .0,
+      (
+        (long, ap isSize (sym long) ∙ s .pre .1 .0),
+        (part-order long (s .pre .1 .1 .1 .0), part-order long (s .pre .1 .1 .1 .1)),
+      ),
+    )
 
 same-length : tie.Need-same-length
 same-length c = search needs
 
 returns : tie.Need-returns
-returns c q Q e root-word f g of-left of-right =
+returns c q Q e tables f g of-left of-right =
     let m = c .before .before .before .before .before .before in
     let s = start m in
     let a = s .args in
@@ -71,7 +77,7 @@ returns c q Q e root-word f g of-left of-right =
     let values : map of (take (n m) (returned 1024 (n m) (made m))) ≡ tabulate (n m) rule =
     back-list 1024 (bound s) (made m) (m .products-into .kept .1 .1 .1 .0) (tabulate (n m) rule)
     (m .products-into .ensures q e ∙ ap (λ (k : ℕ). words (tabulate k rule)) (sym (lent-length 1024 (bound s)))) in
-    c .before .before .interpolate-into .ensures q Q e (root-word ∙ ap (λ (k : ℕ). root {q = q} k .word) (made-length m))
+    c .before .before .interpolate-with .ensures q Q e (subst (λ (k : ℕ). CoefficientTables q k (a .powers .now) (a .quotients .now)) (made-length m) tables)
     ∙ ap₂ (λ (k : ℕ) (l : List (Elem q)). words (interpolate k l)) (sym (made-length m)) values
     ∙ ap words (product-words Q (n m) (s .pre .1 .0) f g (a .left .now) (a .right .now) of-left of-right)
 
@@ -83,7 +89,7 @@ remainder-from-spec =
     slice-aggregate-products-into
     products-into-requires
     array-share-prefix-products
-    slice-aggregate-interpolate-into
-    interpolate-into-requires
+    slice-aggregate-interpolate-with
+    interpolate-with-requires
     same-length
     returns)
