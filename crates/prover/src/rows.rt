@@ -10,7 +10,7 @@ ghost use Rattle.field.specs.Element.{of, wordOf, words};
 ghost use Rattle.domain.specs.Size.{isSize};
 ghost use Rattle.domain.specs.Polynomial.{Poly, valuesOn};
 ghost use Rattle.domain.specs.Qualifies.{Qualifies};
-ghost use Rattle.domain.specs.Known.{Known};
+ghost use Rattle.domain.specs.Known.{Known, Modulus};
 ghost use Rattle.protocol.specs.Three.{mapThree};
 ghost use Rattle.protocol.specs.Circuit.{Circuit};
 ghost use Rattle.protocol.specs.Calls.{entriesOf};
@@ -25,7 +25,7 @@ use transform::product;
 
 // h0, of length |R| - 1, for every ẑ whose values on C are z: the quotient of ẑ_A·ẑ_B by v_R, which ẑ_C, of length |R|, does not change.
 pub fn row_quotient_into(p: u32, r: u32, ea: &[u32], eb: &[u32], z: &[u32], out: &mut [u32])
-    requires { ⌜ 1 < p ⌝ }
+    requires { ⌜ Modulus p ⌝ }
     requires { ⌜ isSize r ≡ true ⌝ }
     requires { ⌜ length (now out) ≡ r - 1 ⌝ }
     requires { ⌜ All (Within r (length (now z))) (entriesOf (now ea)) × All (Within r (length (now z))) (entriesOf (now eb)) ⌝ }

@@ -13,20 +13,20 @@ use borrow.Author.Tests.{eq-eqb}
 use Rattle.algebra.specs.Lists.{tabulate}
 use Rattle.algebra.specs.Ring.{pow}
 use Rattle.algebra.specs.Polynomial.{twist}
-use Rattle.algebra.proofs.RingLaws.{sub-zero→eq}
+use Rattle.algebra.proofs.RingLaws.{sub-zero→eq, one-mul}
 use Rattle.algebra.proofs.Division.{length-quotient}
 use Rattle.algebra.proofs.PolynomialLaws.{length-tabulate, getD-tabulate}
 use Rattle.field.specs.Prime.{Prime}
 use Rattle.field.specs.Element.{Elem, of, 𝟘, 𝟙, _⊗_, _⊖_, words}
-use Rattle.field.specs.Power.{power, reciprocal, field-computes}
+use Rattle.field.specs.Power.{power, reciprocal, _⊘_, field-computes}
 use Rattle.field.proofs.ElementLaws.{primeRing, mul-comm, of-not-zero}
 use Rattle.field.proofs.Field.{power-is-pow}
-use Rattle.field.proofs.Words.{of-result, of-results}
+use Rattle.field.proofs.Words.{of-result, of-results, nonzero-by-value}
 use Rattle.domain.specs.Size.{isSize, maxSize}
 use Rattle.domain.specs.Domain.{vanishing}
 use Rattle.domain.specs.Polynomial.{Poly, _⊠_, quotient, remainder, valuesOn, interpolate}
 use Rattle.domain.specs.Qualifies.{Qualifies}
-use Rattle.domain.specs.Known.{Known}
+use Rattle.domain.specs.Known.{Known, KnownPrime, OutsideDomain}
 use Rattle.domain.specs.BabyBear.{babyBear}
 use Rattle.domain.proofs.ListLaws.{equal-entries}
 use Rattle.domain.proofs.SizeLaws.{power-is-size, size-positive, size-bound}
@@ -73,10 +73,17 @@ module-shift n size = record {
 pub known-shift : {q : Prime} {p : ℕ} → Known q p → (n : ℕ) → isSize n ≡ true → Shift n (of {q = q} 31)
 known-shift known n size = subst⁻¹ (λ (q : Prime). Shift n (of {q = q} 31)) (known .is-module) (module-shift n size)
 
--- the power p - 2 is the reciprocal
-pub reciprocal-word : (q : Prime) (a : ℕ) {p r : ℕ} → q .p ≡ p → r ≡ power (of {q = q} a) (p - 2) .word → r ≡ reciprocal (of {q = q} a) .word
-unfolding reciprocal
-reciprocal-word q a e made = made ∙ ap (λ (n : ℕ). power (of {q = q} a) (n - 2) .word) (sym e)
+-- for every prime that the code knows by its value
+pub shift-outside : {p : ℕ} → KnownPrime p → (n : ℕ) → isSize n ≡ true → OutsideDomain p n 31
+shift-outside k n size = record { over = k; is-outside = known-shift (k .known) n size .outside }
+
+pub shift-not-zero : {p : ℕ} → KnownPrime p → (q : Prime) → q .p ≡ p → of {q = q} 31 ≢ 𝟘
+shift-not-zero k q e =
+    nonzero-by-value (e ∙ sym (k .known .value)) 31 (known-shift (k .known) maxSize (power-is-size 10 (omega arith)) .not-zero)
+
+-- 1/a is the reciprocal
+pub reciprocal-word : (q : Prime) (a : ℕ) {r : ℕ} → r ≡ (𝟙 ⊘ of {q = q} a) .word → r ≡ reciprocal (of {q = q} a) .word
+reciprocal-word q a made = made ∙ ap (λ (x : Elem q). x .word) (one-mul (primeRing q) (reciprocal (of a)))
 
 module _ {q : Prime} (Q : Qualifies q) (n : ℕ) (size : isSize n ≡ true) (f g : Poly q) where
   -- products of the words of values on the domain

@@ -3,6 +3,7 @@
 // quotients are the tables of transforms of length n: for coefficients where nothing else is said.
 ghost use mathlib.Core.Path.{_≡_};
 ghost use mathlib.Core.Bool.{true};
+ghost use mathlib.Core.Logic.{_≢_};
 ghost use mathlib.Core.List.{map};
 ghost use Prim.Native.Nat.{_+_, _≤_, _<_};
 ghost use lib.ListN.{length, getD};
@@ -10,13 +11,13 @@ ghost use Rattle.algebra.specs.Lists.{tabulate};
 ghost use Rattle.algebra.specs.Ring.{pow};
 ghost use Rattle.algebra.specs.Polynomial.{twist};
 ghost use Rattle.field.specs.Prime.{Prime};
-ghost use Rattle.field.specs.Element.{of, _⊗_, _⊖_, words};
+ghost use Rattle.field.specs.Element.{of, 𝟘, _⊗_, _⊖_, words};
 ghost use Rattle.field.proofs.ElementLaws.{primeRing};
 ghost use Rattle.domain.specs.Size.{isSize};
 ghost use Rattle.domain.specs.Domain.{root as rootOf};
 ghost use Rattle.domain.specs.Polynomial.{Poly, _⊠_, quotient, remainder, valuesOn};
 ghost use Rattle.domain.specs.Qualifies.{Qualifies};
-ghost use Rattle.domain.specs.Known.{Known};
+ghost use Rattle.domain.specs.Known.{Known, Modulus, OutsideDomain};
 ghost use Rattle.transform.specs.Reading.{ValueTables, CoefficientTables};
 ghost use Rattle.transform.specs.Product.{Shift, ProductDivided};
 use crate::evaluate_with;
@@ -150,10 +151,11 @@ fn combine_into(p: u32, s: u32, share: u32, plain: &[u32], turned: &[u32], out: 
     }
 }
 
-// The quotient of f·g by v_D from its remainder there and on the coset. An inverse is the power p - 2.
+// The quotient of f·g by v_D from its remainder there and on the coset.
 fn quotient_from(p: u32, n: u32, s: u32, plain: &[u32], turned: &[u32], out: &mut [u32])
     requires { ⌜ 1 < p ⌝ }
     requires { ⌜ isSize n ≡ true ⌝ }
+    requires { ⌜ OutsideDomain p n s × ((q : Prime) → q .p ≡ p → of {q = q} s ≢ 𝟘) ⌝ }
     requires { ⌜ (length (now out) ≤ length (now plain)) × (length (now out) ≤ length (now turned)) ⌝ }
     ensures { λ _. ⌜ ((q : Prime) → Qualifies q → q .p ≡ p → Shift n (of {q = q} s)
         → (f g : Poly q) → length (f ⊠ g) ≡ length (now (out .entry)) + n → length (now (out .entry)) ≤ n
@@ -161,8 +163,8 @@ fn quotient_from(p: u32, n: u32, s: u32, plain: &[u32], turned: &[u32], out: &mu
         → now (turned .entry) ≡ words (remainder n (twist (primeRing q) (of s) f ⊠ twist (primeRing q) (of s) g))
         → now (out .exit) ≡ words (quotient n (f ⊠ g))) ⌝ }
 {
-    let share = field::raise(p, domain::vanishing_value(p, n, s), p - 2);
-    let turn = field::raise(p, s, p - 2);
+    let share = field::divide(p, 1, domain::vanishing_value(p, n, s));
+    let turn = field::divide(p, 1, s);
     combine_into(p, turn, share, plain, turned, out);
 }
 
@@ -178,7 +180,7 @@ fn divide_with(
     rest: &mut [u32],
     out: &mut [u32],
 )
-    requires { ⌜ 1 < p ⌝ }
+    requires { ⌜ Modulus p ⌝ }
     requires { ⌜ isSize (length (now left)) ≡ true ⌝ }
     requires { ⌜ (length (now left) ≤ length (now powers)) × (length (now left) ≤ length (now quotients)) ⌝ }
     requires { ⌜ (length (now right) ≡ length (now left)) × (length (now factor) ≡ length (now left)) ⌝ }
@@ -216,7 +218,7 @@ pub fn divide_product_into(
     rest: &mut [u32],
     out: &mut [u32],
 )
-    requires { ⌜ 1 < p ⌝ }
+    requires { ⌜ Modulus p ⌝ }
     requires { ⌜ isSize (length (now left)) ≡ true ⌝ }
     requires { ⌜ (length (now right) ≡ length (now left)) × (length (now factor) ≡ length (now left)) ⌝ }
     requires { ⌜ (length (now rest) ≡ length (now left)) × (length (now out) + 1 ≡ length (now left)) ⌝ }

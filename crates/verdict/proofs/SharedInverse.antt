@@ -1,4 +1,4 @@
--- The three s_M from one inverse: that of the product of the v_{K_M}(γ), none of which is 0 for γ outside K. Assumes nothing.
+-- A quotient from one inverse that is shared: that of a product of its divisor with others. Assumes nothing.
 use mathlib.Core.Path.{_≡_, sym, ap, _∙_}
 use mathlib.Core.Logic.{_≢_}
 use mathlib.Core.Bool.{true}
@@ -28,14 +28,3 @@ selector-from {q} k v n d others product n-some d-some others-some e =
       ap reciprocal e ∙ reciprocal-product d others d-some others-some,
       (mul-reciprocal others others-some, (reciprocal-product n d n-some d-some, tt)),
     ) tt
-
--- the word of v_{K_M}(γ) is not 0, for each prime of the value p
-pub vanishing-word-not-zero : {p n γ : ℕ} → OutsideDomain p n γ → (m : ℕ) → isSize m ≡ true → isSize n ≡ true → m ≤ n → (w : ℕ)
-    → ((q : Prime) → q .p ≡ p → w ≡ vanishing m (of {q = q} γ) .word) → (q : Prime) → q .p ≡ p → of {q = q} w ≢ 𝟘
-vanishing-word-not-zero {n = n} {γ = γ} o m s t m≤n w made q e =
-    let r = o .over .prime in
-    let d = o .over .known .value in
-    let Q = known-qualifies (o .over .known) in
-    let y : Elem r = of γ in
-    nonzero-by-value (e ∙ sym d) w (λ z.
-    vanishing-outside Q m s y (outside-subgroup Q m n s t m≤n y (o .is-outside)) (sym (of-result (vanishing m y) (made r d)) ∙ z))

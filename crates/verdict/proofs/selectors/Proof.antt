@@ -3,6 +3,7 @@ use Rattle.algebra.proofs.FieldLaws.{mul-not-zero}
 use Rattle.domain.specs.Domain.{vanishing}
 use Rattle.domain.specs.Size.{isSize}
 use Rattle.domain.proofs.SizeLaws.{size-not-zero}
+use Rattle.domain.proofs.Divisors.{outside-smaller, vanishing-word-not-zero}
 use Rattle.field.proofs.ElementLaws.{primeRing, mul-assoc, mul-comm}
 use Rattle.field.proofs.Field.{primeField}
 use Rattle.field.proofs.Words.{of-result}
@@ -14,7 +15,7 @@ use Rattle.protocol.specs.Circuit.{largest}
 use Rattle.protocol.specs.Three.{MatrixName, A, B, C, at}
 use Rattle.protocol.proofs.AllowedSizes.{allowed, largest-size, size-within}
 use Rattle.shared.specs.Meanings.{three, sizes}
-use Rattle.verdict.proofs.SharedInverse.{selector-from, vanishing-word-not-zero}
+use Rattle.verdict.proofs.SharedInverse.{selector-from}
 use Prim.Native.Nat.{ℕ}
 use borrow.Author.Needs.{needs}
 use mathlib.Core.Bool.{true}
@@ -33,7 +34,9 @@ not-zero : (s : tie.Start) (M : MatrixName) (w : ℕ) (q : Prime) → q .p ≡ s
     → of {q = q} w ≢ 𝟘
 not-zero s M w q e made =
     let k = sizes (s .args .s) in
-    vanishing-word-not-zero (s .pre .1 .1) (at (k .|K|) M) (allowed k (s .pre .1 .0) .K-size M) (whole-size s) (size-within k M) w made q e
+    let m : ℕ = at (k .|K|) M in
+    let size = allowed k (s .pre .1 .0) .K-size M in
+    vanishing-word-not-zero (outside-smaller m size (whole-size s) (size-within k M) (s .pre .1 .1)) size w made q e
 
 -- the values of v_{K_M}(γ)
 module _ (c : tie.After-vanishing-value3) (q : Prime) (e : q .p ≡ c .before .before .before .before .args .p) where

@@ -116,7 +116,7 @@ divide-product-into-requires c κs =
     let s = start b in
     let long = below-length b in
     let lent = sym (lent-length 1024 (fits s)) ∙ long in (
-      s .pre .0 .0,
+      s .pre .0,
       (ap isSize (sym long) ∙ size-is _ (s .pre .1 .1 .1), ((sym (made-length t) ∙ long, lent), (lent, long))),
     )
 

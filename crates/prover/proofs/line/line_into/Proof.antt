@@ -133,7 +133,7 @@ divide-product-into-requires c κs =
     let left = values-whole v in
     let lent = sym (lent-length 1024 (bound s)) ∙ left in
     let last : n - 1 + 1 ≡ n = omega (arith, positive s) in (
-      s .pre .0 .0,
+      s .pre .0,
       (
         ap isSize (sym left) ∙ C-size s,
         ((s .pre .1 .0 .z-length ∙ left, lent), (lent, ap (λ (k : ℕ). k + 1) (sym (lent-length 1024 (short s))) ∙ last ∙ left)),

@@ -58,7 +58,7 @@ fill-inverse-tables-requires : tie.Need-fill-inverse-tables-requires
 fill-inverse-tables-requires c κs =
     let s = c .before .before .before .before .before .before .before .before in
     let part = lent-length 1024 (bound s) in
-    (s .pre .0, (sym part ∙ part, ap isSize (sym part) ∙ s .pre .1 .0))
+    (s .pre .0 .0, (sym part ∙ part, ap isSize (sym part) ∙ s .pre .1 .0))
 
 array-share-prefix-powers : tie.Need-array-share-prefix-powers
 array-share-prefix-powers c =

@@ -20,7 +20,7 @@ use Rattle.domain.proofs.Interpolation.{length-interpolate, values-interpolate}
 use Rattle.domain.proofs.Qualification.{known-qualifies}
 use Rattle.poly.proofs.LentParts.{part-order, returned, lent-length, back-holds, back-length, back-is, back-list}
 use Rattle.transform.specs.Reading.{CoefficientTables}
-use Rattle.transform.proofs.CosetWords.{known-shift}
+use Rattle.transform.proofs.CosetWords.{known-shift, shift-outside, shift-not-zero}
 use Rattle.transform.proofs.product.divide_with.Statement.{statement}
 use Rattle.transform.proofs.product.divide_with.Tie as tie
 
@@ -71,7 +71,7 @@ interpolate-with-requires-2 : tie.Need-interpolate-with-requires-2
 interpolate-with-requires-2 c κs =
     let s = c .before .before .before .before .before .before .before .before .before .before .before .before in
     let right : length (s .args .right .now) ≡ length (s .args .left .now) = s .pre .1 .1 .1 .0 .0 in (
-      s .pre .0,
+      s .pre .0 .0,
       (
         (sym (lent-length 1024 (bound s)) ∙ sym right, ap isSize right ∙ s .pre .1 .0),
         (part-order (sym right) (s .pre .1 .1 .0 .0), part-order (sym right) (s .pre .1 .1 .0 .1)),
@@ -82,7 +82,7 @@ remainder-from-requires : tie.Need-remainder-from-requires
 remainder-from-requires c κs =
     let s = c .before .before .before .before .before .before .before .before .before .before .before .before .before .before .before in
     let rest : length (s .args .rest .now) ≡ length (s .args .left .now) = s .pre .1 .1 .1 .1 .0 in (
-      s .pre .0,
+      s .pre .0 .0,
       (
         ap isSize rest ∙ s .pre .1 .0,
         (
@@ -110,7 +110,7 @@ coset-remainder-into-requires : tie.Need-coset-remainder-into-requires
 coset-remainder-into-requires c κs =
     let s = c .before .before .before .before .before .before .before .before .before .before .before .before .before .before .before .before .before .before .before .before .before in
     let part = lent-length 1024 (bound s) in (
-      s .pre .0,
+      s .pre .0 .0,
       (
         ap isSize (sym part) ∙ s .pre .1 .0,
         (
@@ -139,12 +139,15 @@ quotient-from-requires c κs =
     let s = c .before .before .before .before .before .before .before .before .before .before .before .before .before .before .before .before .before .before .before .before .before .before .before .before .before .before in
     let m : ℕ = length (s .args .out .now) in
     let less : m ≤ length (s .args .left .now) = fewer (s .pre .1 .1 .1 .1 .1) in (
-      s .pre .0,
+      s .pre .0 .0,
       (
         s .pre .1 .0,
         (
+          (shift-outside (s .pre .0 .1) _ (s .pre .1 .0), shift-not-zero (s .pre .0 .1)),
+          (
           subst (λ (k : ℕ). m ≤ k) (sym (c .before .before .before .before .before .before .before .before .before .before .remainder-from .kept .1 .1 .1 .1 .1 .0 ∙ s .pre .1 .1 .1 .1 .0)) less,
           subst (λ (k : ℕ). m ≤ k) (turned-length (c .before .before .before .before)) less,
+          ),
         ),
       ),
     )

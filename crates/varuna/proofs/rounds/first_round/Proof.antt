@@ -6,7 +6,7 @@ use lib.Dec.{lit<}
 use lib.ListN.{length}
 use borrow.Author.Tests.{eqb-true}
 use Rattle.domain.specs.BabyBear.{babyBear}
-use Rattle.domain.proofs.Qualification.{babyBear-qualifies}
+use Rattle.domain.proofs.Qualification.{babyBear-qualifies, babyBear-modulus}
 use Rattle.protocol.specs.Circuit.{Circuit, sizesOf}
 use Rattle.protocol.specs.Messages.{Messages, lengths, witness, rowQuotient}
 use Rattle.shared.specs.Meanings.{faultRefusal}
@@ -96,7 +96,7 @@ row-quotient-into-requires : tie.Need-row-quotient-into-requires
 unfolding lengths sizesOf circuitOf
 row-quotient-into-requires c κs =
     let F = fits (c .before .before .before .before .before) in
-    (lit< tt, (R-fits (F .fits), (eqb-true _ _ (F .lent-fit .1 .0), (shares (F .fits) .in-a, shares (F .fits) .in-b))))
+    (babyBear-modulus, (R-fits (F .fits), (eqb-true _ _ (F .lent-fit .1 .0), (shares (F .fits) .in-a, shares (F .fits) .in-b))))
 
 enum-known-fault : tie.Need-enum-known-fault
 enum-known-fault c = search needs
