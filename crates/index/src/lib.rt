@@ -2,7 +2,7 @@
 ghost use mathlib.Core.Path.{_≡_};
 ghost use mathlib.Core.Bool.{true};
 ghost use mathlib.Core.List.{map};
-ghost use Prim.Native.Nat.{_<_};
+ghost use Prim.Native.Nat.{_≤_, _<_};
 ghost use lib.ListN.{length};
 ghost use Rattle.field.specs.Prime.{Prime};
 ghost use Rattle.field.specs.Element.{of, words};
@@ -10,6 +10,7 @@ ghost use Rattle.domain.specs.Size.{isSize, sizeFor};
 ghost use Rattle.domain.specs.Polynomial.{interpolate};
 ghost use Rattle.domain.specs.Qualifies.{Qualifies};
 ghost use Rattle.domain.specs.Known.{Known};
+ghost use Rattle.transform.specs.Reading.{CoefficientTables};
 ghost use Rattle.protocol.specs.Three.{MatrixName, at};
 ghost use Rattle.protocol.specs.Circuit.{Circuit};
 ghost use Rattle.protocol.specs.Index.{mapIndex, index};
@@ -52,7 +53,7 @@ fn fill_index_values(
 }
 
 // The same from |R| and |C|: the list of the elements of each is made once.
-fn index_values_into(
+pub fn index_values_into(
     p: u32,
     r: u32,
     c: u32,
@@ -87,17 +88,44 @@ fn index_values_into(
     );
 }
 
-// Values on the domain of size n, in a slice of n words, replaced by the coefficients of their polynomial.
-fn interpolate_in_place(p: u32, out: &mut [u32])
+// Values on the domain of size n, in a slice of n words, replaced by the coefficients of their polynomial, with the tables of 1/g_n.
+fn interpolate_in_place(p: u32, powers: &[u32], quotients: &[u32], out: &mut [u32])
     requires { ⌜ 1 < p ⌝ }
     requires { ⌜ isSize (length (now out)) ≡ true ⌝ }
-    ensures { λ _. ⌜ ((q : Prime) → Known q p
+    requires { ⌜ (length (now out) ≤ length (now powers)) × (length (now out) ≤ length (now quotients)) ⌝ }
+    ensures { λ _. ⌜ ((q : Prime) → Known q p → CoefficientTables q (length (now (out .entry))) (now (powers .entry)) (now (quotients .entry))
         → now (out .exit) ≡ words (interpolate (length (now (out .entry))) (map (of {q = q}) (now (out .entry))))) ⌝ }
 {
     let n = out.len();
     let mut values = [0u32; 1024];
     poly::copy_front(out, &mut values);
-    transform::interpolate_into(p, domain::root_of(p, n as u32), &values[..n], out);
+    transform::interpolate_with(p, powers, quotients, &values[..n], out);
+}
+
+// The same for the four lists of values, all with these tables.
+fn interpolate_four(
+    p: u32,
+    powers: &[u32],
+    quotients: &[u32],
+    row: &mut [u32],
+    col: &mut [u32],
+    rowcol: &mut [u32],
+    rowcolval: &mut [u32],
+)
+    requires { ⌜ 1 < p ⌝ }
+    requires { ⌜ isSize (length (now row)) ≡ true ⌝ }
+    requires { ⌜ (length (now row) ≤ length (now powers)) × (length (now row) ≤ length (now quotients)) ⌝ }
+    requires { ⌜ IndexLengths (length (now row)) (now row) (now col) (now rowcol) (now rowcolval) ⌝ }
+    ensures { λ _. ⌜ ((q : Prime) → Known q p → CoefficientTables q (length (now (row .entry))) (now (powers .entry)) (now (quotients .entry))
+        → (now (row .exit) ≡ words (interpolate (length (now (row .entry))) (map (of {q = q}) (now (row .entry)))))
+        × (now (col .exit) ≡ words (interpolate (length (now (col .entry))) (map (of {q = q}) (now (col .entry)))))
+        × (now (rowcol .exit) ≡ words (interpolate (length (now (rowcol .entry))) (map (of {q = q}) (now (rowcol .entry)))))
+        × (now (rowcolval .exit) ≡ words (interpolate (length (now (rowcolval .entry))) (map (of {q = q}) (now (rowcolval .entry)))))) ⌝ }
+{
+    interpolate_in_place(p, powers, quotients, row);
+    interpolate_in_place(p, powers, quotients, col);
+    interpolate_in_place(p, powers, quotients, rowcol);
+    interpolate_in_place(p, powers, quotients, rowcolval);
 }
 
 // The indexer: the four index polynomials of a matrix into slices of length |K_M|.
@@ -120,8 +148,18 @@ pub fn index_matrix_into(
         ≡ mapIndex words (index {q = q} k M)) ⌝ }
 {
     index_values_into(p, r, c, entries, row, col, rowcol, rowcolval);
-    interpolate_in_place(p, row);
-    interpolate_in_place(p, col);
-    interpolate_in_place(p, rowcol);
-    interpolate_in_place(p, rowcolval);
+    let n = row.len();
+    let root = domain::root_of(p, n as u32);
+    let mut powers = [0u32; 1024];
+    let mut quotients = [0u32; 1024];
+    transform::fill_inverse_tables(p, root, &mut powers[..n], &mut quotients[..n]);
+    interpolate_four(
+        p,
+        &powers[..n],
+        &quotients[..n],
+        row,
+        col,
+        rowcol,
+        rowcolval,
+    );
 }

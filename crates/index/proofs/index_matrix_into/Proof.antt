@@ -1,54 +1,67 @@
 -- `index::index_matrix_into` meets its contract: the four lists of values, each interpolated. Assumes nothing.
 use borrow.Author.Needs.{needs}
-use mathlib.Core.Path.{_≡_, refl, sym, _∙_}
-use mathlib.Core.Bool.{true}
+use mathlib.Core.Path.{_≡_, refl, sym, ap, _∙_}
 use mathlib.Core.List.{List}
-use Prim.Native.Nat.{ℕ, _<_}
-use lib.ListN.{length}
+use Prim.Native.Nat.{ℕ, _≤_}
+use native.Mathlib.Omega.{arith}
+use lib.ListN.{length, take}
 use Rattle.domain.specs.Size.{isSize}
-use Rattle.domain.proofs.SizeLaws.{size-is}
+use Rattle.domain.specs.Domain.{root}
+use Rattle.domain.proofs.SizeLaws.{size-is, size-bound}
+use Rattle.poly.proofs.LentParts.{returned, lent-length, back-holds, back-length}
 use Rattle.protocol.specs.Index.{Index}
+use Rattle.transform.proofs.TableLaws.{coefficients-lent}
 use Rattle.circuit.specs.IndexLists.{indexLists}
 use Rattle.index.proofs.IndexValues.{Lengths, K-size, index-interpolated}
 use Rattle.index.proofs.index_matrix_into.Statement.{statement}
 use Rattle.index.proofs.index_matrix_into.Tie as tie
 
--- the start, from where the values are filled in, that from the first interpolation, and each interpolation from the next
-abbrev start : tie.After-index-values-into → tie.Start
-start c = c .before .before .before .before .before .before .before .before .before .before
+-- the words of the values, as many in each list as the first slice has
+module _ (c : tie.After-index-values-into) where
+  abbrev start : tie.Start
+  start = c .before .before .before .before .before .before .before .before .before .before
 
-abbrev at-values : tie.After-interpolate-in-place → tie.After-index-values-into
-at-values c = c .before .before .before .before .before .before .before .before .before .before
+  abbrev values : Index (List ℕ)
+  values =
+      let l = c .index-values-into .last in
+      indexLists (l .1 .1 .1 .1 .0) (l .1 .1 .1 .1 .1 .0) (l .1 .1 .1 .1 .1 .1 .0) (l .1 .1 .1 .1 .1 .1 .1 .0)
 
-abbrev at-row : tie.After-interpolate-in-place2 → tie.After-interpolate-in-place
-at-row c = c .before .before .before .before
+  abbrev n : ℕ
+  n = length (values .row)
 
-abbrev at-col : tie.After-interpolate-in-place3 → tie.After-interpolate-in-place2
-at-col c = c .before .before .before .before
+  long : Lengths (K-size (start .args .entries .now)) values
+  long =
+      let kept = c .index-values-into .kept in
+      let h = start .pre .1 .1 in
+      record {
+        row-length = kept .1 .1 .1 .1 .0 ∙ h .row-length;
+        col-length = kept .1 .1 .1 .1 .1 .0 ∙ h .col-length;
+        rowcol-length = kept .1 .1 .1 .1 .1 .1 .0 ∙ h .rowcol-length;
+        rowcolval-length = kept .1 .1 .1 .1 .1 .1 .1 .0 ∙ h .rowcolval-length;
+      }
 
-abbrev at-rowcol : tie.After-interpolate-in-place4 → tie.After-interpolate-in-place3
-at-rowcol c = c .before .before .before .before
+  fits : n ≤ 1024
+  fits = size-bound n (size-is _ (long .row-length))
 
--- the words of the values, |K_M| in each list
-abbrev values : tie.After-index-values-into → Index (List ℕ)
-values c =
-    let l = c .index-values-into .last in
-    indexLists (l .1 .1 .1 .1 .0) (l .1 .1 .1 .1 .1 .0) (l .1 .1 .1 .1 .1 .1 .0) (l .1 .1 .1 .1 .1 .1 .1 .0)
+-- the tables in their arrays
+module _ (c : tie.After-fill-inverse-tables) where
+  abbrev at-values : tie.After-index-values-into
+  at-values = c .before .before .before .before .before .before .before .before .before .before .before .before
 
-long : (c : tie.After-index-values-into) → Lengths (K-size (start c .args .entries .now)) (values c)
-long c =
-    let kept = c .index-values-into .kept in
-    let h = start c .pre .1 .1 in
-    record {
-      row-length = kept .1 .1 .1 .1 .0 ∙ h .row-length;
-      col-length = kept .1 .1 .1 .1 .1 .0 ∙ h .col-length;
-      rowcol-length = kept .1 .1 .1 .1 .1 .1 .0 ∙ h .rowcol-length;
-      rowcolval-length = kept .1 .1 .1 .1 .1 .1 .1 .0 ∙ h .rowcolval-length;
-    }
+  abbrev m : ℕ
+  m = n at-values
 
--- what each interpolation asks
-ready : (s : tie.Start) {m : ℕ} → m ≡ K-size (s .args .entries .now) → (1 < s .args .p) × (isSize m ≡ true)
-ready s e = (s .pre .0, size-is _ e)
+  abbrev powers : List ℕ
+  powers = c .fill-inverse-tables .last .1 .1 .0
+
+  abbrev quotients : List ℕ
+  quotients = c .fill-inverse-tables .last .1 .1 .1 .0
+
+  powers-length : m ≡ length (take m (returned 1024 m powers))
+  powers-length = back-length 1024 (fits at-values) powers (c .fill-inverse-tables .kept .1 .1 .0)
+
+  quotients-length : m ≡ length (take m (returned 1024 m quotients))
+  quotients-length = back-length 1024 (fits at-values) quotients (c .fill-inverse-tables .kept .1 .1 .1 .0)
 
 index-values-into-requires : tie.Need-index-values-into-requires
 index-values-into-requires c κs =
@@ -66,25 +79,65 @@ index-values-into-requires c κs =
       ),
     )
 
-interpolate-in-place-requires : tie.Need-interpolate-in-place-requires
-interpolate-in-place-requires c κs =
-    let v = c .before .before .before .before .before .before .before .before .before in
-    ready (start v) (long v .row-length)
+cast-root-of : tie.Need-cast-root-of
+cast-root-of c = omega (arith, fits (c .before .before .before .before .before .before .before .before))
 
-interpolate-in-place-requires-2 : tie.Need-interpolate-in-place-requires-2
-interpolate-in-place-requires-2 c κs =
-    let v = at-values (c .before .before .before) in
-    ready (start v) (long v .col-length)
+root-of-requires : tie.Need-root-of-requires
+root-of-requires c κs = size-is _ (long (c .before .before .before .before .before .before .before .before) .row-length)
 
-interpolate-in-place-requires-3 : tie.Need-interpolate-in-place-requires-3
-interpolate-in-place-requires-3 c κs =
-    let v = at-values (at-row (c .before .before .before)) in
-    ready (start v) (long v .rowcol-length)
+array-borrow-prefix-powers : tie.Need-array-borrow-prefix-powers
+array-borrow-prefix-powers c = fits (c .before .before .before .before .before .before .before .before .before)
 
-interpolate-in-place-requires-4 : tie.Need-interpolate-in-place-requires-4
-interpolate-in-place-requires-4 c κs =
-    let v = at-values (at-row (at-col (c .before .before .before))) in
-    ready (start v) (long v .rowcolval-length)
+slice-aggregate-fill-inverse-tables : tie.Need-slice-aggregate-fill-inverse-tables
+slice-aggregate-fill-inverse-tables c = lent-length 1024 (fits (c .before .before .before .before .before .before .before .before .before .before))
+
+array-borrow-prefix-quotients : tie.Need-array-borrow-prefix-quotients
+array-borrow-prefix-quotients c = fits (c .before .before .before .before .before .before .before .before .before .before)
+
+slice-aggregate-fill-inverse-tables-2 : tie.Need-slice-aggregate-fill-inverse-tables-2
+slice-aggregate-fill-inverse-tables-2 c = lent-length 1024 (fits (c .before .before .before .before .before .before .before .before .before .before .before))
+
+fill-inverse-tables-requires : tie.Need-fill-inverse-tables-requires
+fill-inverse-tables-requires c κs =
+    let v = c .before .before .before .before .before .before .before .before .before .before .before in
+    let part = lent-length 1024 (fits v) in
+    (start v .pre .0, (sym part ∙ part, ap isSize (sym part) ∙ size-is _ (long v .row-length)))
+
+array-share-prefix-powers : tie.Need-array-share-prefix-powers
+array-share-prefix-powers c =
+    let t = c .before .before in
+    back-holds 1024 (fits (at-values t)) (powers t) (t .fill-inverse-tables .kept .1 .1 .0)
+
+slice-aggregate-interpolate-four : tie.Need-slice-aggregate-interpolate-four
+slice-aggregate-interpolate-four c = powers-length (c .before .before .before)
+
+array-share-prefix-quotients : tie.Need-array-share-prefix-quotients
+array-share-prefix-quotients c =
+    let t = c .before .before .before in
+    back-holds 1024 (fits (at-values t)) (quotients t) (t .fill-inverse-tables .kept .1 .1 .1 .0)
+
+slice-aggregate-interpolate-four-2 : tie.Need-slice-aggregate-interpolate-four-2
+slice-aggregate-interpolate-four-2 c = quotients-length (c .before .before .before .before)
+
+interpolate-four-requires : tie.Need-interpolate-four-requires
+interpolate-four-requires c κs =
+    let t = c .before .before .before .before .before .before .before .before in
+    let v = at-values t in
+    let lengths = long v in (
+      start v .pre .0,
+      (
+        size-is _ (lengths .row-length),
+        (
+          (omega (arith, powers-length t), omega (arith, quotients-length t)),
+          record {
+            row-length = refl;
+            col-length = lengths .col-length ∙ sym (lengths .row-length);
+            rowcol-length = lengths .rowcol-length ∙ sym (lengths .row-length);
+            rowcolval-length = lengths .rowcolval-length ∙ sym (lengths .row-length);
+          },
+        ),
+      ),
+    )
 
 same-length : tie.Need-same-length
 same-length c = search needs
@@ -100,26 +153,35 @@ same-length-4 c = search needs
 
 returns : tie.Need-returns
 returns c q known k M er ec matrix =
-    let rowcolval = c .before .before in
-    let rowcol = at-rowcol rowcolval in
-    let col = at-col rowcol in
-    let row = at-row col in
-    let v = at-values row in
+    let t = c .before .before .before .before .before .before .before .before .before .before .before .before .before .before .before .before .before in
+    let v = at-values t in
     let s = start v in
+    let call = t .fill-inverse-tables in
+    let root-word = c .before .before .before .before .before .before .before .before .before .before .before .before .before .before .before .before .before .before .before .before .root-of .ensures q known in
+    let (row, col, rowcol, rowcolval) =
+    c .before .before .before .before .before .before .before .before .interpolate-four .ensures q known
+    (coefficients-lent q 1024 (fits v) (powers t) (quotients t) (call .kept .1 .1 .0) (call .kept .1 .1 .1 .0)
+    (call .ensures q (known .value) (root-word ∙ ap (λ (k : ℕ). root {q = q} k .word) (lent-length 1024 (fits v))))) in
     index-interpolated q k M (s .args .entries .now) (s .pre .1 .0 .1 .1) matrix (length (s .args .row .now)) (s .pre .1 .1 .row-length)
-    (values v) (long v) (v .index-values-into .ensures q known k er ec)
-    (row .interpolate-in-place .ensures q known) (col .interpolate-in-place2 .ensures q known)
-    (rowcol .interpolate-in-place3 .ensures q known) (rowcolval .interpolate-in-place4 .ensures q known)
+    (values v) (long v) (v .index-values-into .ensures q known k er ec) row col rowcol rowcolval
 
 pub index-matrix-into-spec : {M : Type 1} → statement M
 index-matrix-into-spec =
     tie.close
     (tie.spec
     index-values-into-requires
-    interpolate-in-place-requires
-    interpolate-in-place-requires-2
-    interpolate-in-place-requires-3
-    interpolate-in-place-requires-4
+    cast-root-of
+    root-of-requires
+    array-borrow-prefix-powers
+    slice-aggregate-fill-inverse-tables
+    array-borrow-prefix-quotients
+    slice-aggregate-fill-inverse-tables-2
+    fill-inverse-tables-requires
+    array-share-prefix-powers
+    slice-aggregate-interpolate-four
+    array-share-prefix-quotients
+    slice-aggregate-interpolate-four-2
+    interpolate-four-requires
     same-length
     same-length-2
     same-length-3

@@ -1,6 +1,6 @@
 -- `index::interpolate_in_place` meets its contract. Assumes nothing.
 use borrow.Author.Needs.{needs}
-use mathlib.Core.Path.{_≡_, refl, sym, ap, _∙_}
+use mathlib.Core.Path.{_≡_, refl, sym, ap, _∙_, subst}
 use mathlib.Core.List.{List, map}
 use Prim.Native.Nat.{ℕ}
 use native.Mathlib.Omega.{arith}
@@ -8,17 +8,17 @@ use lib.ListN.{length, take, drop}
 use lib.Seq.{take-at}
 use Rattle.field.specs.Element.{of, words}
 use Rattle.domain.specs.Size.{isSize}
-use Rattle.domain.specs.Domain.{root}
 use Rattle.domain.specs.Polynomial.{interpolate}
 use Rattle.domain.proofs.Qualification.{known-qualifies}
 use Rattle.domain.proofs.SizeLaws.{size-bound}
-use Rattle.poly.proofs.LentParts.{array}
+use Rattle.poly.proofs.LentParts.{array, part-order}
+use Rattle.transform.specs.Reading.{CoefficientTables}
 use Rattle.index.proofs.interpolate_in_place.Statement.{statement}
 use Rattle.index.proofs.interpolate_in_place.Tie as tie
 
 -- the start, from the copy
 abbrev start : tie.After-copy-front → tie.Start
-start c = c .before .before .before .before
+start c = c .before .before .before .before .before .before
 
 -- the first words of the array are the values
 copied : (c : tie.After-copy-front) → let l : List ℕ = start c .args .out .now in take (length l) (c .copy-front .last .1 .0) ≡ l
@@ -30,38 +30,37 @@ slice-aggregate-copy-front : tie.Need-slice-aggregate-copy-front
 slice-aggregate-copy-front c = search needs
 
 copy-front-requires : tie.Need-copy-front-requires
-copy-front-requires c κs = size-bound _ (c .before .before .before .pre .1)
-
-cast-root-of : tie.Need-cast-root-of
-cast-root-of c = omega (arith, size-bound _ (c .before .before .before .before .before .pre .1))
-
-root-of-requires : tie.Need-root-of-requires
-root-of-requires c κs = search needs
+copy-front-requires c κs = size-bound _ (c .before .before .before .before .before .pre .1 .0)
 
 array-share-prefix-values : tie.Need-array-share-prefix-values
 array-share-prefix-values c =
-    let f = c .before .before in
-    omega (arith, size-bound _ (start f .pre .1), f .copy-front .kept .1 .0)
+    let f = c .before in
+    omega (arith, size-bound _ (start f .pre .1 .0), f .copy-front .kept .1 .0)
 
-slice-aggregate-interpolate-into : tie.Need-slice-aggregate-interpolate-into
-slice-aggregate-interpolate-into c = ap length (sym (copied (c .before .before .before)))
+slice-aggregate-interpolate-with : tie.Need-slice-aggregate-interpolate-with
+slice-aggregate-interpolate-with c = ap length (sym (copied (c .before .before)))
 
-interpolate-into-requires : tie.Need-interpolate-into-requires
-interpolate-into-requires c κs =
-    let f = c .before .before .before .before in
+interpolate-with-requires : tie.Need-interpolate-with-requires
+interpolate-with-requires c κs =
+    let f = c .before .before .before in
     let s = start f in
-    (s .pre .0, (ap length (sym (copied f)), ap (λ l. isSize (length l)) (copied f) ∙ s .pre .1))
+    let long = ap length (sym (copied f)) in (
+      s .pre .0,
+      (
+        (long, ap isSize (sym long) ∙ s .pre .1 .0),
+        (part-order long (s .pre .1 .1 .0), part-order long (s .pre .1 .1 .1)),
+      ),
+    )
 
 same-length : tie.Need-same-length
 same-length c = search needs
 
 returns : tie.Need-returns
-returns c q known =
-    let i = c .before .before in
-    let r = i .before .before .before in
-    let f = r .before .before in
-    i .interpolate-into .ensures q (known-qualifies known) (known .value)
-    (r .root-of .ensures q known ∙ ap (λ l. root {q = q} (length l) .word) (sym (copied f)))
+returns c q known tables =
+    let f = c .before .before .before .before .before .before in
+    let a = start f .args in
+    c .before .before .interpolate-with .ensures q (known-qualifies known) (known .value)
+    (subst (λ (m : ℕ). CoefficientTables q m (a .powers .now) (a .quotients .now)) (ap length (sym (copied f))) tables)
     ∙ ap (λ l. words (interpolate (length l) (map (of {q = q}) l))) (copied f)
 
 pub interpolate-in-place-spec : {M : Type 1} → statement M
@@ -70,10 +69,8 @@ interpolate-in-place-spec =
     (tie.spec
     slice-aggregate-copy-front
     copy-front-requires
-    cast-root-of
-    root-of-requires
     array-share-prefix-values
-    slice-aggregate-interpolate-into
-    interpolate-into-requires
+    slice-aggregate-interpolate-with
+    interpolate-with-requires
     same-length
     returns)
