@@ -4,7 +4,6 @@ use mathlib.Core.Path.{_≡_, sym, ap, ap₂, _∙_}
 use Prim.Native.Nat.{ℕ, _+_, _-_, _*_, _/_, _%_, _^_, _≤_, _<_}
 use native.Mathlib.Omega.{arith}
 use native.Mathlib.Nat.{mod-eq-of-lt}
-use Rattle.field.specs.Prime.{Prime}
 use Rattle.field.proofs.Words.{word-multiply, product-below}
 use Rattle.field.proofs.Prepared.{high-bits-fit, estimate, estimate-below, rest-below, rest-remainder, once-less, unwrapped}
 use Rattle.field.proofs.multiply_prepared.Statement.{statement}

@@ -1,12 +1,12 @@
 -- `transform::evaluate_with` meets its contract. Assumes nothing.
 use borrow.Author.Needs.{needs}
 use mathlib.Core.Path.{_≡_, sym, ap, _∙_}
-use mathlib.Core.List.{List, map}
-use Prim.Native.Nat.{ℕ, _<_, _≤_}
+use mathlib.Core.List.{map}
+use Prim.Native.Nat.{ℕ, _≤_}
 use native.Mathlib.Omega.{arith}
 use lib.ListN.{length}
 use Rattle.algebra.specs.Halving.{transform}
-use Rattle.field.specs.Element.{Elem, of, words}
+use Rattle.field.specs.Element.{of, words}
 use Rattle.field.proofs.ElementLaws.{primeRing}
 use Rattle.domain.specs.Size.{isSize}
 use Rattle.domain.specs.Domain.{root}

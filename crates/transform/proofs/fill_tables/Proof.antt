@@ -1,8 +1,6 @@
 -- `transform::fill_tables` meets its contract. Assumes nothing.
 use borrow.Author.Needs.{needs}
 use mathlib.Core.Path.{sym}
-use mathlib.Core.List.{List}
-use Prim.Native.Nat.{ℕ}
 use Rattle.field.specs.Element.{of}
 use Rattle.transform.proofs.TableLaws.{table-levels, prepared-by-value}
 use Rattle.transform.proofs.fill_tables.Statement.{statement}

@@ -4,7 +4,7 @@ use mathlib.Core.Path.{_≡_, refl, sym, ap, ap₂, _∙_}
 use mathlib.Core.List.{[], _∷_}
 use Prim.Native.Nat.{ℕ, _+_, _<_}
 use native.Mathlib.Omega.{arith}
-use lib.ListN.{length, getD, length-set}
+use lib.ListN.{getD, length-set}
 use Rattle.field.specs.Element.{Elem, _⊕_, _⊗_, _⊖_, words}
 use Rattle.field.proofs.ElementLaws.{mul-one}
 use Rattle.field.proofs.Words.{result-below, result-product, result-sum, result-difference}

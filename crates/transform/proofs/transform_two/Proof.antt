@@ -1,10 +1,8 @@
 -- `transform::transform_two` meets its contract. Assumes nothing.
 use borrow.Author.Needs.{needs}
-use mathlib.Core.Path.{_≡_, sym, ap, ap₂, _∙_}
-use mathlib.Core.List.{List, [], _∷_}
+use mathlib.Core.Path.{sym, ap, ap₂, _∙_}
+use mathlib.Core.List.{[], _∷_}
 use Prim.Native.Nat.{ℕ, _+_}
-use native.Mathlib.Omega.{arith}
-use lib.ListN.{length, length-set}
 use Rattle.field.specs.Element.{Elem, words}
 use Rattle.field.proofs.Words.{result-sum, result-difference}
 use Rattle.transform.proofs.Halves.{two-set}

@@ -8,7 +8,7 @@ use lib.ListN.{length, getD, take}
 use Rattle.algebra.specs.Lists.{tabulate}
 use Rattle.field.specs.Element.{Elem, of, _⊗_, words}
 use Rattle.domain.specs.Size.{isSize}
-use Rattle.domain.specs.Polynomial.{Poly, interpolate}
+use Rattle.domain.specs.Polynomial.{interpolate}
 use Rattle.domain.proofs.SizeLaws.{size-bound}
 use Rattle.poly.proofs.LentParts.{part-order, returned, lent-length, back-holds, back-length, back-list}
 use Rattle.transform.specs.Reading.{CoefficientTables}
