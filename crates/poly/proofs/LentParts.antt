@@ -1,6 +1,6 @@
 -- The first n entries of an array, lent to a call that fills them and lent again: e is what the call left there, d the array before.
 -- Also words that a call computed, as elements. Assumes nothing.
-use mathlib.Core.Path.{_≡_, sym, ap, ap₂, _∙_}
+use mathlib.Core.Path.{_≡_, _∙_}
 use mathlib.Core.List.{List, _++_, map}
 use Prim.Native.Nat.{ℕ, _+_, _-_, _≤_, _<_}
 use native.Mathlib.Omega.{arith}
@@ -8,7 +8,6 @@ use lib.ListN.{length, take, drop, replicate, length-replicate}
 use Rattle.field.specs.Prime.{Prime}
 use Rattle.field.specs.Element.{Elem, of, words}
 use Rattle.field.proofs.Words.{of-results}
-use Rattle.domain.specs.Polynomial.{interpolate}
 pub use Rattle.domain.proofs.LentWords.{part-length, filled-within, filled-part, filled-length}
 
 module _ {q : Prime} where
@@ -17,25 +16,15 @@ module _ {q : Prime} where
       → map of (take n (e ++ drop n d)) ≡ l
   of-filled n d within e kept l made = of-results l (filled-part n d within e kept ∙ made)
 
-  -- and the polynomial that has them as its values
-  pub interpolate-part : (n : ℕ) (d : List ℕ) → n ≤ length d → (e : List ℕ) → length e ≡ length (take n d) → (l : List (Elem q)) → map of e ≡ l
-      → words (interpolate {q = q} (length (take n (e ++ drop n d))) (map of (take n (e ++ drop n d)))) ≡ words (interpolate n l)
-  interpolate-part n d within e kept l made =
-      ap₂ (λ (m : ℕ) (l : List (Elem q)). words (interpolate m l)) (sym (filled-length n d within e kept))
-      (ap (map of) (filled-part n d within e kept) ∙ made)
-
--- an order of two parts' lengths from that of their numbers
-pub parts-order : {m n m′ n′ : ℕ} → m ≡ m′ → n ≡ n′ → m ≤ n → m′ ≤ n′
-parts-order e d le = omega arith
-
+-- a bound of a part's length from that of its number
 pub part-order : {m m′ n : ℕ} → m ≡ m′ → m ≤ n → m′ ≤ n
 part-order e le = omega arith
 
+pub parts-order : {m n m′ n′ : ℕ} → m ≡ m′ → n ≡ n′ → m ≤ n → m′ ≤ n′
+parts-order e d le = omega arith
+
 -- a part of n + 1 entries
 module _ (n : ℕ) {m : ℕ} (e : n + 1 ≡ m) where
-  pub part-above : 0 < m
-  part-above = omega arith
-
   pub above-one : 0 < n → 1 < m
   above-one positive = omega arith
 

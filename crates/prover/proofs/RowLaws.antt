@@ -1,7 +1,7 @@
 -- h0 from the products of the rows' sums, and σ_M from the entries in one pass. Assumes nothing.
 use mathlib.Core.Path.{_≡_, sym, ap, ap₂, _∙_, subst}
 use mathlib.Core.List.{List, [], _∷_, _++_}
-use Prim.Native.Nat.{ℕ, _+_, _-_, _≤_, _<_}
+use Prim.Native.Nat.{ℕ, _+_, _≤_, _<_}
 use native.Mathlib.Numerals.{add-one}
 use native.Mathlib.Omega.{arith}
 use lib.ListN.{length, getD, take}
@@ -73,7 +73,7 @@ module _ (q : Prime) (rows columns : List (Elem q)) (es : List Entry) where
 module _ (q : Prime) (Q : Qualifies q) (k : Circuit) (W : WellFormed (q .p) k) {r : ℕ} (eR : k .|R| ≡ r) (ẑ : Poly q) (z : List (Elem q))
     (values : valuesOn (k .|C|) ẑ ≡ z) where
   -- ẑ_M from the rows' sums
-  abbrev pub imagePoly : MatrixName → Poly q
+  abbrev imagePoly : MatrixName → Poly q
   imagePoly M = interpolate r (tabulate r (rowSum k M z))
 
   image-agrees : (M : MatrixName) → imagePoly M ≡ agreeing (k .|R|) (image k ẑ M)

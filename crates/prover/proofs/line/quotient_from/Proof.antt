@@ -8,7 +8,7 @@ use lib.ListN.{length, getD, length-set, length-map}
 use Rattle.algebra.proofs.Division.{length-quotient}
 use Rattle.algebra.proofs.PolynomialLaws.{length-add, length-scale}
 use Rattle.field.specs.Prime.{Prime}
-use Rattle.field.specs.Element.{Elem, of, 𝟘, _⊕_, _⊗_, words}
+use Rattle.field.specs.Element.{Elem, of, _⊕_, _⊗_, words}
 use Rattle.field.proofs.ElementLaws.{primeRing}
 use Rattle.field.proofs.Words.{of-result}
 use Rattle.domain.specs.Polynomial.{Poly, _⊞_, _·_, quotient}

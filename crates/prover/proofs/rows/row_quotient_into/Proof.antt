@@ -8,7 +8,7 @@ use Rattle.algebra.specs.Lists.{tabulate}
 use Rattle.field.specs.Element.{Elem, of, words}
 use Rattle.domain.specs.Size.{isSize}
 use Rattle.domain.proofs.SizeLaws.{size-positive, size-bound}
-use Rattle.protocol.specs.Three.{MatrixName, A, B}
+use Rattle.protocol.specs.Three.{A, B}
 use Rattle.protocol.specs.Circuit.{rowSum}
 use Rattle.protocol.specs.Calls.{entriesOf}
 use Rattle.poly.proofs.LentParts.{part-length, filled-within, filled-length, of-filled, lent-length}
