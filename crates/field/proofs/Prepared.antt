@@ -1,5 +1,5 @@
--- The product by a prepared quotient: with Q = w·B / p and e = Q·x / B, where x is below B, w·x lies between e·p and (e + 2)·p, so it is e·p
--- with a rest below 2p. Also that the words in between fit. Assumes nothing.
+-- The product by a prepared quotient: with Q = w·B / p and e = Q·x / B, where x is below B, w·x lies between e·p and (e + 2)·p, so it is
+-- e·p with a rest below 2p. Also that the words in between fit. Assumes nothing.
 use mathlib.Core.Path.{_≡_, sym, ap, _∙_}
 use Prim.Native.Nat.{ℕ, _+_, _-_, _*_, _/_, _%_, _^_, _≤_, _<_}
 use native.Mathlib.Omega.{arith}

@@ -93,7 +93,8 @@ fn interpolate_in_place(p: u32, powers: &[u32], quotients: &[u32], out: &mut [u3
     requires { ⌜ 1 < p ⌝ }
     requires { ⌜ isSize (length (now out)) ≡ true ⌝ }
     requires { ⌜ (length (now out) ≤ length (now powers)) × (length (now out) ≤ length (now quotients)) ⌝ }
-    ensures { λ _. ⌜ ((q : Prime) → Known q p → CoefficientTables q (length (now (out .entry))) (now (powers .entry)) (now (quotients .entry))
+    ensures { λ _. ⌜ ((q : Prime) → Known q p
+        → CoefficientTables q (length (now (out .entry))) (now (powers .entry)) (now (quotients .entry))
         → now (out .exit) ≡ words (interpolate (length (now (out .entry))) (map (of {q = q}) (now (out .entry))))) ⌝ }
 {
     let n = out.len();
@@ -116,7 +117,8 @@ fn interpolate_four(
     requires { ⌜ isSize (length (now row)) ≡ true ⌝ }
     requires { ⌜ (length (now row) ≤ length (now powers)) × (length (now row) ≤ length (now quotients)) ⌝ }
     requires { ⌜ IndexLengths (length (now row)) (now row) (now col) (now rowcol) (now rowcolval) ⌝ }
-    ensures { λ _. ⌜ ((q : Prime) → Known q p → CoefficientTables q (length (now (row .entry))) (now (powers .entry)) (now (quotients .entry))
+    ensures { λ _. ⌜ ((q : Prime) → Known q p
+        → CoefficientTables q (length (now (row .entry))) (now (powers .entry)) (now (quotients .entry))
         → (now (row .exit) ≡ words (interpolate (length (now (row .entry))) (map (of {q = q}) (now (row .entry)))))
         × (now (col .exit) ≡ words (interpolate (length (now (col .entry))) (map (of {q = q}) (now (col .entry)))))
         × (now (rowcol .exit) ≡ words (interpolate (length (now (rowcol .entry))) (map (of {q = q}) (now (rowcol .entry)))))

@@ -68,7 +68,8 @@ module _ {q : Prime} (factor : ℕ) (input : List ℕ) where
 
   pub part-four : (w : Elem q) (from step : ℕ)
       → transform (primeRing q) 2 w (spread factor input from step 4)
-      ≡ four w (word-at-place from) (word-at-place (from + step)) (word-at-place (from + step + step)) (word-at-place (from + step + step + step))
+      ≡ four w (word-at-place from) (word-at-place (from + step)) (word-at-place (from + step + step))
+      (word-at-place (from + step + step + step))
   part-four w from step =
       let at-0 : from + step * 0 ≡ from = omega (arith, mul-zero step) in
       let at-1 : from + step * 1 ≡ from + step = omega arith in
@@ -79,7 +80,8 @@ module _ {q : Prime} (factor : ℕ) (input : List ℕ) where
       ∙ ap₂ (λ (m n : ℕ). four w (word-at-place from) (word-at-place (from + step)) (word-at-place m) (word-at-place n)) at-2 at-3
 
   pub part-joined : (k : ℕ) (w : Elem q) (from step : ℕ)
-      → join (primeRing q) (2 ^ k) w (part k (w ⊗ w) from (step + step)) (part k (w ⊗ w) (from + step) (step + step)) ≡ part (suc k) w from step
+      → join (primeRing q) (2 ^ k) w (part k (w ⊗ w) from (step + step)) (part k (w ⊗ w) (from + step) (step + step)) ≡ part (suc k) w
+      from step
   unfolding transform
   part-joined k w from step =
       ap₂ (join (primeRing q) (2 ^ k) w)
@@ -91,7 +93,8 @@ module _ {q : Prime} (factor : ℕ) (input : List ℕ) where
   part-whole k w size =
       ap (transform (primeRing q) k w)
       (equal-entries 𝟘 _ _
-      (length-tabulate (2 ^ k) (taken 0 1) ∙ sym size ∙ sym (length-map input (of {q = q})) ∙ sym (length-scale (primeRing q) (of factor) (map of input)))
+      (length-tabulate (2 ^ k) (taken 0 1) ∙ sym size ∙ sym (length-map input (of {q = q})) ∙ sym
+      (length-scale (primeRing q) (of factor) (map of input)))
       (λ i l.
       let place : 0 + 1 * i ≡ i = omega arith in
       getD-tabulate (2 ^ k) i (taken 0 1) 𝟘 (omega (arith, length-tabulate (2 ^ k) (taken 0 1)))

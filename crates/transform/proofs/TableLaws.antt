@@ -23,7 +23,8 @@ use Rattle.poly.proofs.LentParts.{array, returned, lent-length, back-is}
 use Rattle.transform.specs.Reading.{LevelOf, Levels, Prepared, Tables, ValueTables, CoefficientTables, Folded}
 
 module _ {q : Prime} where
-  pub levels-folded : (k : ℕ) (w : Elem q) (t : List ℕ) → ((i : ℕ) → 0 < i → i < 2 ^ k → getD t i 0 ≡ getD t (i + i) 0) → LevelOf (2 ^ k) w t
+  pub levels-folded : (k : ℕ) (w : Elem q) (t : List ℕ) → ((i : ℕ) → 0 < i → i < 2 ^ k → getD t i 0 ≡ getD t (i + i) 0)
+      → LevelOf (2 ^ k) w t
       → Levels (suc k) w t
   levels-folded zero w t doubled top = (top, tt)
   levels-folded (suc k) w t doubled top = (
@@ -31,7 +32,8 @@ module _ {q : Prime} where
     levels-folded k (w ⊗ w) t (λ i positive below. doubled i positive (omega (arith, twice k))) (λ i below.
         let place : 2 ^ k + i + (2 ^ k + i) ≡ 2 ^ suc k + (i + i) = omega (arith, twice k) in
         doubled (2 ^ k + i) (omega (arith, pow-pos k)) (omega (arith, twice k)) ∙ ap (λ (n : ℕ). getD t n 0) place
-        ∙ top (i + i) (omega (arith, twice k)) ∙ ap (λ (x : Elem q). x .word) (pow-add (primeRing q) w i i ∙ sym (mul-pow (primeRing q) w w i))),
+        ∙ top (i + i) (omega (arith, twice k)) ∙ ap (λ (x : Elem q). x .word)
+        (pow-add (primeRing q) w i i ∙ sym (mul-pow (primeRing q) w w i))),
   )
 
   -- a table d whose second half became e, the powers of w, and was folded to t
@@ -43,7 +45,8 @@ module _ {q : Prime} where
         → getD (take n d ++ (e ++ drop (length d - n) (drop n d))) (n + i) 0 ≡ pow (primeRing q) w i .word
     powers-at made i below =
         let front : length (take n d) ≡ n = length-take-le n d (omega arith) in
-        let e-length : length e ≡ n = ap length made ∙ length-rule-words (length (take (length d - n) (drop n d))) (pow (primeRing q) w) ∙ second-half in
+        let e-length : length e ≡ n =
+        ap length made ∙ length-rule-words (length (take (length d - n) (drop n d))) (pow (primeRing q) w) ∙ second-half in
         ap (λ (m : ℕ). getD (take n d ++ (e ++ drop (length d - n) (drop n d))) (m + i) 0) (sym front)
         ∙ getD-append-add (take n d) (e ++ drop (length d - n) (drop n d)) i 0
         ∙ List·getD-append e (drop (length d - n) (drop n d)) 0 i (omega arith)
@@ -81,7 +84,8 @@ module _ {q : Prime} where
       ∙ powers-at w d e t h both made i (omega arith))
 
   -- the last power of the root, as the code computes it
-  pub last-power : (n g last : ℕ) → g ≡ root {q = q} n .word → last ≡ power (of {q = q} g) (n - 1) .word → of {q = q} last ≡ element n (n - 1)
+  pub last-power : (n g last : ℕ) → g ≡ root {q = q} n .word → last ≡ power (of {q = q} g) (n - 1) .word
+      → of {q = q} last ≡ element n (n - 1)
   unfolding element
   last-power n g last is-root is-last =
       of-result _ is-last ∙ ap (λ (w : Elem q). power w (n - 1)) (of-result (root n) is-root) ∙ power-is-pow (root n) (n - 1)

@@ -18,5 +18,7 @@ pub record Shift {q : Prime} (n : ℕ) (s : Elem q) : Type 0 where
 -- with left and right the values of f and g: the coefficients of f, and the remainder and the quotient of f·g
 pub record ProductDivided (q : Prime) (left right factor rest out : List ℕ) : Type 0 where
   pub is-factor : factor ≡ words (interpolate (length left) (map (of {q = q}) left))
-  pub is-rest : rest ≡ words (remainder (length left) (interpolate (length left) (map (of {q = q}) left) ⊠ interpolate (length left) (map of right)))
-  pub is-quotient : out ≡ words (quotient (length left) (interpolate (length left) (map (of {q = q}) left) ⊠ interpolate (length left) (map of right)))
+  pub is-rest : rest
+      ≡ words (remainder (length left) (interpolate (length left) (map (of {q = q}) left) ⊠ interpolate (length left) (map of right)))
+  pub is-quotient : out
+      ≡ words (quotient (length left) (interpolate (length left) (map (of {q = q}) left) ⊠ interpolate (length left) (map of right)))

@@ -1,5 +1,7 @@
 // The transform by halves between the coefficients of a polynomial and its values on a domain, on words. The modulus p and the root g
-// are parameters; input words of p or more stand for their remainders. Results are field words.
+// are parameters; input words of p or more stand for their remainders. Results are field words. The powers that halves are joined with come
+// in a table by levels: the h words from place h on are the powers of a root of order 2h. A second table has the quotients that prepare
+// products by them.
 ghost use mathlib.Core.Path.{_≡_};
 ghost use mathlib.Core.Bool.{true};
 ghost use mathlib.Core.List.{List, _++_, map};
@@ -146,8 +148,8 @@ fn transform_four(
     out[3] = field::subtract_reduced(p, rest, turned);
 }
 
-// The words of the input at the places from, from + step, .., each times the factor, transformed into the slice. Two and four words are done
-// at once, which is what two halvings would do.
+// The words of the input at the places from, from + step, .., each times the factor, transformed into the slice. Two and four words are
+// done at once, which is what one and two halvings would do.
 fn transform(
     p: u32,
     factor: u32,
@@ -209,7 +211,8 @@ pub fn evaluate_with(p: u32, powers: &[u32], quotients: &[u32], f: &[u32], out: 
     requires { ⌜ 1 < p ⌝ }
     requires { ⌜ (length (now out) ≡ length (now f)) × (isSize (length (now f)) ≡ true) ⌝ }
     requires { ⌜ (length (now f) ≤ length (now powers)) × (length (now f) ≤ length (now quotients)) ⌝ }
-    ensures { λ _. ⌜ ((q : Prime) → Qualifies q → q .p ≡ p → ValueTables q (length (now (f .entry))) (now (powers .entry)) (now (quotients .entry))
+    ensures { λ _. ⌜ ((q : Prime) → Qualifies q → q .p ≡ p
+        → ValueTables q (length (now (f .entry))) (now (powers .entry)) (now (quotients .entry))
         → now (out .exit) ≡ words (valuesOn (length (now (f .entry))) (map (of {q = q}) (now (f .entry))))) ⌝ }
 {
     transform(p, 1, powers, quotients, f, 0, 1, out);

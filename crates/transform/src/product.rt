@@ -1,6 +1,6 @@
 // The product of two polynomials of length n, given by their values on the domain of size n, divided by v_D = Y^n - 1: its remainder from
-// values on the domain, and its quotient from values on a coset s·D too, on which v_D is the constant s^n - 1. Here root is g_n, and powers and
-// quotients are the tables of transforms of length n: for coefficients where nothing else is said.
+// values on the domain, and its quotient from values on a coset s·D too, on which v_D is the constant s^n - 1. Here root is g_n, and
+// powers and quotients are the tables of transforms of length n: for coefficients where nothing else is said.
 ghost use mathlib.Core.Path.{_≡_};
 ghost use mathlib.Core.Bool.{true};
 ghost use mathlib.Core.Logic.{_≢_};
@@ -122,13 +122,27 @@ fn coset_remainder_into(
         (twist (primeRing q) (of s) (map of (now (f .entry))) ⊠ twist (primeRing q) (of s) (map of (now (g .entry)))))) ⌝ }
 {
     let n = out.len();
-    let mut ahead = [0u32; 1024];
-    let mut shares = [0u32; 1024];
-    fill_tables(p, root, &mut ahead[..n], &mut shares[..n]);
+    let mut value_powers = [0u32; 1024];
+    let mut value_quotients = [0u32; 1024];
+    fill_tables(p, root, &mut value_powers[..n], &mut value_quotients[..n]);
     let mut left = [0u32; 1024];
-    coset_values_into(p, &ahead[..n], &shares[..n], s, f, &mut left[..n]);
+    coset_values_into(
+        p,
+        &value_powers[..n],
+        &value_quotients[..n],
+        s,
+        f,
+        &mut left[..n],
+    );
     let mut right = [0u32; 1024];
-    coset_values_into(p, &ahead[..n], &shares[..n], s, g, &mut right[..n]);
+    coset_values_into(
+        p,
+        &value_powers[..n],
+        &value_quotients[..n],
+        s,
+        g,
+        &mut right[..n],
+    );
     remainder_from(p, powers, quotients, &left[..n], &right[..n], out);
 }
 

@@ -9,6 +9,13 @@ use Rattle.field.proofs.Prepared.{high-bits-fit, estimate, estimate-bel
 use Rattle.field.proofs.multiply_prepared.Statement.{statement}
 use Rattle.field.proofs.multiply_prepared.Tie as tie
 
+-- the way back from a place in the code to an earlier one
+abbrev start-from-wrapping-sub-u64 : tie.After-wrapping-sub-u64 → tie.Start
+start-from-wrapping-sub-u64 c = c .before .before .before .before .before .before
+
+abbrev wide-from-wrapping-sub-u64 : tie.After-wrapping-sub-u64 → tie.After-wide
+wide-from-wrapping-sub-u64 c = c .before .before .before .before .before
+
 wide-requires : tie.Need-wide-requires
 wide-requires c κs = search needs
 
@@ -35,7 +42,8 @@ mul-wrapping-sub-u64-2 c =
     record {
       fits =
           product-below 32
-          (high-bits-fit 32 _ (product-below 32 (c .before .before .before .before .wide .ensures .1) (c .before .before .before .wide2 .ensures .1)))
+          (high-bits-fit 32 _
+          (product-below 32 (c .before .before .before .before .wide .ensures .1) (c .before .before .before .wide2 .ensures .1)))
           (c .wide5 .ensures .1);
     }
 
@@ -48,31 +56,33 @@ cast-low c = search needs
 -- what is left of the product, and that it fits
 module _ (c : tie.After-wrapping-sub-u64) where
   abbrev p : ℕ
-  p = c .before .before .before .before .before .before .args .p
+  p = start-from-wrapping-sub-u64 c .args .p
 
   abbrev w : ℕ
-  w = c .before .before .before .before .before .before .args .w
+  w = start-from-wrapping-sub-u64 c .args .w
 
   abbrev x : ℕ
-  x = c .before .before .before .before .before .before .args .x
+  x = start-from-wrapping-sub-u64 c .args .x
 
   abbrev quotient : ℕ
-  quotient = c .before .before .before .before .before .before .args .quotient
+  quotient = start-from-wrapping-sub-u64 c .args .quotient
 
   abbrev rest : ℕ
   rest = c .wrapping-sub-u64 .result
 
   known-rest : w < p → quotient ≡ w * 4294967296 / p → rest ≡ w * x - estimate p w x 4294967296 * p
   known-rest below prepared =
+      let of-quotient = wide-from-wrapping-sub-u64 c .wide .ensures .0 in
+      let of-x = c .before .before .before .before .wide2 .ensures .0 in
+      let of-p = c .before .wide5 .ensures .0 in
       let taken : _ ≡ estimate p w x 4294967296 * p =
-      ap₂ (λ (m n : ℕ). m / 4294967296 * n)
-      (ap₂ (λ (m n : ℕ). m * n) (c .before .before .before .before .before .wide .ensures .0 ∙ prepared) (c .before .before .before .before .wide2 .ensures .0))
-      (c .before .wide5 .ensures .0) in
+      ap₂ (λ (m n : ℕ). m / 4294967296 * n) (ap₂ (λ (m n : ℕ). m * n) (of-quotient ∙ prepared) of-x) of-p in
       let whole : _ ≡ w * x =
       ap₂ (λ (m n : ℕ). m * n) (c .before .before .before .wide3 .ensures .0) (c .before .before .wide4 .ensures .0) in
       unwrapped (2 ^ 64) rest (estimate p w x 4294967296 * p) (w * x)
       (ap (λ (n : ℕ). (rest + n) % 2 ^ 64) (sym taken) ∙ c .wrapping-sub-u64 .ensures ∙ whole)
-      (omega arith) (estimate-below p w x 4294967296 (omega arith) (omega arith) (omega arith)) (product-below 32 (omega arith) (omega arith))
+      (omega arith) (estimate-below p w x 4294967296 (omega arith) (omega arith) (omega arith))
+      (product-below 32 (omega arith) (omega arith))
 
   low : p < 2 ^ 31 → w < p → quotient ≡ w * 4294967296 / p → rest % 4294967296 ≡ rest
   low small below prepared =

@@ -16,10 +16,30 @@ use Rattle.index.proofs.IndexValues.{Lengths, K-size, index-interpolate
 use Rattle.index.proofs.index_matrix_into.Statement.{statement}
 use Rattle.index.proofs.index_matrix_into.Tie as tie
 
+-- the way back from a place in the code to an earlier one
+abbrev start-from-index-values-into : tie.After-index-values-into → tie.Start
+start-from-index-values-into c = c .before .before .before .before .before .before .before .before .before .before
+
+abbrev index-values-into-from-root-of : tie.After-root-of → tie.After-index-values-into
+index-values-into-from-root-of c = c .before .before .before .before .before .before .before .before .before
+
+abbrev index-values-into-from-fill-inverse-tables : tie.After-fill-inverse-tables → tie.After-index-values-into
+index-values-into-from-fill-inverse-tables c = index-values-into-from-root-of (c .before .before .before)
+
+abbrev fill-inverse-tables-from-interpolate-four : tie.After-interpolate-four → tie.After-fill-inverse-tables
+fill-inverse-tables-from-interpolate-four c = c .before .before .before .before .before .before .before .before .before
+
+abbrev root-of-from-fill-inverse-tables : tie.After-fill-inverse-tables → tie.After-root-of
+root-of-from-fill-inverse-tables c = c .before .before .before
+
+abbrev root-of-from-interpolate-four : tie.After-interpolate-four → tie.After-root-of
+root-of-from-interpolate-four c =
+    root-of-from-fill-inverse-tables (c .before .before .before .before .before .before .before .before .before)
+
 -- the words of the values, as many in each list as the first slice has
 module _ (c : tie.After-index-values-into) where
   abbrev start : tie.Start
-  start = c .before .before .before .before .before .before .before .before .before .before
+  start = start-from-index-values-into c
 
   abbrev values : Index (List ℕ)
   values =
@@ -46,7 +66,7 @@ module _ (c : tie.After-index-values-into) where
 -- the tables in their arrays
 module _ (c : tie.After-fill-inverse-tables) where
   abbrev at-values : tie.After-index-values-into
-  at-values = c .before .before .before .before .before .before .before .before .before .before .before .before
+  at-values = index-values-into-from-fill-inverse-tables c
 
   abbrev m : ℕ
   m = n at-values
@@ -86,20 +106,20 @@ root-of-requires : tie.Need-root-of-requires
 root-of-requires c κs = size-is _ (long (c .before .before .before .before .before .before .before .before) .row-length)
 
 array-borrow-prefix-powers : tie.Need-array-borrow-prefix-powers
-array-borrow-prefix-powers c = fits (c .before .before .before .before .before .before .before .before .before)
+array-borrow-prefix-powers c = fits (index-values-into-from-root-of c)
 
 slice-aggregate-fill-inverse-tables : tie.Need-slice-aggregate-fill-inverse-tables
-slice-aggregate-fill-inverse-tables c = lent-length 1024 (fits (c .before .before .before .before .before .before .before .before .before .before))
+slice-aggregate-fill-inverse-tables c = lent-length 1024 (fits (index-values-into-from-root-of (c .before)))
 
 array-borrow-prefix-quotients : tie.Need-array-borrow-prefix-quotients
-array-borrow-prefix-quotients c = fits (c .before .before .before .before .before .before .before .before .before .before)
+array-borrow-prefix-quotients c = fits (index-values-into-from-root-of (c .before))
 
 slice-aggregate-fill-inverse-tables-2 : tie.Need-slice-aggregate-fill-inverse-tables-2
-slice-aggregate-fill-inverse-tables-2 c = lent-length 1024 (fits (c .before .before .before .before .before .before .before .before .before .before .before))
+slice-aggregate-fill-inverse-tables-2 c = lent-length 1024 (fits (index-values-into-from-root-of (c .before .before)))
 
 fill-inverse-tables-requires : tie.Need-fill-inverse-tables-requires
 fill-inverse-tables-requires c κs =
-    let v = c .before .before .before .before .before .before .before .before .before .before .before in
+    let v = index-values-into-from-root-of (c .before .before) in
     let part = lent-length 1024 (fits v) in
     (start v .pre .0, (sym part ∙ part, ap isSize (sym part) ∙ size-is _ (long v .row-length)))
 
@@ -153,11 +173,12 @@ same-length-4 c = search needs
 
 returns : tie.Need-returns
 returns c q known k M er ec matrix =
-    let t = c .before .before .before .before .before .before .before .before .before .before .before .before .before .before .before .before .before in
+    let t = fill-inverse-tables-from-interpolate-four (c .before .before .before .before .before .before .before .before) in
     let v = at-values t in
     let s = start v in
     let call = t .fill-inverse-tables in
-    let root-word = c .before .before .before .before .before .before .before .before .before .before .before .before .before .before .before .before .before .before .before .before .root-of .ensures q known in
+    let root-word =
+    root-of-from-interpolate-four (c .before .before .before .before .before .before .before .before) .root-of .ensures q known in
     let (row, col, rowcol, rowcolval) =
     c .before .before .before .before .before .before .before .before .interpolate-four .ensures q known
     (coefficients-lent q 1024 (fits v) (powers t) (quotients t) (call .kept .1 .1 .0) (call .kept .1 .1 .1 .0)

@@ -16,9 +16,16 @@ use Rattle.transform.specs.Reading.{CoefficientTables}
 use Rattle.index.proofs.interpolate_in_place.Statement.{statement}
 use Rattle.index.proofs.interpolate_in_place.Tie as tie
 
+-- the way back from a place in the code to an earlier one
+abbrev start-from-copy-front : tie.After-copy-front → tie.Start
+start-from-copy-front c = c .before .before .before .before .before .before
+
+abbrev copy-front-from-interpolate-with : tie.After-interpolate-with → tie.After-copy-front
+copy-front-from-interpolate-with c = c .before .before .before .before
+
 -- the start, from the copy
 abbrev start : tie.After-copy-front → tie.Start
-start c = c .before .before .before .before .before .before
+start c = start-from-copy-front c
 
 -- the first words of the array are the values
 copied : (c : tie.After-copy-front) → let l : List ℕ = start c .args .out .now in take (length l) (c .copy-front .last .1 .0) ≡ l
@@ -57,7 +64,7 @@ same-length c = search needs
 
 returns : tie.Need-returns
 returns c q known tables =
-    let f = c .before .before .before .before .before .before in
+    let f = copy-front-from-interpolate-with (c .before .before) in
     let a = start f .args in
     c .before .before .interpolate-with .ensures q (known-qualifies known) (known .value)
     (subst (λ (m : ℕ). CoefficientTables q m (a .powers .now) (a .quotients .now)) (ap length (sym (copied f))) tables)

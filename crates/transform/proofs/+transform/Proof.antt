@@ -68,20 +68,66 @@ asked t p from step m powers quotients h n whole e less fewer positive size with
 )
 
 module _ (t : ℕ) where
+  -- the way back from a place in the code to an earlier one
+  abbrev start-from-else3 : lts.Else3 (claims t) (at t) transform.Post → lts.Start (claims t) (at t) transform.Post
+  start-from-else3 c = c .before .before .before .before .before .before .before
+
+  abbrev start-from-then1 : lts.Then1 (claims t) (at t) transform.Post → lts.Start (claims t) (at t) transform.Post
+  start-from-then1 c = c .before .before .before .before .before
+
+  abbrev start-from-then2 : lts.Then2 (claims t) (at t) transform.Post → lts.Start (claims t) (at t) transform.Post
+  start-from-then2 c = c .before .before .before .before .before .before
+
+  abbrev start-from-transform-two : lts.After-transform-two (claims t) (at t) transform.Post → lts.Start (claims t) (at t) transform.Post
+  start-from-transform-two c = c .before .before .before .before .before .before .before .before
+
+  abbrev start-from-then3 : lts.Then3 (claims t) (at t) transform.Post → lts.Start (claims t) (at t) transform.Post
+  start-from-then3 c = c .before .before .before .before .before .before .before
+
+  abbrev start-from-transform-four : lts.After-transform-four (claims t) (at t) transform.Post → lts.Start (claims t) (at t) transform.Post
+  start-from-transform-four c = start-from-then3 (c .before .before)
+
+  abbrev start-from-transform : lts.After-transform (claims t) (at t) transform.Post → lts.Start (claims t) (at t) transform.Post
+  start-from-transform c = start-from-else3 (c .before .before)
+
+  abbrev start-from-transform2 : lts.After-transform2 (claims t) (at t) transform.Post → lts.Start (claims t) (at t) transform.Post
+  start-from-transform2 c = start-from-transform (c .before .before .before .before)
+
+  abbrev transform2-from-join : lts.After-join (claims t) (at t) transform.Post → lts.After-transform2 (claims t) (at t) transform.Post
+  transform2-from-join c = c .before .before .before .before
+
+  abbrev transform-from-join : lts.After-join (claims t) (at t) transform.Post → lts.After-transform (claims t) (at t) transform.Post
+  transform-from-join c = c .before .before .before .before .before .before .before .before
+
+  abbrev else3-from-transform2 : lts.After-transform2 (claims t) (at t) transform.Post → lts.Else3 (claims t) (at t) transform.Post
+  else3-from-transform2 c = c .before .before .before .before .before .before
+
+  abbrev else3-from-join : lts.After-join (claims t) (at t) transform.Post → lts.Else3 (claims t) (at t) transform.Post
+  else3-from-join c = else3-from-transform2 (c .before .before .before .before)
+
+  abbrev start-from-join : lts.After-join (claims t) (at t) transform.Post → lts.Start (claims t) (at t) transform.Post
+  start-from-join c = start-from-transform2 (c .before .before .before .before)
+
+  abbrev else1-from-transform2 : lts.After-transform2 (claims t) (at t) transform.Post → lts.Else1 (claims t) (at t) transform.Post
+  else1-from-transform2 c = c .before .before .before .before .before .before .before .before
+
+  abbrev else1-from-join : lts.After-join (claims t) (at t) transform.Post → lts.Else1 (claims t) (at t) transform.Post
+  else1-from-join c = else1-from-transform2 (c .before .before .before .before)
+
   -- where the slice has two halves
   halves : (c : lts.Else3 (claims t) (at t) transform.Post)
-      → Halved (length (c .before .before .before .before .before .before .before .args .out .now)) (c .before .before .before .before .before .before .before .args .from)
-      (c .before .before .before .before .before .before .before .args .step) (length (c .before .before .before .before .before .before .before .args .input .now))
+      → Halved (length (start-from-else3 c .args .out .now)) (start-from-else3 c .args .from)
+      (start-from-else3 c .args .step) (length (start-from-else3 c .args .input .now))
   halves c =
-      let s = c .before .before .before .before .before .before .before in
+      let s = start-from-else3 c in
       halved (length (s .args .out .now)) (s .args .from) (s .args .step) (length (s .args .input .now))
       (s .pre .1 .1 .0) (c .before .before .if1 .left) (s .pre .1 .1 .1 .0)
 
   mul-multiply : lts.Need-mul-multiply (claims t) (at t) transform.Post
-  mul-multiply c = omega (arith, c .before .before .before .before .before .pre .1 .1 .1 .0)
+  mul-multiply c = omega (arith, start-from-then1 c .pre .1 .1 .1 .0)
 
   shared-slice-read-multiply : lts.Need-shared-slice-read-multiply (claims t) (at t) transform.Post
-  shared-slice-read-multiply c = omega (arith, c .before .before .before .before .before .before .pre .1 .1 .1 .0)
+  shared-slice-read-multiply c = omega (arith, start-from-then1 (c .before) .pre .1 .1 .1 .0)
 
   multiply-requires : lts.Need-multiply-requires (claims t) (at t) transform.Post
   multiply-requires c κs = search needs
@@ -94,7 +140,7 @@ module _ (t : ℕ) where
 
   returns : lts.Need-returns (claims t) (at t) transform.Post
   returns c q e small w k size levels prepared =
-      let a = c .before .before .before .before .before .before .before .args in
+      let a = start-from-then1 (c .before .before) .args in
       let one : length (a .out .now) ≡ 1 = c .before .before .if1 .taken in
       one-set (a .out .now) (c .multiply .result) one
       ∙ ap (λ (word : ℕ). word ∷ []) (c .multiply .ensures q e)
@@ -103,7 +149,7 @@ module _ (t : ℕ) where
 
   transform-two-requires : lts.Need-transform-two-requires (claims t) (at t) transform.Post
   transform-two-requires c κs =
-      let s = c .before .before .before .before .before .before .before in
+      let s = start-from-then2 (c .before) in
       let two : length (s .args .out .now) ≡ 2 = c .before .if2 .taken in
       (s .pre .1 .0, (two, omega (arith, s .pre .1 .1 .1 .0, ap (λ (n : ℕ). s .args .step * (n - 1)) two)))
 
@@ -112,14 +158,14 @@ module _ (t : ℕ) where
 
   returns-2 : lts.Need-returns-2 (claims t) (at t) transform.Post
   returns-2 c q e small w k size levels prepared =
-      let a = c .before .before .before .before .before .before .before .before .before .before .args in
+      let a = start-from-transform-two (c .before .before) .args in
       let two : length (a .out .now) ≡ 2 = c .before .before .before .before .if2 .taken in
       c .before .before .transform-two .ensures q e w
       ∙ ap (λ (j : ℕ). words (part (a .factor) (a .input .now) j w (a .from) (a .step))) (sym (exponent-one k (sym size ∙ two)))
 
   transform-four-requires : lts.Need-transform-four-requires (claims t) (at t) transform.Post
   transform-four-requires c κs =
-      let s = c .before .before .before .before .before .before .before .before in
+      let s = start-from-then3 (c .before) in
       let four : length (s .args .out .now) ≡ 4 = c .before .if3 .taken in
       let in-powers = s .pre .1 .1 .1 .1 .0 in
       let in-quotients = s .pre .1 .1 .1 .1 .1 in (
@@ -138,7 +184,7 @@ module _ (t : ℕ) where
 
   returns-3 : lts.Need-returns-3 (claims t) (at t) transform.Post
   returns-3 c q e small w k size levels prepared =
-      let a = c .before .before .before .before .before .before .before .before .before .before .before .args in
+      let a = start-from-transform-four (c .before .before) .args in
       let two : k ≡ 2 = exponent-two k (sym size ∙ c .before .before .before .before .if3 .taken) in
       c .before .before .transform-four .ensures q e small w (subst (λ (j : ℕ). Levels j w (a .powers .now)) two levels .0) prepared
       ∙ ap (λ (j : ℕ). words (part (a .factor) (a .input .now) j w (a .from) (a .step))) (sym two)
@@ -154,44 +200,45 @@ module _ (t : ℕ) where
 
   slice-aggregate-transform : lts.Need-slice-aggregate-transform (claims t) (at t) transform.Post
   slice-aggregate-transform c =
-      let a = c .before .before .before .before .before .before .before .before .args in
+      let a = start-from-else3 (c .before) .args in
       sym (length-take-le (length (a .out .now) / 2) (a .out .now) (omega arith))
 
   -- what the first call left is as long as half
   first-kept : (c : lts.After-transform (claims t) (at t) transform.Post)
-      → length (c .transform .last .1 .1 .1 .1 .1 .1 .1 .0) ≡ length (c .before .before .before .before .before .before .before .before .before .args .out .now) / 2
+      → length (c .transform .last .1 .1 .1 .1 .1 .1 .1 .0) ≡ length (start-from-transform c .args .out .now) / 2
   first-kept c =
-      let a = c .before .before .before .before .before .before .before .before .before .args in
+      let a = start-from-transform c .args in
       c .transform .kept .1 .1 .1 .1 .1 .1 .1 .0 ∙ length-take-le (length (a .out .now) / 2) (a .out .now) (omega arith)
 
   second-kept : (c : lts.After-transform2 (claims t) (at t) transform.Post)
-      → length (c .transform2 .last .1 .1 .1 .1 .1 .1 .1 .0) ≡ length (c .before .before .before .before .before .before .before .before .before .before .before .before .before .args .out .now) / 2
+      → length (c .transform2 .last .1 .1 .1 .1 .1 .1 .1 .0) ≡ length (start-from-transform2 c .args .out .now) / 2
   second-kept c =
       let f = c .before .before .before .before in
-      let d : List ℕ = c .before .before .before .before .before .before .before .before .before .before .before .before .before .args .out .now in
+      let d : List ℕ = start-from-transform2 c .args .out .now in
       c .transform2 .kept .1 .1 .1 .1 .1 .1 .1 .0
       ∙ second-length (length d / 2) d (f .transform .last .1 .1 .1 .1 .1 .1 .1 .0) (halves (f .before .before) .doubled) (first-kept f)
 
   -- after both calls the slice is what they left, one after the other
   second-in : (c : lts.After-transform2 (claims t) (at t) transform.Post)
       → (let f = c .before .before .before .before in
-      let d = c .before .before .before .before .before .before .before .before .before .before .before .before .before .args .out .now in
+      let d = start-from-transform2 c .args .out .now in
       let e = f .transform .last .1 .1 .1 .1 .1 .1 .1 .0 in
       let w = e ++ drop (length d / 2) d in
       take (length d / 2) w ++ (c .transform2 .last .1 .1 .1 .1 .1 .1 .1 .0 ++ drop (length w - length d / 2) (drop (length d / 2) w))
       ≡ e ++ c .transform2 .last .1 .1 .1 .1 .1 .1 .1 .0)
   second-in c =
       let f = c .before .before .before .before in
-      let d : List ℕ = c .before .before .before .before .before .before .before .before .before .before .before .before .before .args .out .now in
+      let d : List ℕ = start-from-transform2 c .args .out .now in
       both-halves (length d / 2) d (f .transform .last .1 .1 .1 .1 .1 .1 .1 .0) (halves (f .before .before) .doubled) (first-kept f)
       (c .transform2 .last .1 .1 .1 .1 .1 .1 .1 .0) (second-kept c)
 
   both-length : (c : lts.After-transform2 (claims t) (at t) transform.Post)
       → (let f = c .before .before .before .before in
-      let d = c .before .before .before .before .before .before .before .before .before .before .before .before .before .args .out .now in
+      let d = start-from-transform2 c .args .out .now in
       let e = f .transform .last .1 .1 .1 .1 .1 .1 .1 .0 in
       let w = e ++ drop (length d / 2) d in
-      length (take (length d / 2) w ++ (c .transform2 .last .1 .1 .1 .1 .1 .1 .1 .0 ++ drop (length w - length d / 2) (drop (length d / 2) w))) ≡ length d)
+      length (take (length d / 2) w ++ (c .transform2 .last .1 .1 .1 .1 .1 .1 .1 .0 ++ drop (length w - length d / 2)
+      (drop (length d / 2) w))) ≡ length d)
   both-length c =
       let f = c .before .before .before .before in
       ap length (second-in c) ∙ length-append (f .transform .last .1 .1 .1 .1 .1 .1 .1 .0) (c .transform2 .last .1 .1 .1 .1 .1 .1 .1 .0)
@@ -199,12 +246,13 @@ module _ (t : ℕ) where
 
   transform-requires : lts.Need-transform-requires (claims t) (at t) transform.Post
   transform-requires c κs =
-      let s = c .before .before .before .before .before .before .before .before in
+      let s = start-from-else3 (c .before) in
       let a = s .args in
       let d : List ℕ = a .out .now in
       let h = halves (c .before) in
       asked t (a .p) (a .from) (a .step) (length (a .input .now)) (length (a .powers .now)) (length (a .quotients .now)) (length d / 2)
-      (length (take (length d / 2) d)) (length d) (length-take-le (length d / 2) d (omega arith)) (omega (arith, s .pre .0, h .doubled, h .some))
+      (length (take (length d / 2) d)) (length d) (length-take-le (length d / 2) d (omega arith))
+      (omega (arith, s .pre .0, h .doubled, h .some))
       (omega arith) (s .pre .1 .0) (h .size) (h .even) (s .pre .1 .1 .1 .1 .0) (s .pre .1 .1 .1 .1 .1)
 
   mul-transform : lts.Need-mul-transform (claims t) (at t) transform.Post
@@ -221,12 +269,13 @@ module _ (t : ℕ) where
 
   transform-requires-2 : lts.Need-transform-requires-2 (claims t) (at t) transform.Post
   transform-requires-2 c κs =
-      let s = c .before .before .before .before .before .before .before .before .before .before .before .before in
+      let s = start-from-transform (c .before .before .before) in
       let f = c .before .before .before in
       let a = s .args in
       let d : List ℕ = a .out .now in
       let h = halves (c .before .before .before .before .before) in
-      asked t (a .p) (a .from + a .step) (a .step) (length (a .input .now)) (length (a .powers .now)) (length (a .quotients .now)) (length d / 2) _
+      asked t (a .p) (a .from + a .step) (a .step) (length (a .input .now)) (length (a .powers .now)) (length (a .quotients .now))
+      (length d / 2) _
       (length d) (second-length (length d / 2) d (f .transform .last .1 .1 .1 .1 .1 .1 .1 .0) (h .doubled) (first-kept f))
       (omega (arith, s .pre .0, h .doubled, h .some)) (omega arith) (s .pre .1 .0) (h .size) (h .odd) (s .pre .1 .1 .1 .1 .0)
       (s .pre .1 .1 .1 .1 .1)
@@ -234,23 +283,23 @@ module _ (t : ℕ) where
   join-requires : lts.Need-join-requires (claims t) (at t) transform.Post
   join-requires c κs =
       let g = c .before .before .before in
-      let s = c .before .before .before .before .before .before .before .before .before .before .before .before .before .before .before .before in
+      let s = start-from-transform2 (c .before .before .before) in
       let a = s .args in (
         subst⁻¹ (λ (n : ℕ). n ≤ length (a .powers .now)) (both-length g) (s .pre .1 .1 .1 .1 .0),
         subst⁻¹ (λ (n : ℕ). n ≤ length (a .quotients .now)) (both-length g) (s .pre .1 .1 .1 .1 .1),
       )
 
   same-length-4 : lts.Need-same-length-4 (claims t) (at t) transform.Post
-  same-length-4 c = c .before .before .join .kept .1 .1 .1 .0 ∙ both-length (c .before .before .before .before .before .before)
+  same-length-4 c = c .before .before .join .kept .1 .1 .1 .0 ∙ both-length (transform2-from-join (c .before .before))
 
   returns-4 : lts.Need-returns-4 (claims t) (at t) transform.Post
   returns-4 c q e small w k size levels prepared =
-      let g = c .before .before .before .before .before .before in
-      let f = c .before .before .before .before .before .before .before .before .before .before in
-      let l = c .before .before .before .before .before .before .before .before .before .before .before .before in
-      let a = c .before .before .before .before .before .before .before .before .before .before .before .before .before .before .before .before .before .before .before .args in
+      let g = transform2-from-join (c .before .before) in
+      let f = transform-from-join (c .before .before) in
+      let l = else3-from-join (c .before .before) in
+      let a = start-from-join (c .before .before) .args in
       let n : ℕ = length (a .out .now) in
-      let (exponent, half) = exponent-less n k size (c .before .before .before .before .before .before .before .before .before .before .before .before .before .before .if1 .left) in
+      let (exponent, half) = exponent-less n k size (else1-from-join (c .before .before) .if1 .left) in
       let both : Levels (suc (k - 1)) w (a .powers .now) = subst⁻¹ (λ (j : ℕ). Levels j w (a .powers .now)) exponent levels in
       let even : List (Elem q) = part (a .factor) (a .input .now) (k - 1) (w ⊗ w) (a .from) (a .step + a .step) in
       let odd : List (Elem q) = part (a .factor) (a .input .now) (k - 1) (w ⊗ w) (a .from + a .step) (a .step + a .step) in
@@ -258,9 +307,11 @@ module _ (t : ℕ) where
       f .transform .ensures q e small (w ⊗ w) (k - 1) (length-take-le (n / 2) (a .out .now) (omega arith) ∙ half) (both .1) prepared in
       let is-odd : g .transform2 .last .1 .1 .1 .1 .1 .1 .1 .0 ≡ words odd =
       g .transform2 .ensures q e small (w ⊗ w) (k - 1)
-      (second-length (n / 2) (a .out .now) (f .transform .last .1 .1 .1 .1 .1 .1 .1 .0) (halves l .doubled) (first-kept f) ∙ half) (both .1) prepared in
+      (second-length (n / 2) (a .out .now) (f .transform .last .1 .1 .1 .1 .1 .1 .1 .0) (halves l .doubled) (first-kept f) ∙ half)
+      (both .1) prepared in
       let same : n / 2 ≡ _ = ap (λ (m : ℕ). m / 2) (sym (both-length g)) in
-      c .before .before .join .ensures q e small w (subst (λ (m : ℕ). LevelOf m w (a .powers .now)) (sym half ∙ same) (both .0)) prepared even odd
+      c .before .before .join .ensures q e small w (subst (λ (m : ℕ). LevelOf m w (a .powers .now)) (sym half ∙ same) (both .0)) prepared
+      even odd
       (sym (length-words even) ∙ ap length (sym is-even) ∙ first-kept f ∙ same)
       (sym (length-words odd) ∙ ap length (sym is-odd) ∙ second-kept g ∙ same)
       (second-in g ∙ ap₂ _++_ is-even is-odd)

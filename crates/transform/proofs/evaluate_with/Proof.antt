@@ -18,6 +18,10 @@ use Rattle.transform.proofs.TableLaws.{prepared-by-value, below-by-valu
 use Rattle.transform.proofs.evaluate_with.Statement.{statement}
 use Rattle.transform.proofs.evaluate_with.Tie as tie
 
+-- the way back from a place in the code to an earlier one
+abbrev start-from-transform : tie.After-transform → tie.Start
+start-from-transform c = c .before .before .before .before .before .before
+
 transform-requires : tie.Need-transform-requires
 transform-requires c κs =
     let s = c .before .before .before .before .before in
@@ -34,7 +38,7 @@ same-length c = search needs
 
 returns : tie.Need-returns
 returns c q Q e tables =
-    let s = c .before .before .before .before .before .before .before .before in
+    let s = start-from-transform (c .before .before) in
     let a = s .args in
     let f : Poly q = map of (a .f .now) in
     let n : ℕ = length (a .f .now) in

@@ -13,13 +13,20 @@ use Rattle.transform.proofs.TableLaws.{coefficients-lent}
 use Rattle.transform.proofs.interpolate_into.Statement.{statement}
 use Rattle.transform.proofs.interpolate_into.Tie as tie
 
+-- the way back from a place in the code to an earlier one
+abbrev start-from-fill-inverse-tables : tie.After-fill-inverse-tables → tie.Start
+start-from-fill-inverse-tables c = c .before .before .before .before .before
+
+abbrev fill-inverse-tables-from-interpolate-with : tie.After-interpolate-with → tie.After-fill-inverse-tables
+fill-inverse-tables-from-interpolate-with c = c .before .before .before .before .before .before
+
 bound : (c : tie.Start) → length (c .args .values .now) ≤ 1024
 bound c = size-bound (length (c .args .values .now)) (c .pre .1 .1)
 
 -- the tables in their arrays
 module _ (c : tie.After-fill-inverse-tables) where
   abbrev start : tie.Start
-  start = c .before .before .before .before .before
+  start = start-from-fill-inverse-tables c
 
   abbrev n : ℕ
   n = length (start .args .values .now)
@@ -55,20 +62,24 @@ fill-inverse-tables-requires c κs =
     (s .pre .0, (sym part ∙ part, ap isSize (sym part) ∙ s .pre .1 .1))
 
 array-share-prefix-powers : tie.Need-array-share-prefix-powers
-array-share-prefix-powers c = back-holds 1024 (bound (c .before .before .before .before .before .before .before)) (powers (c .before .before)) (c .before .before .fill-inverse-tables .kept .1 .1 .0)
+array-share-prefix-powers c =
+    let t = c .before .before in
+    back-holds 1024 (bound (start t)) (powers t) (t .fill-inverse-tables .kept .1 .1 .0)
 
 slice-aggregate-interpolate-with : tie.Need-slice-aggregate-interpolate-with
 slice-aggregate-interpolate-with c = powers-length (c .before .before .before)
 
 array-share-prefix-quotients : tie.Need-array-share-prefix-quotients
-array-share-prefix-quotients c = back-holds 1024 (bound (c .before .before .before .before .before .before .before .before)) (quotients (c .before .before .before)) (c .before .before .before .fill-inverse-tables .kept .1 .1 .1 .0)
+array-share-prefix-quotients c =
+    let t = c .before .before .before in
+    back-holds 1024 (bound (start t)) (quotients t) (t .fill-inverse-tables .kept .1 .1 .1 .0)
 
 slice-aggregate-interpolate-with-2 : tie.Need-slice-aggregate-interpolate-with-2
 slice-aggregate-interpolate-with-2 c = quotients-length (c .before .before .before .before)
 
 interpolate-with-requires : tie.Need-interpolate-with-requires
 interpolate-with-requires c κs =
-    let s = c .before .before .before .before .before .before .before .before .before .before in
+    let s = start-from-fill-inverse-tables (c .before .before .before .before .before) in
     let t = c .before .before .before .before .before in
     (s .pre .0, (s .pre .1, (omega (arith, powers-length t), omega (arith, quotients-length t))))
 
@@ -77,7 +88,7 @@ same-length c = search needs
 
 returns : tie.Need-returns
 returns c q Q e root-word =
-    let t = c .before .before .before .before .before .before .before .before in
+    let t = fill-inverse-tables-from-interpolate-with (c .before .before) in
     let call = t .fill-inverse-tables in
     let fits = bound (start t) in
     c .before .before .interpolate-with .ensures q Q e

@@ -19,15 +19,24 @@ use Rattle.transform.proofs.TableLaws.{prepared-by-value, below-by-valu
 use Rattle.transform.proofs.interpolate_with.Statement.{statement}
 use Rattle.transform.proofs.interpolate_with.Tie as tie
 
+-- the way back from a place in the code to an earlier one
+abbrev start-from-size-inverse : tie.After-size-inverse → tie.Start
+start-from-size-inverse c = c .before .before .before .before .before
+
+abbrev start-from-transform : tie.After-transform → tie.Start
+start-from-transform c = c .before .before .before .before .before .before .before
+
 cast-size-inverse : tie.Need-cast-size-inverse
-cast-size-inverse c = omega (arith, size-bound (length (c .before .before .before .before .args .values .now)) (c .before .before .before .before .pre .1 .0 .1))
+cast-size-inverse c =
+    let s = c .before .before .before .before in
+    omega (arith, size-bound (length (s .args .values .now)) (s .pre .1 .0 .1))
 
 size-inverse-requires : tie.Need-size-inverse-requires
 size-inverse-requires c κs = search needs
 
 transform-requires : tie.Need-transform-requires
 transform-requires c κs =
-    let s = c .before .before .before .before .before .before in
+    let s = start-from-size-inverse (c .before) in
     let n : ℕ = length (s .args .values .now) in
     let same : length (s .args .out .now) ≡ n = s .pre .1 .0 .0 in
     let in-powers : n ≤ length (s .args .powers .now) = s .pre .1 .1 .0 in
@@ -41,14 +50,14 @@ same-length c = search needs
 
 returns : tie.Need-returns
 returns c q Q e tables =
-    let s = c .before .before .before .before .before .before .before .before .before in
+    let s = start-from-transform (c .before .before) in
     let a = s .args in
     let vs : List (Elem q) = map of (a .values .now) in
     let n : ℕ = length (a .values .now) in
     let (k, within, size) = size-is-power n (s .pre .1 .0 .1) in
     let share = c .before .before .before .before .size-inverse in
-    c .before .before .transform .ensures q e (below-by-value e (Q .small)) (element n (n - 1)) k (s .pre .1 .0 .0 ∙ size) (tables k size .levels)
-    (prepared-by-value (a .powers .now) (a .quotients .now) e (tables k size .prepared))
+    c .before .before .transform .ensures q e (below-by-value e (Q .small)) (element n (n - 1)) k (s .pre .1 .0 .0 ∙ size)
+    (tables k size .levels) (prepared-by-value (a .powers .now) (a .quotients .now) e (tables k size .prepared))
     ∙ ap words (part-whole (share .result) (a .values .now) k (element n (n - 1)) size
     ∙ ap (λ (m : ℕ). transform (primeRing q) k (element m (m - 1)) (of (share .result) · vs)) size
     ∙ toCoefficients-words Q k within (a .values .now) size (share .result)

@@ -60,7 +60,8 @@ module _ {q : Prime} (h : ℕ) (v : Elem q) (e o : List (Elem q)) (even-length :
 
   module _ (i : ℕ) (below : i < h) where
     even-word : getD (so-far v e o h i) i 0 ≡ getD e i 𝟘 .word
-    even-word = even-at h plus-words minus-words (words e) (words o) plus-length minus-length first-length second-length i below ∙ word-at e i
+    even-word =
+        even-at h plus-words minus-words (words e) (words o) plus-length minus-length first-length second-length i below ∙ word-at e i
 
     odd-word : getD (so-far v e o h i) (h + i) 0 ≡ getD o i 𝟘 .word
     odd-word = odd-at h plus-words minus-words (words e) (words o) plus-length minus-length first-length second-length i below ∙ word-at o i

@@ -10,6 +10,10 @@ use Rattle.transform.proofs.Parts.{word-at-place, part-two}
 use Rattle.transform.proofs.transform_two.Statement.{statement}
 use Rattle.transform.proofs.transform_two.Tie as tie
 
+-- the way back from a place in the code to an earlier one
+abbrev start-from-add-reduced : tie.After-add-reduced → tie.Start
+start-from-add-reduced c = c .before .before .before .before .before .before .before
+
 add-second : tie.Need-add-second
 add-second c = search needs
 
@@ -48,7 +52,7 @@ same-length c = search needs
 
 returns : tie.Need-returns
 returns c q e w =
-    let s = c .before .before .before .before .before .before .before .before in
+    let s = start-from-add-reduced (c .before) in
     let a = s .args in
     let x : Elem q = word-at-place (a .factor) (a .input .now) (a .from) in
     let y : Elem q = word-at-place (a .factor) (a .input .now) (a .from + a .step) in

@@ -15,12 +15,19 @@ use Rattle.transform.specs.Reading.{ValueTables}
 use Rattle.transform.proofs.product.coset_values_into.Statement.{statement}
 use Rattle.transform.proofs.product.coset_values_into.Tie as tie
 
+-- the way back from a place in the code to an earlier one
+abbrev start-from-twist-into : tie.After-twist-into → tie.Start
+start-from-twist-into c = c .before .before .before .before .before .before
+
+abbrev twist-into-from-evaluate-with : tie.After-evaluate-with → tie.After-twist-into
+twist-into-from-evaluate-with c = c .before .before .before .before
+
 bound : (c : tie.Start) → length (c .args .out .now) ≤ 1024
 bound c = size-bound (length (c .args .out .now)) (c .pre .1 .0)
 
 -- the start, from the twist, and the twist's length
 abbrev start : tie.After-twist-into → tie.Start
-start c = c .before .before .before .before .before .before
+start c = start-from-twist-into c
 
 module _ (c : tie.After-twist-into) where
   abbrev n : ℕ
@@ -68,11 +75,12 @@ same-length c = search needs
 
 returns : tie.Need-returns
 returns c q Q e tables =
-    let t = c .before .before .before .before .before .before in
+    let t = twist-into-from-evaluate-with (c .before .before) in
     let s = start t in
     let a = s .args in
     let f : Poly q = twist (primeRing q) (of (a .s)) (map of (a .f .now)) in
-    c .before .before .evaluate-with .ensures q Q e (subst (λ (k : ℕ). ValueTables q k (a .powers .now) (a .quotients .now)) (made-length t) tables)
+    c .before .before .evaluate-with .ensures q Q e (subst (λ (k : ℕ). ValueTables q k (a .powers .now) (a .quotients .now))
+    (made-length t) tables)
     ∙ ap₂ (λ (k : ℕ) (f : Poly q). words (valuesOn k f)) (sym (made-length t))
     (back-list 1024 (bound s) (made t) (t .twist-into .kept .1 .1 .1 .0) f (t .twist-into .ensures q e))
 

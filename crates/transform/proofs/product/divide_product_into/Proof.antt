@@ -13,13 +13,29 @@ use Rattle.transform.proofs.TableLaws.{coefficients-lent}
 use Rattle.transform.proofs.product.divide_product_into.Statement.{statement}
 use Rattle.transform.proofs.product.divide_product_into.Tie as tie
 
+-- the way back from a place in the code to an earlier one
+abbrev start-from-root-of : tie.After-root-of → tie.Start
+start-from-root-of c = c .before .before .before .before .before .before
+
+abbrev start-from-fill-inverse-tables : tie.After-fill-inverse-tables → tie.Start
+start-from-fill-inverse-tables c = start-from-root-of (c .before .before .before)
+
+abbrev fill-inverse-tables-from-divide-with : tie.After-divide-with → tie.After-fill-inverse-tables
+fill-inverse-tables-from-divide-with c = c .before .before .before .before .before .before .before .before
+
+abbrev root-of-from-fill-inverse-tables : tie.After-fill-inverse-tables → tie.After-root-of
+root-of-from-fill-inverse-tables c = c .before .before .before
+
+abbrev root-of-from-divide-with : tie.After-divide-with → tie.After-root-of
+root-of-from-divide-with c = root-of-from-fill-inverse-tables (c .before .before .before .before .before .before .before .before)
+
 bound : (c : tie.Start) → length (c .args .left .now) ≤ 1024
 bound c = size-bound (length (c .args .left .now)) (c .pre .1 .0)
 
 -- the tables in their arrays
 module _ (c : tie.After-fill-inverse-tables) where
   abbrev start : tie.Start
-  start = c .before .before .before .before .before .before .before .before .before
+  start = start-from-fill-inverse-tables c
 
   abbrev n : ℕ
   n = length (start .args .left .now)
@@ -43,20 +59,20 @@ root-of-requires : tie.Need-root-of-requires
 root-of-requires c κs = search needs
 
 array-borrow-prefix-powers : tie.Need-array-borrow-prefix-powers
-array-borrow-prefix-powers c = bound (c .before .before .before .before .before .before)
+array-borrow-prefix-powers c = bound (start-from-root-of c)
 
 slice-aggregate-fill-inverse-tables : tie.Need-slice-aggregate-fill-inverse-tables
-slice-aggregate-fill-inverse-tables c = lent-length 1024 (bound (c .before .before .before .before .before .before .before))
+slice-aggregate-fill-inverse-tables c = lent-length 1024 (bound (start-from-root-of (c .before)))
 
 array-borrow-prefix-quotients : tie.Need-array-borrow-prefix-quotients
-array-borrow-prefix-quotients c = bound (c .before .before .before .before .before .before .before)
+array-borrow-prefix-quotients c = bound (start-from-root-of (c .before))
 
 slice-aggregate-fill-inverse-tables-2 : tie.Need-slice-aggregate-fill-inverse-tables-2
-slice-aggregate-fill-inverse-tables-2 c = lent-length 1024 (bound (c .before .before .before .before .before .before .before .before))
+slice-aggregate-fill-inverse-tables-2 c = lent-length 1024 (bound (start-from-root-of (c .before .before)))
 
 fill-inverse-tables-requires : tie.Need-fill-inverse-tables-requires
 fill-inverse-tables-requires c κs =
-    let s = c .before .before .before .before .before .before .before .before in
+    let s = start-from-root-of (c .before .before) in
     let part = lent-length 1024 (bound s) in
     (s .pre .0 .0, (sym part ∙ part, ap isSize (sym part) ∙ s .pre .1 .0))
 
@@ -78,7 +94,7 @@ slice-aggregate-divide-with-2 c = quotients-length (c .before .before .before .b
 
 divide-with-requires : tie.Need-divide-with-requires
 divide-with-requires c κs =
-    let s = c .before .before .before .before .before .before .before .before .before .before .before .before .before .before .before .before in
+    let s = start-from-fill-inverse-tables (c .before .before .before .before .before .before .before) in
     let t = c .before .before .before .before .before .before .before in
     (s .pre .0, (s .pre .1 .0, ((omega (arith, powers-length t), omega (arith, quotients-length t)), s .pre .1 .1)))
 
@@ -93,10 +109,10 @@ same-length-3 c = search needs
 
 returns : tie.Need-returns
 returns c q known =
-    let t = c .before .before .before .before .before .before .before .before .before .before .before .before .before .before in
+    let t = fill-inverse-tables-from-divide-with (c .before .before .before .before .before .before) in
     let call = t .fill-inverse-tables in
     let fits = bound (start t) in
-    let root-word = c .before .before .before .before .before .before .before .before .before .before .before .before .before .before .before .before .before .root-of .ensures q known in
+    let root-word = root-of-from-divide-with (c .before .before .before .before .before .before) .root-of .ensures q known in
     c .before .before .before .before .before .before .divide-with .ensures q known root-word
     (coefficients-lent q 1024 fits (powers t) (quotients t) (call .kept .1 .1 .0) (call .kept .1 .1 .1 .0)
     (call .ensures q (known .value) (root-word ∙ ap (λ (m : ℕ). root {q = q} m .word) (lent-length 1024 fits))))

@@ -35,8 +35,8 @@ returns c q Q e shift f g long short is-plain is-turned =
     let share = c .before .before .before .before .before .divide in
     let turn = c .before .before .before .before .divide2 in
     c .before .before .combine-into .ensures q e
-    ∙ ap words (quotient-words Q (a .n) (start .pre .1 .0) f g (length (a .out .now)) (a .s) (turn .result) (share .result) (v .result) shift long
-    short (a .plain .now) (a .turned .now) is-plain is-turned (reciprocal-word q (a .s) (turn .ensures q e)) (v .ensures q e)
+    ∙ ap words (quotient-words Q (a .n) (start .pre .1 .0) f g (length (a .out .now)) (a .s) (turn .result) (share .result) (v .result)
+    shift long short (a .plain .now) (a .turned .now) is-plain is-turned (reciprocal-word q (a .s) (turn .ensures q e)) (v .ensures q e)
     (reciprocal-word q (v .result) (share .ensures q e)))
 
 pub quotient-from-spec : {M : Type 1} → statement M

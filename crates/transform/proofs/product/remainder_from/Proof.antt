@@ -16,12 +16,19 @@ use Rattle.transform.proofs.CosetWords.{product-words}
 use Rattle.transform.proofs.product.remainder_from.Statement.{statement}
 use Rattle.transform.proofs.product.remainder_from.Tie as tie
 
+-- the way back from a place in the code to an earlier one
+abbrev start-from-products-into : tie.After-products-into → tie.Start
+start-from-products-into c = c .before .before .before .before .before .before .before
+
+abbrev products-into-from-interpolate-with : tie.After-interpolate-with → tie.After-products-into
+products-into-from-interpolate-with c = c .before .before .before .before
+
 bound : (c : tie.Start) → length (c .args .out .now) ≤ 1024
 bound c = size-bound (length (c .args .out .now)) (c .pre .1 .0)
 
 -- the start, from the products, and their length
 abbrev start : tie.After-products-into → tie.Start
-start c = c .before .before .before .before .before .before .before
+start c = start-from-products-into c
 
 module _ (c : tie.After-products-into) where
   abbrev n : ℕ
@@ -70,14 +77,15 @@ same-length c = search needs
 
 returns : tie.Need-returns
 returns c q Q e tables f g of-left of-right =
-    let m = c .before .before .before .before .before .before in
+    let m = products-into-from-interpolate-with (c .before .before) in
     let s = start m in
     let a = s .args in
     let rule : ℕ → Elem q = λ i. of (getD (a .left .now) i 0) ⊗ of (getD (a .right .now) i 0) in
     let values : map of (take (n m) (returned 1024 (n m) (made m))) ≡ tabulate (n m) rule =
     back-list 1024 (bound s) (made m) (m .products-into .kept .1 .1 .1 .0) (tabulate (n m) rule)
     (m .products-into .ensures q e ∙ ap (λ (k : ℕ). words (tabulate k rule)) (sym (lent-length 1024 (bound s)))) in
-    c .before .before .interpolate-with .ensures q Q e (subst (λ (k : ℕ). CoefficientTables q k (a .powers .now) (a .quotients .now)) (made-length m) tables)
+    c .before .before .interpolate-with .ensures q Q e (subst (λ (k : ℕ). CoefficientTables q k (a .powers .now) (a .quotients .now))
+    (made-length m) tables)
     ∙ ap₂ (λ (k : ℕ) (l : List (Elem q)). words (interpolate k l)) (sym (made-length m)) values
     ∙ ap words (product-words Q (n m) (s .pre .1 .0) f g (a .left .now) (a .right .now) of-left of-right)
 
