@@ -23,7 +23,7 @@ use Rattle.poly.proofs.LentParts.{array, returned, lent-length, back-is}
 use Rattle.transform.specs.Reading.{LevelOf, Levels, Prepared, Tables, ValueTables, CoefficientTables, Folded}
 
 module _ {q : Prime} where
-  pub levels-folded : (k : ℕ) (w : Elem q) (t : List ℕ) → ((i : ℕ) → 0 < i → i < 2 ^ k → getD t i 0 ≡ getD t (i + i) 0)
+  levels-folded : (k : ℕ) (w : Elem q) (t : List ℕ) → ((i : ℕ) → 0 < i → i < 2 ^ k → getD t i 0 ≡ getD t (i + i) 0)
       → LevelOf (2 ^ k) w t
       → Levels (suc k) w t
   levels-folded zero w t doubled top = (top, tt)
@@ -36,12 +36,12 @@ module _ {q : Prime} where
         (pow-add (primeRing q) w i i ∙ sym (mul-pow (primeRing q) w w i))),
   )
 
-  -- a table d whose second half became e, the powers of w, and was folded to t
-  module _ (w : Elem q) (d e t : List ℕ) (n : ℕ) (half : length d ≡ n + n) where
+  -- a table d whose second half became e, the powers of w
+  module _ (w : Elem q) (d e : List ℕ) (n : ℕ) (half : length d ≡ n + n) where
     second-half : length (take (length d - n) (drop n d)) ≡ n
     second-half = length-take-le (length d - n) (drop n d) (omega (arith, length-drop n d)) ∙ omega arith
 
-    pub powers-at : e ≡ words (tabulate (length (take (length d - n) (drop n d))) (pow (primeRing q) w)) → (i : ℕ) → i < n
+    powers-at : e ≡ words (tabulate (length (take (length d - n) (drop n d))) (pow (primeRing q) w)) → (i : ℕ) → i < n
         → getD (take n d ++ (e ++ drop (length d - n) (drop n d))) (n + i) 0 ≡ pow (primeRing q) w i .word
     powers-at made i below =
         let front : length (take n d) ≡ n = length-take-le n d (omega arith) in
@@ -53,7 +53,7 @@ module _ {q : Prime} where
         ∙ ap (λ (l : List ℕ). getD l i 0) made
         ∙ rule-word-at (length (take (length d - n) (drop n d))) (pow (primeRing q) w) i (omega (arith, second-half))
 
-    pub whole-length : length e ≡ length (take (length d - n) (drop n d))
+    whole-length : length e ≡ length (take (length d - n) (drop n d))
         → length (take n d ++ (e ++ drop (length d - n) (drop n d))) ≡ length d
     whole-length same =
         omega (
@@ -66,6 +66,7 @@ module _ {q : Prime} where
           length-drop n d,
         )
 
+  -- and was folded to t
   pub table-levels : (w : Elem q) (d e t : List ℕ) → length e ≡ length (take (length d - length d / 2) (drop (length d / 2) d))
       → e ≡ words (tabulate (length (take (length d - length d / 2) (drop (length d / 2) d))) (pow (primeRing q) w))
       → Folded (take (length d / 2) d ++ (e ++ drop (length d - length d / 2) (drop (length d / 2) d))) t
@@ -75,13 +76,13 @@ module _ {q : Prime} where
       let h : ℕ = length d / 2 in
       let half : h ≡ 2 ^ k = omega (arith, twice k) in
       let both : length d ≡ h + h = omega (arith, twice k) in
-      let whole : length (take h d ++ (e ++ drop (length d - h) (drop h d))) ≡ length d = whole-length w d e t h both kept in
+      let whole : length (take h d ++ (e ++ drop (length d - h) (drop h d))) ≡ length d = whole-length w d e h both kept in
       levels-folded k w t
       (λ i positive below. folded .doubled i positive (omega arith))
       (λ i below.
       folded .kept (2 ^ k + i) (omega arith)
       ∙ ap (λ (m : ℕ). getD (take h d ++ (e ++ drop (length d - h) (drop h d))) (m + i) 0) (sym half)
-      ∙ powers-at w d e t h both made i (omega arith))
+      ∙ powers-at w d e h both made i (omega arith))
 
   -- the last power of the root, as the code computes it
   pub last-power : (n g last : ℕ) → g ≡ root {q = q} n .word → last ≡ power (of {q = q} g) (n - 1) .word
@@ -96,7 +97,7 @@ tables-same q k {v} {w} {t} {t′} {u} {u′} e same-t same-u tables =
     subst (λ (w : Elem q). Tables q k w t′ u′) e
     (subst⁻¹ (λ (t : List ℕ). Tables q k v t u′) same-t (subst⁻¹ (λ (u : List ℕ). Tables q k v t u) same-u tables))
 
--- the quotients of the prime's value
+-- the quotients, and a bound, of the prime's value
 pub prepared-by-value : (t u : List ℕ) {p n : ℕ} → n ≡ p → Prepared n t u → Prepared p t u
 prepared-by-value t u e = subst (λ (m : ℕ). Prepared m t u) e
 
