@@ -77,7 +77,7 @@ module _ (q : Prime) (k : Circuit) (M : MatrixName) (l : List ℕ) (h : EntryWor
       ∙ ap (interpolate n) (padded f noEntry (entriesOf l) n few ∙ ap (tabulate n) (fun-ext (λ i. ap f (entry-or-zeros l i (h .whole)))))
 
   -- the index polynomials are those of the values
-  index-by-words : index {q = q} k M ≡ mapIndex (interpolate (K-size l)) (indexValues k l (K-size l))
+  pub index-by-words : index {q = q} k M ≡ mapIndex (interpolate (K-size l)) (indexValues k l (K-size l))
   unfolding index rowElement columnElement element
   index-by-words = λ t.
       record {

@@ -1,1 +1,4 @@
 pub mod OpeningLaws
+pub mod OutsideLaws
+pub mod ValueLaws
+pub mod WordValues

@@ -1,1 +1,4 @@
 pub mod OpeningsGiven
+pub mod Parted
+pub mod LineGiven
+pub mod MatrixValues

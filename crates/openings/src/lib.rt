@@ -1,41 +1,27 @@
-// The openings: each polynomial of a proof is made from what a call is given, and evaluated at its point. The call was let through, so
-// that working memory of the largest sizes holds every polynomial.
+// The openings: each polynomial of a proof at its point, from values on the domains. The Lagrange values of the rows at α, of the columns
+// at β and of each matrix's places at γ are made once; only g1 and the g_M need coefficients. The call was let through, so that working
+// memory of the largest sizes holds every list, and the points are outside their domains.
 ghost use mathlib.Core.Path.{_≡_};
-ghost use mathlib.Core.Bool.{true};
-ghost use mathlib.Core.List.{map};
-ghost use Prim.Native.Nat.{_<_, _≤_};
+ghost use Prim.Native.Nat.{ℕ, _<_};
 ghost use lib.ListN.{length};
 ghost use Rattle.field.specs.Prime.{Prime};
 ghost use Rattle.field.specs.Element.{of, words};
-ghost use Rattle.domain.specs.Size.{isSize};
-ghost use Rattle.domain.specs.Polynomial.{eval};
-ghost use Rattle.domain.specs.Qualifies.{Qualifies};
-ghost use Rattle.domain.specs.Known.{Known, Modulus};
-ghost use Rattle.protocol.specs.Three.{MatrixName, at, mapThree};
-ghost use Rattle.protocol.specs.Circuit.{Circuit};
-ghost use Rattle.protocol.specs.Index.{index as indexOf, indexAt, listIndex};
-ghost use Rattle.protocol.specs.Messages.{witness as witnessPoly, matrixRemainder, joinedQuotient};
+ghost use Rattle.domain.specs.Known.{Known};
+ghost use Rattle.protocol.specs.Three.{Three, mapThree};
+ghost use Rattle.protocol.specs.Checks.{listOpenings};
 ghost use Rattle.shared.specs.Meanings.{three};
-ghost use Rattle.protocol.specs.Calls.{entriesOf, circuitOf};
-ghost use Rattle.circuit.specs.Given.{given, proverInput, Fits, EntryWords, CircuitShaped};
-ghost use Rattle.matrix_sumcheck.specs.MatrixGiven.{Given, Challenged, lists};
-ghost use Rattle.prover.specs.CallGiven.{rowQuotientIn, lineRemainderIn, lineQuotientIn};
-ghost use Rattle.openings.specs.OpeningsGiven.{openingsIn};
-ghost use Rattle.openings.specs.OpeningsGiven.{messagesOpened, messageList, indexList};
-use circuit::matrices;
-use matrix_sumcheck::joined;
-use matrix_sumcheck::matrix;
-use prover::line;
-use prover::rows;
-use prover::witness;
+ghost use Rattle.protocol.specs.Calls.{circuitOf};
+ghost use Rattle.circuit.specs.Given.{given, proverInput, Fits};
+ghost use Rattle.matrix_sumcheck.specs.MatrixGiven.{LagrangeLists};
+ghost use Rattle.openings.specs.LineGiven.{Weighed};
+ghost use Rattle.openings.specs.OpeningsGiven.{openingsIn, openedList, PointsOutside};
 use shared::Opened;
 use shared::Triple;
 
-// g1 and h1 at one point.
-struct LineOpened {
-    remainder: u32,
-    quotient: u32,
-}
+mod line;
+mod matrix;
+mod rows;
+mod values;
 
 // The index polynomials of one matrix at one point.
 pub struct IndexOpened {
@@ -45,22 +31,87 @@ pub struct IndexOpened {
     pub rowcolval: u32,
 }
 
-// ŵ(β)
-fn witness_at(p: u32, c: u32, x: u32, z: &[u32], mask: u32, beta: u32) -> u32
-    requires { ⌜ 1 < p ⌝ }
-    requires { ⌜ (isSize c ≡ true) × (isSize x ≡ true) × (x ≤ c) ⌝ }
-    requires { ⌜ length (now z) ≡ c ⌝ }
-    ensures { λ v. ⌜ ((q : Prime) → Known q p → (k : Circuit) → k .|C| ≡ c → k .|X| ≡ x
-        → v ≡ (eval (witnessPoly {q = q} k (map of (now (z .entry))) (of mask)) (of beta)) .word) ⌝ }
-{
-    let n = (c - x) as usize + 1;
-    let mut witness = [0u32; 1024];
-    witness::witness_into(p, c, x, z, mask, &mut witness[..n]);
-    poly::evaluate(p, &witness[..n], beta)
+// The openings of the messages, and of the index polynomials of A, B, C.
+pub struct AllOpened {
+    pub messages: Opened,
+    pub a: IndexOpened,
+    pub b: IndexOpened,
+    pub c: IndexOpened,
 }
 
-// g1(β) and h1(β)
-fn line_at(
+// All openings, where rows and columns have their Lagrange values at α and β, and the columns their weights.
+fn opened_from(
+    p: u32,
+    r: u32,
+    c: u32,
+    x: u32,
+    ea: &[u32],
+    eb: &[u32],
+    ec: &[u32],
+    z: &[u32],
+    mask: u32,
+    m: &[u32],
+    rows: &[u32],
+    columns: &[u32],
+    weights: &[u32],
+    alpha: u32,
+    beta: u32,
+    delta: Triple,
+    gamma: u32,
+) -> AllOpened
+    requires { ⌜ 1 < p ⌝ }
+    requires { ⌜ Fits p r c x (now ea) (now eb) (now ec) (now z) (now m) ⌝ }
+    requires { ⌜ PointsOutside p r c x (now ea) (now eb) (now ec) alpha beta gamma ⌝ }
+    requires { ⌜ (length (now rows) ≡ r) × (length (now columns) ≡ c) × (length (now weights) ≡ c) ⌝ }
+    ensures { λ v. ⌜ ((q : Prime) → Known q p → LagrangeLists q r c alpha beta (now (rows .entry)) (now (columns .entry)) → (η : Three ℕ)
+        → Weighed (circuitOf (given r c x (now (ea .entry)) (now (eb .entry)) (now (ec .entry)))) (of {q = q} alpha) (mapThree of η)
+        (now (weights .entry))
+        → openedList v
+        ≡ words (listOpenings (openingsIn q
+        (proverInput r c x (now (ea .entry)) (now (eb .entry)) (now (ec .entry)) (now (z .entry)) mask (now (m .entry)))
+        alpha η beta (three delta) gamma))) ⌝ }
+{
+    let scale = field::multiply(
+        p,
+        domain::vanishing_value(p, r, alpha),
+        domain::vanishing_value(p, c, beta),
+    );
+    let of_a = matrix::matrix_at(p, r, c, ea, rows, columns, alpha, beta, scale, gamma);
+    let of_b = matrix::matrix_at(p, r, c, eb, rows, columns, alpha, beta, scale, gamma);
+    let of_c = matrix::matrix_at(p, r, c, ec, rows, columns, alpha, beta, scale, gamma);
+    let quotients = Triple {
+        a: of_a.quotient,
+        b: of_b.quotient,
+        c: of_c.quotient,
+    };
+    let assignment = line::assignment_at(p, c, columns, z, mask, beta);
+    let at_beta = line::line_at(p, c, columns, weights, z, m, assignment, beta);
+    let messages = Opened {
+        witness: line::witness_at(p, c, x, z, assignment, beta),
+        mask: at_beta.mask,
+        lineRemainder: at_beta.remainder,
+        lineQuotient: at_beta.quotient,
+        rowQuotient: rows::row_quotient_at(p, r, rows, ea, eb, z, alpha),
+        joinedQuotient: matrix::joined_at(p, ea, eb, ec, delta, quotients),
+        matrixRemainders: Triple {
+            a: of_a.remainder,
+            b: of_b.remainder,
+            c: of_c.remainder,
+        },
+    };
+    let index_a = of_a.index;
+    let index_b = of_b.index;
+    let index_c = of_c.index;
+    AllOpened {
+        messages: messages,
+        a: index_a,
+        b: index_b,
+        c: index_c,
+    }
+}
+
+// All openings: those of the messages, and of the index polynomials.
+pub fn open_all(
     p: u32,
     r: u32,
     c: u32,
@@ -74,24 +125,27 @@ fn line_at(
     alpha: u32,
     eta: Triple,
     beta: u32,
-) -> LineOpened
-    requires { ⌜ Modulus p ⌝ }
+    delta: Triple,
+    gamma: u32,
+) -> AllOpened
+    requires { ⌜ 1 < p ⌝ }
     requires { ⌜ Fits p r c x (now ea) (now eb) (now ec) (now z) (now m) ⌝ }
-    ensures { λ v. ⌜ ((q : Prime) → Known q p → Qualifies q
-        → (v .remainder
-        ≡ (eval (lineRemainderIn q
+    requires { ⌜ PointsOutside p r c x (now ea) (now eb) (now ec) alpha beta gamma ⌝ }
+    ensures { λ v. ⌜ ((q : Prime) → Known q p
+        → openedList v
+        ≡ words (listOpenings (openingsIn q
         (proverInput r c x (now (ea .entry)) (now (eb .entry)) (now (ec .entry)) (now (z .entry)) mask (now (m .entry)))
-        alpha (three eta)) (of beta)) .word)
-        × (v .quotient
-        ≡ (eval (lineQuotientIn q
-        (proverInput r c x (now (ea .entry)) (now (eb .entry)) (now (ec .entry)) (now (z .entry)) mask (now (m .entry)))
-        alpha (three eta)) (of beta)) .word)) ⌝ }
+        alpha (three eta) beta (three delta) gamma))) ⌝ }
 {
-    let n = c as usize;
-    let k = n - 1;
-    let l = 2 * n;
-    let mut made = [0u32; 2048];
-    line::line_of(
+    let n = r as usize;
+    let l = c as usize;
+    let mut rows = [0u32; 1024];
+    domain::lagrange_values_into(p, alpha, &mut rows[..n]);
+    let mut columns = [0u32; 1024];
+    domain::lagrange_values_into(p, beta, &mut columns[..l]);
+    let mut weights = [0u32; 1024];
+    prover::line::weights_from(p, &rows[..n], ea, eb, ec, eta, &mut weights[..l]);
+    opened_from(
         p,
         r,
         c,
@@ -102,159 +156,12 @@ fn line_at(
         z,
         mask,
         m,
+        &rows[..n],
+        &columns[..l],
+        &weights[..l],
         alpha,
-        eta,
-        &mut made[..l],
-    );
-    let mut remainder = [0u32; 1024];
-    line::line_remainder_into(p, c, &made[..l], &mut remainder[..k]);
-    let mut quotient = [0u32; 1024];
-    line::line_quotient_into(p, c, &made[..l], &mut quotient[..n]);
-    LineOpened {
-        remainder: poly::evaluate(p, &remainder[..k], beta),
-        quotient: poly::evaluate(p, &quotient[..n], beta),
-    }
-}
-
-// h0(α)
-fn row_quotient_at(
-    p: u32,
-    r: u32,
-    c: u32,
-    x: u32,
-    ea: &[u32],
-    eb: &[u32],
-    ec: &[u32],
-    z: &[u32],
-    mask: u32,
-    m: &[u32],
-    alpha: u32,
-) -> u32
-    requires { ⌜ 1 < p ⌝ }
-    requires { ⌜ Fits p r c x (now ea) (now eb) (now ec) (now z) (now m) ⌝ }
-    ensures { λ v. ⌜ ((q : Prime) → Known q p → Qualifies q
-        → v
-        ≡ (eval (rowQuotientIn q
-        (proverInput r c x (now (ea .entry)) (now (eb .entry)) (now (ec .entry)) (now (z .entry)) mask (now (m .entry))))
-        (of alpha)) .word) ⌝ }
-{
-    let n = (r - 1) as usize;
-    let mut quotient = [0u32; 1024];
-    rows::row_quotient_into(p, r, ea, eb, ec, z, &mut quotient[..n]);
-    poly::evaluate(p, &quotient[..n], alpha)
-}
-
-// g_M(γ)
-fn remainder_at(p: u32, r: u32, c: u32, entries: &[u32], alpha: u32, beta: u32, gamma: u32) -> u32
-    requires { ⌜ Modulus p ⌝ }
-    requires { ⌜ (isSize r ≡ true) × (isSize c ≡ true) ⌝ }
-    requires { ⌜ EntryWords (now entries) ⌝ }
-    ensures { λ v. ⌜ ((q : Prime) (k : Circuit) (M : MatrixName) → Given q p r c (now (entries .entry)) k M → Challenged q p k alpha beta
-        → v ≡ (eval (matrixRemainder {q = q} k (of alpha) (of beta) M) (of gamma)) .word) ⌝ }
-{
-    let n = (matrices::size_of(entries) - 1) as usize;
-    let mut remainder = [0u32; 1024];
-    matrix::matrix_remainder_into(p, r, c, entries, alpha, beta, &mut remainder[..n]);
-    poly::evaluate(p, &remainder[..n], gamma)
-}
-
-// h2(γ)
-fn joined_at(
-    p: u32,
-    r: u32,
-    c: u32,
-    ea: &[u32],
-    eb: &[u32],
-    ec: &[u32],
-    alpha: u32,
-    beta: u32,
-    delta: Triple,
-    gamma: u32,
-) -> u32
-    requires { ⌜ Modulus p ⌝ }
-    requires { ⌜ CircuitShaped r c (now ea) (now eb) (now ec) ⌝ }
-    ensures { λ v. ⌜ ((q : Prime) (k : Circuit)
-        → ((M : MatrixName) → Given q p r c (at (lists (now (ea .entry)) (now (eb .entry)) (now (ec .entry))) M) k M)
-        → Challenged q p k alpha beta
-        → v ≡ (eval (joinedQuotient {q = q} k (of alpha) (of beta) (mapThree of (three delta))) (of gamma)) .word) ⌝ }
-{
-    let n = (matrices::largest_size(ea, eb, ec) - 1) as usize;
-    let mut quotient = [0u32; 1024];
-    joined::joined_quotient_into(p, r, c, ea, eb, ec, alpha, beta, delta, &mut quotient[..n]);
-    poly::evaluate(p, &quotient[..n], gamma)
-}
-
-// The four index polynomials of a matrix at γ.
-pub fn index_at(p: u32, r: u32, c: u32, entries: &[u32], gamma: u32) -> IndexOpened
-    requires { ⌜ 1 < p ⌝ }
-    requires { ⌜ (isSize r ≡ true) × (isSize c ≡ true) ⌝ }
-    requires { ⌜ EntryWords (now entries) ⌝ }
-    ensures { λ v. ⌜ ((q : Prime) → Known q p → (k : Circuit) (M : MatrixName) → k .|R| ≡ r → k .|C| ≡ c
-        → at (k .matrices) M ≡ entriesOf (now (entries .entry))
-        → indexList v ≡ words (listIndex (indexAt (indexOf {q = q} k M) (of gamma)))) ⌝ }
-{
-    let n = matrices::size_of(entries) as usize;
-    let mut row = [0u32; 1024];
-    let mut col = [0u32; 1024];
-    let mut rowcol = [0u32; 1024];
-    let mut rowcolval = [0u32; 1024];
-    index::index_matrix_into(
-        p,
-        r,
-        c,
-        entries,
-        &mut row[..n],
-        &mut col[..n],
-        &mut rowcol[..n],
-        &mut rowcolval[..n],
-    );
-    IndexOpened {
-        row: poly::evaluate(p, &row[..n], gamma),
-        col: poly::evaluate(p, &col[..n], gamma),
-        rowcol: poly::evaluate(p, &rowcol[..n], gamma),
-        rowcolval: poly::evaluate(p, &rowcolval[..n], gamma),
-    }
-}
-
-// The openings of the messages.
-pub fn messages_opened(
-    p: u32,
-    r: u32,
-    c: u32,
-    x: u32,
-    ea: &[u32],
-    eb: &[u32],
-    ec: &[u32],
-    z: &[u32],
-    mask: u32,
-    m: &[u32],
-    alpha: u32,
-    eta: Triple,
-    beta: u32,
-    delta: Triple,
-    gamma: u32,
-) -> Opened
-    requires { ⌜ Modulus p ⌝ }
-    requires { ⌜ Fits p r c x (now ea) (now eb) (now ec) (now z) (now m) ⌝ }
-    ensures { λ v. ⌜ ((q : Prime) → Known q p → Qualifies q
-        → Challenged q p (circuitOf (given r c x (now (ea .entry)) (now (eb .entry)) (now (ec .entry)))) alpha beta
-        → messageList v
-        ≡ words (messagesOpened (openingsIn q
-        (proverInput r c x (now (ea .entry)) (now (eb .entry)) (now (ec .entry)) (now (z .entry)) mask (now (m .entry)))
-        alpha (three eta) beta (three delta) gamma))) ⌝ }
-{
-    let line = line_at(p, r, c, x, ea, eb, ec, z, mask, m, alpha, eta, beta);
-    Opened {
-        witness: witness_at(p, c, x, z, mask, beta),
-        mask: poly::evaluate(p, m, beta),
-        lineRemainder: line.remainder,
-        lineQuotient: line.quotient,
-        rowQuotient: row_quotient_at(p, r, c, x, ea, eb, ec, z, mask, m, alpha),
-        joinedQuotient: joined_at(p, r, c, ea, eb, ec, alpha, beta, delta, gamma),
-        matrixRemainders: Triple {
-            a: remainder_at(p, r, c, ea, alpha, beta, gamma),
-            b: remainder_at(p, r, c, eb, alpha, beta, gamma),
-            c: remainder_at(p, r, c, ec, alpha, beta, gamma),
-        },
-    }
+        beta,
+        delta,
+        gamma,
+    )
 }

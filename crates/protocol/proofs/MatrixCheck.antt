@@ -75,7 +75,7 @@ module _ {q : Prime} (Q : Qualifies q) (c : Circuit) (W : WellFormed (q .p) c) (
   length-ratio = length-agreeing k _
 
   -- its constant is M̂(α,β)/|K_M|
-  ratio-parts : ratio c α β M ≡ value ⊘ of k ∷ matrixRemainder c α β M
+  pub ratio-parts : ratio c α β M ≡ value ⊘ of k ∷ matrixRemainder c α β M
   unfolding matrixRemainder
   ratio-parts = constant-of-sum Q k (K-size c M) (ratio c α β M) length-ratio
       ∙ ap (λ x. x ⊘ of k ∷ tail (ratio c α β M)) (sumOver-ext k _ _ ratio-at ∙ sum-of-ratios Q c W α β α-outside β-outside M)

@@ -8,8 +8,9 @@ ghost use lib.ListN.{length, getD};
 ghost use Rattle.algebra.specs.Counting.{All};
 ghost use Rattle.algebra.specs.Lists.{tabulate};
 ghost use Rattle.field.specs.Prime.{Prime};
-ghost use Rattle.field.specs.Element.{of, words, _⊕_, _⊗_};
+ghost use Rattle.field.specs.Element.{Elem, of, words, _⊕_, _⊗_};
 ghost use Rattle.domain.specs.Size.{isSize};
+ghost use Rattle.domain.specs.Domain.{element, lagrange};
 ghost use Rattle.domain.specs.Polynomial.{_⊞_, _·_, quotient, remainder};
 ghost use Rattle.domain.specs.Qualifies.{Qualifies};
 ghost use Rattle.domain.specs.Known.{Known, Modulus};
@@ -69,8 +70,31 @@ fn add_weights(
     add_column_sums(p, eta.c, ec, rows, out);
 }
 
-// The values of Σ η_M M̂(α,Y) on C: the weighted columns' sums.
-pub fn column_weights_into(
+// The values of Σ η_M M̂(α,Y) on C, where the rows have their Lagrange values at α: the weighted columns' sums.
+pub fn weights_from(
+    p: u32,
+    rows: &[u32],
+    ea: &[u32],
+    eb: &[u32],
+    ec: &[u32],
+    eta: Triple,
+    out: &mut [u32],
+)
+    requires { ⌜ 0 < p ⌝ }
+    requires { ⌜ EachWithin (length (now rows)) (length (now out)) (now ea) (now eb) (now ec) ⌝ }
+    ensures { λ _. ⌜ ((q : Prime) → q .p ≡ p → (k : Circuit) → k .|R| ≡ length (now (rows .entry))
+        → k .matrices ≡ entryLists (now (ea .entry)) (now (eb .entry)) (now (ec .entry)) → (α : Elem q)
+        → map of (now (rows .entry))
+        ≡ tabulate (length (now (rows .entry))) (λ i. lagrange (length (now (rows .entry))) (element (length (now (rows .entry))) i) α)
+        → map of (now (out .exit))
+        ≡ tabulate (length (now (out .entry))) (λ j. weighted (mapThree of (three eta)) (each (λ M. columnSum {q = q} k M α j)))) ⌝ }
+{
+    poly::clear(out);
+    add_weights(p, ea, eb, ec, rows, eta, out);
+}
+
+// The same from α: the rows' Lagrange values are made first.
+fn column_weights_into(
     p: u32,
     r: u32,
     ea: &[u32],
@@ -92,8 +116,7 @@ pub fn column_weights_into(
     let n = r as usize;
     let mut rows = [0u32; 1024];
     domain::lagrange_values_into(p, alpha, &mut rows[..n]);
-    poly::clear(out);
-    add_weights(p, ea, eb, ec, &rows[..n], eta, out);
+    weights_from(p, &rows[..n], ea, eb, ec, eta, out);
 }
 
 // g1 from the remainder of a product by v_C: the remainder of m is added, and the constant left out.

@@ -29,7 +29,7 @@ use crate::interpolate_with;
 const SHIFT: u32 = 31;
 
 // The products of the words at each place into the slice.
-fn products_into(p: u32, left: &[u32], right: &[u32], out: &mut [u32])
+pub fn products_into(p: u32, left: &[u32], right: &[u32], out: &mut [u32])
     requires { ⌜ 0 < p ⌝ }
     requires { ⌜ (length (now left) ≡ length (now out)) × (length (now right) ≡ length (now out)) ⌝ }
     ensures { λ _. ⌜ ((q : Prime) → q .p ≡ p

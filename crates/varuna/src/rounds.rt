@@ -18,8 +18,7 @@ use circuit::matrices;
 use field::MODULE_PRIME;
 use matrix_sumcheck::joined::joined_quotient_into;
 use matrix_sumcheck::values::values_into;
-use openings::index_at;
-use openings::messages_opened;
+use openings::open_all;
 use prover::line::line_into;
 use shared::Fault;
 use shared::Triple;
@@ -293,14 +292,21 @@ pub fn openings(
     let at = [alpha, beta, gamma];
     let fault = judge_round(p, r, c, x, ea, eb, ec, z, mask, m, none, none, &words, &at);
     match fault {
-        Fault::Fine => Openings::Value(
-            messages_opened(p, r, c, x, ea, eb, ec, z, mask, m, alpha, e, beta, d, gamma),
-            IndexesOpened {
-                a: index_at(p, r, c, ea, gamma),
-                b: index_at(p, r, c, eb, gamma),
-                c: index_at(p, r, c, ec, gamma),
-            },
-        ),
+        Fault::Fine => {
+            let all = open_all(p, r, c, x, ea, eb, ec, z, mask, m, alpha, e, beta, d, gamma);
+            let messages = all.messages;
+            let of_a = all.a;
+            let of_b = all.b;
+            let of_c = all.c;
+            Openings::Value(
+                messages,
+                IndexesOpened {
+                    a: of_a,
+                    b: of_b,
+                    c: of_c,
+                },
+            )
+        }
         Fault::Refused(number, position) => Openings::Refused(number, position),
     }
 }

@@ -1,26 +1,19 @@
 -- `varuna::rounds::openings` meets its contract. Assumes nothing.
-use mathlib.Core.Path.{_≡_, refl, ap₂}
-use mathlib.Core.List.{List, [], _∷_, _++_}
+use mathlib.Core.Path.{_≡_, refl}
+use mathlib.Core.List.{List, [], _∷_}
 use Prim.Native.Nat.{ℕ}
 use lib.Dec.{lit<}
 use Rattle.domain.specs.BabyBear.{babyBear}
-use Rattle.domain.proofs.Qualification.{babyBear-qualifies, babyBear-modulus}
-use Rattle.protocol.specs.Three.{A, B, C}
-use Rattle.protocol.specs.Circuit.{Circuit}
-use Rattle.protocol.specs.Messages.{openings}
+use Rattle.domain.proofs.Qualification.{babyBear-qualifies, babyBear-known}
 use Rattle.shared.specs.Meanings.{faultRefusal}
-use Rattle.protocol.specs.Calls.{ProverInput, circuitOf, roundRefusal, openingsCall}
-use Rattle.circuit.specs.Given.{given, proverInput}
+use Rattle.protocol.specs.Calls.{ProverInput, roundRefusal, openingsCall}
+use Rattle.circuit.specs.Given.{proverInput}
+use Rattle.openings.proofs.OutsideLaws.{points-outside}
 use Rattle.varuna.proofs.AnswerLaws.{matched, done}
-use Rattle.circuit.proofs.Fitting.{R-fits, C-fits}
-use Rattle.matrix_sumcheck.proofs.GivenLaws.{challenged}
 use Rattle.varuna.proofs.CallRounds.{InputFits, input-fits, known-prime}
 use borrow.Author.Needs.{needs}
 use Rattle.varuna.proofs.rounds.openings.Statement.{statement}
 use Rattle.varuna.proofs.rounds.openings.Tie as tie
-
-append : {a b c d : List ℕ} → a ≡ b → c ≡ d → a ++ c ≡ b ++ d
-append = ap₂ (λ (l m : List ℕ). l ++ m)
 
 -- what the call is given, the lengths of its lent slices, the lengths that they must have, its challenge words and its points
 abbrev input : tie.Start → ProverInput
@@ -77,41 +70,20 @@ judge-round-requires c κs = search needs
 enum-told : tie.Need-enum-told
 enum-told c = search needs
 
-messages-opened-requires : tie.Need-messages-opened-requires
-messages-opened-requires c κs = (babyBear-modulus, fits c .fits)
-
-index-at-requires : tie.Need-index-at-requires
-index-at-requires c κs =
-    let F = fits (c .before) .fits in
-    (lit< tt, ((R-fits F, C-fits F), F .lists .list-a))
-
-index-at-requires-2 : tie.Need-index-at-requires-2
-index-at-requires-2 c κs =
-    let F = fits (c .before .before) .fits in
-    (lit< tt, ((R-fits F, C-fits F), F .lists .list-b))
-
-index-at-requires-3 : tie.Need-index-at-requires-3
-index-at-requires-3 c κs =
-    let F = fits (c .before .before .before) .fits in
-    (lit< tt, ((R-fits F, C-fits F), F .lists .list-c))
+open-all-requires : tie.Need-open-all-requires
+open-all-requires c κs =
+    let a = start (c .before .before) .args in
+    (lit< tt, (fits c .fits, points-outside babyBear-known (a .alpha) (a .beta) (a .gamma) (fits c .outside)))
 
 enum-known-fault : tie.Need-enum-known-fault
 enum-known-fault c = search needs
 
 returns : tie.Need-returns
-unfolding openingsCall circuitOf openings
+unfolding openingsCall
 returns c =
-    let d = c .before .before .before .before in
-    let s = start (d .before .before) in
-    let a = s .args in
-    let k : Circuit = circuitOf (given (a .r) (a .c) (a .x) (a .ea .now) (a .eb .now) (a .ec .now)) in
-    done _ (matched (d .enum-told .given .1) (judgement (d .before .before)))
-    (append
-    (c .before .before .before .messages-opened .ensures babyBear known-prime babyBear-qualifies
-    (challenged (fits d .fits) (a .alpha) (a .beta) (a .gamma ∷ []) (fits d .outside)))
-    (append (c .before .before .index-at .ensures babyBear known-prime k A refl refl refl)
-    (append (c .before .index-at2 .ensures babyBear known-prime k B refl refl refl)
-    (c .index-at3 .ensures babyBear known-prime k C refl refl refl))))
+    let o = c .before .before .before .before in
+    let d = o .before in
+    done _ (matched (d .enum-told .given .1) (judgement (d .before .before))) (o .open-all .ensures babyBear known-prime)
 
 returns-2 : tie.Need-returns-2
 unfolding openingsCall
@@ -127,10 +99,7 @@ openings-spec =
     slice-aggregate-judge-round-2
     judge-round-requires
     enum-told
-    messages-opened-requires
-    index-at-requires
-    index-at-requires-2
-    index-at-requires-3
+    open-all-requires
     enum-known-fault
     returns
     returns-2)
