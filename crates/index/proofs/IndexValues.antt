@@ -5,17 +5,20 @@ use mathlib.Core.List.{List, [], _∷_, _++_, map}
 use Prim.Native.Nat.{ℕ, zero, suc, _-_, _≤_}
 use native.Mathlib.Omega.{arith}
 use native.Mathlib.Nat.{sub-zero}
-use lib.ListN.{length, getD, replicate}
+use lib.ListN.{length, getD, take, replicate}
 use Rattle.algebra.specs.Lists.{tabulate}
+use Rattle.algebra.specs.Ring.{pow}
 use Rattle.algebra.proofs.RingLaws.{mul-zero}
 use Rattle.field.specs.Prime.{Prime}
 use Rattle.field.specs.Element.{Elem, of, 𝟘, 𝟙, _⊗_, words}
 use Rattle.field.proofs.ElementLaws.{mul-one, primeRing}
 use Rattle.field.proofs.Words.{of-results}
 use Rattle.domain.specs.Size.{sizeFor}
-use Rattle.domain.specs.Domain.{element}
+use Rattle.domain.specs.Domain.{root, element, domain}
 use Rattle.domain.specs.Polynomial.{interpolate}
 use Rattle.domain.proofs.SizeLaws.{sizeFor-holds}
+use Rattle.domain.proofs.DomainLaws.{powers-domain}
+use Rattle.poly.proofs.LentParts.{array, returned, lent-length, back-is}
 use Rattle.protocol.specs.Three.{MatrixName, A, B, C, at}
 use Rattle.protocol.specs.Circuit.{Entry, Circuit, sizesOf}
 use Rattle.protocol.specs.Index.{Index, mapIndex, rowElement, columnElement, placed, index}
@@ -104,3 +107,11 @@ module _ (q : Prime) (k : Circuit) (M : MatrixName) (l : List ℕ) (h : EntryWor
         rowcolval = (rowcolval ∙ read-back (K-size l) (f .rowcolval) (v .rowcolval) (long .rowcolval-length) (ap (λ i. i .rowcolval) e)) t;
       })
       ∙ ap (mapIndex words) (sym index-by-words)
+
+-- powers of the root, lent by an array and read back from it, are the elements of the domain of size m, which is n
+pub listed : (q : Prime) {m n g : ℕ} (l : List ℕ) → m ≡ n → (fits : n ≤ 1024) → length l ≡ length (take n (array 1024))
+    → g ≡ root {q = q} n .word → l ≡ words (tabulate (length (take n (array 1024))) (pow (primeRing q) (of g)))
+    → take n (returned 1024 n l) ≡ words (domain {q = q} m)
+listed q {m} {n} {g} l same fits kept at-root made =
+    back-is 1024 fits l kept ∙ made ∙ powers-domain q n g (length (take n (array 1024))) (sym (lent-length 1024 fits)) at-root
+    ∙ ap (λ (k : ℕ). words (domain {q = q} k)) (sym same)

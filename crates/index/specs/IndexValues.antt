@@ -10,7 +10,8 @@ use Rattle.field.specs.Element.{Elem, words}
 use Rattle.domain.specs.Size.{isSize}
 use Rattle.domain.specs.Domain.{domain}
 use Rattle.protocol.specs.Circuit.{Circuit}
-use Rattle.protocol.specs.Index.{Index}
+use Rattle.protocol.specs.Three.{A, B, C}
+use Rattle.protocol.specs.Index.{Index, mapIndex, index}
 use Rattle.protocol.proofs.IndexPolynomials.{entryIndex}
 use Rattle.circuit.specs.Given.{entryWords}
 
@@ -34,3 +35,9 @@ pub record Listed (q : Prime) (k : Circuit) (rows columns : List ℕ) : Type 0 w
   pub C-size : isSize (k .|C|) ≡ true
   pub R-words : rows ≡ words (domain {q = q} (k .|R|))
   pub C-words : columns ≡ words (domain {q = q} (k .|C|))
+
+-- the words of the index polynomials of A, B and C
+pub record ThreeIndexed (q : Prime) (k : Circuit) (a b c : Index (List ℕ)) : Type 0 where
+  pub of-a : a ≡ mapIndex words (index {q = q} k A)
+  pub of-b : b ≡ mapIndex words (index {q = q} k B)
+  pub of-c : c ≡ mapIndex words (index {q = q} k C)

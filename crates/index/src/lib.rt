@@ -15,9 +15,9 @@ ghost use Rattle.protocol.specs.Three.{MatrixName, at};
 ghost use Rattle.protocol.specs.Circuit.{Circuit};
 ghost use Rattle.protocol.specs.Index.{mapIndex, index};
 ghost use Rattle.protocol.specs.Calls.{entriesOf};
-ghost use Rattle.circuit.specs.Given.{EntryWords};
+ghost use Rattle.circuit.specs.Given.{EntryWords, CircuitShaped, entryLists};
 ghost use Rattle.circuit.specs.IndexLists.{indexLists, IndexLengths};
-ghost use Rattle.index.specs.IndexValues.{indexValues, Listed};
+ghost use Rattle.index.specs.IndexValues.{indexValues, Listed, ThreeIndexed};
 
 // The values of the four index polynomials on K_M into the slices, from lists of the elements of R and C. Past the last entry row,
 // column and value are taken as 0: g^0 is 1 and the weighted value 0, as document 01 has it.
@@ -130,11 +130,11 @@ fn interpolate_four(
     interpolate_in_place(p, powers, quotients, rowcolval);
 }
 
-// The indexer: the four index polynomials of a matrix into slices of length |K_M|.
-pub fn index_matrix_into(
+// The four index polynomials of a matrix into slices of length |K_M|, from lists of the elements of R and C.
+fn index_matrix_into(
     p: u32,
-    r: u32,
-    c: u32,
+    rows: &[u32],
+    columns: &[u32],
     entries: &[u32],
     row: &mut [u32],
     col: &mut [u32],
@@ -142,14 +142,14 @@ pub fn index_matrix_into(
     rowcolval: &mut [u32],
 )
     requires { ⌜ 1 < p ⌝ }
-    requires { ⌜ (isSize r ≡ true) × ((isSize c ≡ true) × EntryWords (now entries)) ⌝ }
+    requires { ⌜ (0 < length (now rows)) × ((0 < length (now columns)) × EntryWords (now entries)) ⌝ }
     requires { ⌜ IndexLengths (sizeFor (length (entriesOf (now entries)))) (now row) (now col) (now rowcol) (now rowcolval) ⌝ }
-    ensures { λ _. ⌜ ((q : Prime) → Known q p → (k : Circuit) (M : MatrixName) → k .|R| ≡ r → k .|C| ≡ c
+    ensures { λ _. ⌜ ((q : Prime) → Known q p → (k : Circuit) (M : MatrixName) → Listed q k (now (rows .entry)) (now (columns .entry))
         → at (k .matrices) M ≡ entriesOf (now (entries .entry))
         → indexLists (now (row .exit)) (now (col .exit)) (now (rowcol .exit)) (now (rowcolval .exit))
         ≡ mapIndex words (index {q = q} k M)) ⌝ }
 {
-    index_values_into(p, r, c, entries, row, col, rowcol, rowcolval);
+    fill_index_values(p, rows, columns, entries, row, col, rowcol, rowcolval);
     let n = row.len();
     let root = domain::root_of(p, n as u32);
     let mut powers = [0u32; 1024];
@@ -164,4 +164,50 @@ pub fn index_matrix_into(
         rowcol,
         rowcolval,
     );
+}
+
+// The indexer: the four index polynomials of A, B and C into slices of length |K_M|. The elements of R and C are listed once.
+pub fn index_into(
+    p: u32,
+    r: u32,
+    c: u32,
+    ea: &[u32],
+    eb: &[u32],
+    ec: &[u32],
+    rowA: &mut [u32],
+    colA: &mut [u32],
+    rowcolA: &mut [u32],
+    rowcolvalA: &mut [u32],
+    rowB: &mut [u32],
+    colB: &mut [u32],
+    rowcolB: &mut [u32],
+    rowcolvalB: &mut [u32],
+    rowC: &mut [u32],
+    colC: &mut [u32],
+    rowcolC: &mut [u32],
+    rowcolvalC: &mut [u32],
+)
+    requires { ⌜ 1 < p ⌝ }
+    requires { ⌜ CircuitShaped r c (now ea) (now eb) (now ec) ⌝ }
+    requires { ⌜ IndexLengths (sizeFor (length (entriesOf (now ea)))) (now rowA) (now colA) (now rowcolA) (now rowcolvalA) ⌝ }
+    requires { ⌜ IndexLengths (sizeFor (length (entriesOf (now eb)))) (now rowB) (now colB) (now rowcolB) (now rowcolvalB) ⌝ }
+    requires { ⌜ IndexLengths (sizeFor (length (entriesOf (now ec)))) (now rowC) (now colC) (now rowcolC) (now rowcolvalC) ⌝ }
+    ensures { λ _. ⌜ ((q : Prime) → Known q p → (k : Circuit) → k .|R| ≡ r → k .|C| ≡ c
+        → k .matrices ≡ entryLists (now (ea .entry)) (now (eb .entry)) (now (ec .entry))
+        → ThreeIndexed q k
+        (indexLists (now (rowA .exit)) (now (colA .exit)) (now (rowcolA .exit)) (now (rowcolvalA .exit)))
+        (indexLists (now (rowB .exit)) (now (colB .exit)) (now (rowcolB .exit)) (now (rowcolvalB .exit)))
+        (indexLists (now (rowC .exit)) (now (colC .exit)) (now (rowcolC .exit)) (now (rowcolvalC .exit)))) ⌝ }
+{
+    let n = r as usize;
+    let l = c as usize;
+    let mut rows = [0u32; 1024];
+    let mut columns = [0u32; 1024];
+    domain::fill_powers(p, domain::root_of(p, r), &mut rows[..n]);
+    domain::fill_powers(p, domain::root_of(p, c), &mut columns[..l]);
+    let u = &rows[..n];
+    let v = &columns[..l];
+    index_matrix_into(p, u, v, ea, rowA, colA, rowcolA, rowcolvalA);
+    index_matrix_into(p, u, v, eb, rowB, colB, rowcolB, rowcolvalB);
+    index_matrix_into(p, u, v, ec, rowC, colC, rowcolC, rowcolvalC);
 }

@@ -8,6 +8,7 @@ use lib.ListN.{length, take}
 use Rattle.domain.specs.Size.{isSize}
 use Rattle.domain.specs.Domain.{root}
 use Rattle.domain.proofs.SizeLaws.{size-is, size-bound}
+use Rattle.domain.proofs.Qualification.{known-qualifies}
 use Rattle.poly.proofs.LentParts.{returned, lent-length, back-holds, back-length}
 use Rattle.protocol.specs.Index.{Index}
 use Rattle.transform.proofs.TableLaws.{coefficients-lent}
@@ -17,14 +18,14 @@ use Rattle.index.proofs.index_matrix_into.Statement.{statement}
 use Rattle.index.proofs.index_matrix_into.Tie as tie
 
 -- the way back from a place in the code to an earlier one
-abbrev start-from-index-values-into : tie.After-index-values-into → tie.Start
-start-from-index-values-into c = c .before .before .before .before .before .before .before .before .before .before
+abbrev start-from-fill-index-values : tie.After-fill-index-values → tie.Start
+start-from-fill-index-values c = c .before .before .before .before .before .before .before .before .before .before .before .before
 
-abbrev index-values-into-from-root-of : tie.After-root-of → tie.After-index-values-into
-index-values-into-from-root-of c = c .before .before .before .before .before .before .before .before .before
+abbrev fill-index-values-from-root-of : tie.After-root-of → tie.After-fill-index-values
+fill-index-values-from-root-of c = c .before .before .before .before .before .before .before .before .before
 
-abbrev index-values-into-from-fill-inverse-tables : tie.After-fill-inverse-tables → tie.After-index-values-into
-index-values-into-from-fill-inverse-tables c = index-values-into-from-root-of (c .before .before .before)
+abbrev fill-index-values-from-fill-inverse-tables : tie.After-fill-inverse-tables → tie.After-fill-index-values
+fill-index-values-from-fill-inverse-tables c = fill-index-values-from-root-of (c .before .before .before)
 
 abbrev fill-inverse-tables-from-interpolate-four : tie.After-interpolate-four → tie.After-fill-inverse-tables
 fill-inverse-tables-from-interpolate-four c = c .before .before .before .before .before .before .before .before .before
@@ -37,13 +38,13 @@ root-of-from-interpolate-four c =
     root-of-from-fill-inverse-tables (c .before .before .before .before .before .before .before .before .before)
 
 -- the words of the values, as many in each list as the first slice has
-module _ (c : tie.After-index-values-into) where
+module _ (c : tie.After-fill-index-values) where
   abbrev start : tie.Start
-  start = start-from-index-values-into c
+  start = start-from-fill-index-values c
 
   abbrev values : Index (List ℕ)
   values =
-      let l = c .index-values-into .last in
+      let l = c .fill-index-values .last in
       indexLists (l .1 .1 .1 .1 .0) (l .1 .1 .1 .1 .1 .0) (l .1 .1 .1 .1 .1 .1 .0) (l .1 .1 .1 .1 .1 .1 .1 .0)
 
   abbrev n : ℕ
@@ -51,7 +52,7 @@ module _ (c : tie.After-index-values-into) where
 
   long : Lengths (K-size (start .args .entries .now)) values
   long =
-      let kept = c .index-values-into .kept in
+      let kept = c .fill-index-values .kept in
       let h = start .pre .1 .1 in
       record {
         row-length = kept .1 .1 .1 .1 .0 ∙ h .row-length;
@@ -65,8 +66,8 @@ module _ (c : tie.After-index-values-into) where
 
 -- the tables in their arrays
 module _ (c : tie.After-fill-inverse-tables) where
-  abbrev at-values : tie.After-index-values-into
-  at-values = index-values-into-from-fill-inverse-tables c
+  abbrev at-values : tie.After-fill-index-values
+  at-values = fill-index-values-from-fill-inverse-tables c
 
   abbrev m : ℕ
   m = n at-values
@@ -83,11 +84,11 @@ module _ (c : tie.After-fill-inverse-tables) where
   quotients-length : m ≡ length (take m (returned 1024 m quotients))
   quotients-length = back-length 1024 (fits at-values) quotients (c .fill-inverse-tables .kept .1 .1 .1 .0)
 
-index-values-into-requires : tie.Need-index-values-into-requires
-index-values-into-requires c κs =
-    let h = c .before .before .before .before .before .before .before .before .before .pre in
+fill-index-values-requires : tie.Need-fill-index-values-requires
+fill-index-values-requires c κs =
+    let h = c .before .before .before .before .before .before .before .before .before .before .before .pre in
     let lengths = h .1 .1 in (
-      h .0,
+      omega (arith, h .0),
       (
         (h .1 .0 .0, h .1 .0 .1 .0),
         record {
@@ -106,20 +107,20 @@ root-of-requires : tie.Need-root-of-requires
 root-of-requires c κs = size-is _ (long (c .before .before .before .before .before .before .before .before) .row-length)
 
 array-borrow-prefix-powers : tie.Need-array-borrow-prefix-powers
-array-borrow-prefix-powers c = fits (index-values-into-from-root-of c)
+array-borrow-prefix-powers c = fits (fill-index-values-from-root-of c)
 
 slice-aggregate-fill-inverse-tables : tie.Need-slice-aggregate-fill-inverse-tables
-slice-aggregate-fill-inverse-tables c = lent-length 1024 (fits (index-values-into-from-root-of (c .before)))
+slice-aggregate-fill-inverse-tables c = lent-length 1024 (fits (fill-index-values-from-root-of (c .before)))
 
 array-borrow-prefix-quotients : tie.Need-array-borrow-prefix-quotients
-array-borrow-prefix-quotients c = fits (index-values-into-from-root-of (c .before))
+array-borrow-prefix-quotients c = fits (fill-index-values-from-root-of (c .before))
 
 slice-aggregate-fill-inverse-tables-2 : tie.Need-slice-aggregate-fill-inverse-tables-2
-slice-aggregate-fill-inverse-tables-2 c = lent-length 1024 (fits (index-values-into-from-root-of (c .before .before)))
+slice-aggregate-fill-inverse-tables-2 c = lent-length 1024 (fits (fill-index-values-from-root-of (c .before .before)))
 
 fill-inverse-tables-requires : tie.Need-fill-inverse-tables-requires
 fill-inverse-tables-requires c κs =
-    let v = index-values-into-from-root-of (c .before .before) in
+    let v = fill-index-values-from-root-of (c .before .before) in
     let part = lent-length 1024 (fits v) in
     (start v .pre .0, (sym part ∙ part, ap isSize (sym part) ∙ size-is _ (long v .row-length)))
 
@@ -172,7 +173,7 @@ same-length-4 : tie.Need-same-length-4
 same-length-4 c = search needs
 
 returns : tie.Need-returns
-returns c q known k M er ec matrix =
+returns c q known k M listed matrix =
     let t = fill-inverse-tables-from-interpolate-four (c .before .before .before .before .before .before .before .before) in
     let v = at-values t in
     let s = start v in
@@ -184,13 +185,13 @@ returns c q known k M er ec matrix =
     (coefficients-lent q 1024 (fits v) (powers t) (quotients t) (call .kept .1 .1 .0) (call .kept .1 .1 .1 .0)
     (call .ensures q (known .value) (root-word ∙ ap (λ (k : ℕ). root {q = q} k .word) (lent-length 1024 (fits v))))) in
     index-interpolated q k M (s .args .entries .now) (s .pre .1 .0 .1 .1) matrix (length (s .args .row .now)) (s .pre .1 .1 .row-length)
-    (values v) (long v) (v .index-values-into .ensures q known k er ec) row col rowcol rowcolval
+    (values v) (long v) (v .fill-index-values .ensures q (known-qualifies known) (known .value) k listed) row col rowcol rowcolval
 
 pub index-matrix-into-spec : {M : Type 1} → statement M
 index-matrix-into-spec =
     tie.close
     (tie.spec
-    index-values-into-requires
+    fill-index-values-requires
     cast-root-of
     root-of-requires
     array-borrow-prefix-powers

@@ -16,16 +16,9 @@ use Rattle.domain.proofs.Qualification.{known-qualifies}
 use Rattle.domain.proofs.SizeLaws.{size-positive, size-bound}
 use Rattle.domain.proofs.DomainLaws.{powers-domain}
 use Rattle.poly.proofs.LentParts.{array, returned, lent-length, back-holds, back-length, back-is}
+use Rattle.index.proofs.IndexValues.{listed}
 use Rattle.index.proofs.index_values_into.Statement.{statement}
 use Rattle.index.proofs.index_values_into.Tie as tie
-
--- powers of the root, lent by an array and read back from it, are the elements of the domain of size m, which is n
-listed : (q : Prime) {m n g : ℕ} (l : List ℕ) → m ≡ n → (fits : n ≤ 1024) → length l ≡ length (take n (array 1024))
-    → g ≡ root {q = q} n .word → l ≡ words (tabulate (length (take n (array 1024))) (pow (primeRing q) (of g)))
-    → take n (returned 1024 n l) ≡ words (domain {q = q} m)
-listed q {m} {n} {g} l same fits kept at-root made =
-    back-is 1024 fits l kept ∙ made ∙ powers-domain q n g (length (take n (array 1024))) (sym (lent-length 1024 fits)) at-root
-    ∙ ap (λ (k : ℕ). words (domain {q = q} k)) (sym same)
 
 -- the start, from the first list, and that from the second
 abbrev start : tie.After-fill-powers → tie.Start
