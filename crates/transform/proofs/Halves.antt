@@ -45,7 +45,7 @@ halved n from step m s many within = let (k, l, e) = size-is-power n s in go k l
           room = omega arith;
         }
 
--- the exponents of 1, of 2 and of 4, and of the half of any size but 1
+-- the exponents of 1, of 2, of 4 and of 8, and of the half of any size but 1
 pub exponent-none : (k : ℕ) → 2 ^ k ≡ 1 → k ≡ 0
 exponent-none zero e = refl
 exponent-none (suc k) e = absurd (omega (arith, twice k, pow-pos k))
@@ -57,6 +57,10 @@ exponent-one (suc k) e = ap suc (exponent-none k (omega (arith, twice k)))
 pub exponent-two : (k : ℕ) → 2 ^ k ≡ 4 → k ≡ 2
 exponent-two zero e = absurd (omega arith)
 exponent-two (suc k) e = ap suc (exponent-one k (omega (arith, twice k)))
+
+pub exponent-three : (k : ℕ) → 2 ^ k ≡ 8 → k ≡ 3
+exponent-three zero e = absurd (omega arith)
+exponent-three (suc k) e = ap suc (exponent-two k (omega (arith, twice k)))
 
 pub exponent-less : (n k : ℕ) → n ≡ 2 ^ k → n ≢ 1 → (suc (k - 1) ≡ k) × (n / 2 ≡ 2 ^ (k - 1))
 exponent-less n zero e many = absurd (many e)

@@ -1,24 +1,25 @@
 -- What the code's transform gives for the words of a list at places a step apart, and that it is joined from what it gives for every
--- second of these places; and what it gives for one, two and four words. Assumes nothing.
-use mathlib.Core.Path.{_≡_, sym, ap, ap₂, _∙_}
-use mathlib.Core.List.{List, [], _∷_, map}
-use Prim.Native.Nat.{ℕ, suc, _+_, _*_, _^_}
+-- second of these places, also where two halves of a slice hold these; and what it gives for one, two and four words. Assumes nothing.
+use mathlib.Core.Path.{_≡_, sym, ap, ap₂, _∙_, subst⁻¹}
+use mathlib.Core.List.{List, [], _∷_, _++_, map}
+use Prim.Native.Nat.{ℕ, suc, _+_, _*_, _/_, _^_}
 use native.Mathlib.Omega.{arith}
 use native.Mathlib.Nat.{mul-zero, mul-add, add-mul}
-use lib.ListN.{length, getD, length-map}
+use lib.ListN.{length, getD, length-append, length-map}
 use Rattle.algebra.specs.Lists.{tabulate}
 use Rattle.algebra.proofs.ListLaws.{tabulate-ext}
 use Rattle.algebra.proofs.PolynomialLaws.{length-tabulate, getD-tabulate, length-scale}
 use Rattle.algebra.specs.Halving.{evens, odds, join, transform}
 use Rattle.algebra.proofs.HalvingLaws.{twice, evens-tabulate, odds-tabulate, transform-two, transform-four}
 use Rattle.field.specs.Prime.{Prime}
-use Rattle.field.specs.Element.{Elem, of, 𝟘, _⊕_, _⊗_, _⊖_}
+use Rattle.field.specs.Element.{Elem, of, 𝟘, _⊕_, _⊗_, _⊖_, words}
 use Rattle.field.proofs.ElementLaws.{primeRing}
 use Rattle.domain.specs.Polynomial.{_·_}
+use Rattle.domain.proofs.Fill.{length-words}
 use Rattle.domain.proofs.ListLaws.{equal-entries}
 use Rattle.poly.proofs.Coefficients.{coefficient-scale}
 use Rattle.poly.proofs.WordLists.{element-at}
-use Rattle.transform.specs.Reading.{spread}
+use Rattle.transform.specs.Reading.{LevelOf, spread}
 
 module _ {q : Prime} (factor : ℕ) (input : List ℕ) where
   -- the word at place i of the part, times the factor
@@ -79,7 +80,7 @@ module _ {q : Prime} (factor : ℕ) (input : List ℕ) where
       ∙ ap₂ (λ (k l : ℕ). four w (word-at-place k) (word-at-place l) (taken from step 2) (taken from step 3)) at-0 at-1
       ∙ ap₂ (λ (m n : ℕ). four w (word-at-place from) (word-at-place (from + step)) (word-at-place m) (word-at-place n)) at-2 at-3
 
-  pub part-joined : (k : ℕ) (w : Elem q) (from step : ℕ)
+  part-joined : (k : ℕ) (w : Elem q) (from step : ℕ)
       → join (primeRing q) (2 ^ k) w (part k (w ⊗ w) from (step + step)) (part k (w ⊗ w) (from + step) (step + step)) ≡ part (suc k) w
       from step
   unfolding transform
@@ -87,6 +88,25 @@ module _ {q : Prime} (factor : ℕ) (input : List ℕ) where
       ap₂ (join (primeRing q) (2 ^ k) w)
       (ap (transform (primeRing q) k (w ⊗ w)) (sym (even-places k from step)))
       (ap (transform (primeRing q) k (w ⊗ w)) (sym (odd-places k from step)))
+
+  -- a slice whose halves hold the parts of the even and of the odd places, once they are joined with a level of the table
+  pub halves-joined : (k : ℕ) (w : Elem q) (from step : ℕ) (powers first second before after : List ℕ)
+      → length first ≡ 2 ^ k → length second ≡ 2 ^ k → before ≡ first ++ second
+      → first ≡ words (part k (w ⊗ w) from (step + step)) → second ≡ words (part k (w ⊗ w) (from + step) (step + step))
+      → LevelOf (2 ^ k) w powers
+      → (LevelOf (length before / 2) w powers → (e o : List (Elem q)) → length e ≡ length before / 2 → length o ≡ length before / 2
+      → before ≡ words e ++ words o → after ≡ words (join (primeRing q) (length before / 2) w e o))
+      → after ≡ words (part (suc k) w from step)
+  halves-joined k w from step powers first second before after first-length second-length two is-even is-odd level joined =
+      let even : List (Elem q) = part k (w ⊗ w) from (step + step) in
+      let odd : List (Elem q) = part k (w ⊗ w) (from + step) (step + step) in
+      let half : length before / 2 ≡ 2 ^ k = omega (arith, ap length two, length-append first second) in
+      joined (subst⁻¹ (λ (m : ℕ). LevelOf m w powers) half level) even odd
+      (sym (length-words even) ∙ ap length (sym is-even) ∙ first-length ∙ sym half)
+      (sym (length-words odd) ∙ ap length (sym is-odd) ∙ second-length ∙ sym half)
+      (two ∙ ap₂ _++_ is-even is-odd)
+      ∙ ap (λ (m : ℕ). words (join (primeRing q) m w even odd)) half
+      ∙ ap words (part-joined k w from step)
 
   -- the part that is the whole list
   pub part-whole : (k : ℕ) (w : Elem q) → length input ≡ 2 ^ k → part k w 0 1 ≡ transform (primeRing q) k w (of factor · map of input)

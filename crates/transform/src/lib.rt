@@ -148,8 +148,52 @@ fn transform_four(
     out[3] = field::subtract_reduced(p, rest, turned);
 }
 
-// The words of the input at the places from, from + step, .., each times the factor, transformed into the slice. Two and four words are
-// done at once, which is what one and two halvings would do.
+// The transform of eight words of the input, each times the factor: the even four and the odd four, joined.
+fn transform_eight(
+    p: u32,
+    factor: u32,
+    powers: &[u32],
+    quotients: &[u32],
+    input: &[u32],
+    from: usize,
+    step: usize,
+    out: &mut [u32],
+)
+    requires { ⌜ 0 < p ⌝ }
+    requires { ⌜ length (now out) ≡ 8 ⌝ }
+    requires { ⌜ from + step * 7 < length (now input) ⌝ }
+    requires { ⌜ (8 ≤ length (now powers)) × (8 ≤ length (now quotients)) ⌝ }
+    ensures { λ _. ⌜ ((q : Prime) → q .p ≡ p → p < 2 ^ 31 → (w : Elem q) → Levels 3 w (now (powers .entry))
+        → Prepared p (now (powers .entry)) (now (quotients .entry))
+        → now (out .exit) ≡ words (transforming (primeRing q) 3 w (spread factor (now (input .entry)) from step 8))) ⌝ }
+{
+    let twice = step + step;
+    let second = from + step;
+    transform_four(
+        p,
+        factor,
+        powers,
+        quotients,
+        input,
+        from,
+        twice,
+        &mut out[..4],
+    );
+    transform_four(
+        p,
+        factor,
+        powers,
+        quotients,
+        input,
+        second,
+        twice,
+        &mut out[4..],
+    );
+    join(p, powers, quotients, out);
+}
+
+// The words of the input at the places from, from + step, .., each times the factor, transformed into the slice. Two, four and eight
+// words are done at once, which is what the halvings would do.
 fn transform(
     p: u32,
     factor: u32,
@@ -178,6 +222,10 @@ fn transform(
     }
     if out.len() == 4 {
         transform_four(p, factor, powers, quotients, input, from, step, out);
+        return;
+    }
+    if out.len() == 8 {
+        transform_eight(p, factor, powers, quotients, input, from, step, out);
         return;
     }
     let half = out.len() / 2;

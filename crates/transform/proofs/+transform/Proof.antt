@@ -3,26 +3,24 @@
 use borrow.Author.Needs.{needs}
 use borrow.Fn.Kinds.{In}
 use borrow.Fn.PlainCycle.{Measures, is, falls, and}
-use mathlib.Core.Path.{_≡_, sym, ap, ap₂, _∙_, subst, subst⁻¹}
+use mathlib.Core.Path.{_≡_, sym, ap, _∙_, subst, subst⁻¹}
 use mathlib.Core.Bool.{true}
 use mathlib.Core.List.{List, [], _∷_, _++_}
 use Prim.Native.Nat.{ℕ, suc, _+_, _-_, _*_, _/_, _≤_, _<_}
 use native.Mathlib.Omega.{arith}
 use lib.ListN.{length, take, drop, length-append}
 use lib.Seq.{length-take-le}
-use Rattle.algebra.specs.Halving.{join}
 use Rattle.field.specs.Element.{Elem, _⊗_, words}
-use Rattle.field.proofs.ElementLaws.{primeRing}
 use Rattle.field.proofs.multiply.Reads as multiply-reads
 use Rattle.domain.specs.Size.{isSize}
-use Rattle.domain.proofs.Fill.{length-words}
-use Rattle.transform.specs.Reading.{LevelOf, Levels}
-use Rattle.transform.proofs.Halves.{Halved, halved, exponent-none, exponent-one, exponent-two, exponent-less, one-set}
-use Rattle.transform.proofs.Halves.{second-length, both-halves}
-use Rattle.transform.proofs.Parts.{part, part-single, part-joined}
+use Rattle.transform.specs.Reading.{Levels}
+use Rattle.transform.proofs.Halves.{Halved, halved, exponent-none, exponent-one, exponent-two, exponent-three, exponent-less}
+use Rattle.transform.proofs.Halves.{one-set, second-length, both-halves}
+use Rattle.transform.proofs.Parts.{part, part-single, halves-joined}
 use Rattle.transform.proofs.join.Reads as join-reads
 use Rattle.transform.proofs.transform_two.Reads as two-reads
 use Rattle.transform.proofs.transform_four.Reads as four-reads
+use Rattle.transform.proofs.transform_eight.Reads as eight-reads
 use Rattle.transform.proofs.transform.Reads as transform
 use Rattle.transform.proofs.transform.Kinds as transform-kinds
 use Rattle.transform.proofs.+transform.Lts-transform as lts
@@ -46,6 +44,8 @@ claims t = (
   two-reads.Learnt,
   four-reads.Asked,
   four-reads.Learnt,
+  eight-reads.Asked,
+  eight-reads.Learnt,
   below t,
   transform.Post,
   join-reads.Asked,
@@ -69,8 +69,8 @@ asked t p from step m powers quotients h n whole e less fewer positive size with
 
 module _ (t : ℕ) where
   -- the way back from a place in the code to an earlier one
-  abbrev start-from-else3 : lts.Else3 (claims t) (at t) transform.Post → lts.Start (claims t) (at t) transform.Post
-  start-from-else3 c = c .before .before .before .before .before .before .before
+  abbrev start-from-else4 : lts.Else4 (claims t) (at t) transform.Post → lts.Start (claims t) (at t) transform.Post
+  start-from-else4 c = c .before .before .before .before .before .before .before .before
 
   abbrev start-from-then1 : lts.Then1 (claims t) (at t) transform.Post → lts.Start (claims t) (at t) transform.Post
   start-from-then1 c = c .before .before .before .before .before
@@ -87,8 +87,15 @@ module _ (t : ℕ) where
   abbrev start-from-transform-four : lts.After-transform-four (claims t) (at t) transform.Post → lts.Start (claims t) (at t) transform.Post
   start-from-transform-four c = start-from-then3 (c .before .before)
 
+  abbrev start-from-then4 : lts.Then4 (claims t) (at t) transform.Post → lts.Start (claims t) (at t) transform.Post
+  start-from-then4 c = c .before .before .before .before .before .before .before .before
+
+  abbrev start-from-transform-eight : lts.After-transform-eight (claims t) (at t) transform.Post
+      → lts.Start (claims t) (at t) transform.Post
+  start-from-transform-eight c = start-from-then4 (c .before .before)
+
   abbrev start-from-transform : lts.After-transform (claims t) (at t) transform.Post → lts.Start (claims t) (at t) transform.Post
-  start-from-transform c = start-from-else3 (c .before .before)
+  start-from-transform c = start-from-else4 (c .before .before)
 
   abbrev start-from-transform2 : lts.After-transform2 (claims t) (at t) transform.Post → lts.Start (claims t) (at t) transform.Post
   start-from-transform2 c = start-from-transform (c .before .before .before .before)
@@ -99,29 +106,29 @@ module _ (t : ℕ) where
   abbrev transform-from-join : lts.After-join (claims t) (at t) transform.Post → lts.After-transform (claims t) (at t) transform.Post
   transform-from-join c = c .before .before .before .before .before .before .before .before
 
-  abbrev else3-from-transform2 : lts.After-transform2 (claims t) (at t) transform.Post → lts.Else3 (claims t) (at t) transform.Post
-  else3-from-transform2 c = c .before .before .before .before .before .before
+  abbrev else4-from-transform2 : lts.After-transform2 (claims t) (at t) transform.Post → lts.Else4 (claims t) (at t) transform.Post
+  else4-from-transform2 c = c .before .before .before .before .before .before
 
-  abbrev else3-from-join : lts.After-join (claims t) (at t) transform.Post → lts.Else3 (claims t) (at t) transform.Post
-  else3-from-join c = else3-from-transform2 (c .before .before .before .before)
+  abbrev else4-from-join : lts.After-join (claims t) (at t) transform.Post → lts.Else4 (claims t) (at t) transform.Post
+  else4-from-join c = else4-from-transform2 (c .before .before .before .before)
 
   abbrev start-from-join : lts.After-join (claims t) (at t) transform.Post → lts.Start (claims t) (at t) transform.Post
   start-from-join c = start-from-transform2 (c .before .before .before .before)
 
   abbrev else1-from-transform2 : lts.After-transform2 (claims t) (at t) transform.Post → lts.Else1 (claims t) (at t) transform.Post
-  else1-from-transform2 c = c .before .before .before .before .before .before .before .before
+  else1-from-transform2 c = c .before .before .before .before .before .before .before .before .before
 
   abbrev else1-from-join : lts.After-join (claims t) (at t) transform.Post → lts.Else1 (claims t) (at t) transform.Post
   else1-from-join c = else1-from-transform2 (c .before .before .before .before)
 
   -- where the slice has two halves
-  halves : (c : lts.Else3 (claims t) (at t) transform.Post)
-      → Halved (length (start-from-else3 c .args .out .now)) (start-from-else3 c .args .from)
-      (start-from-else3 c .args .step) (length (start-from-else3 c .args .input .now))
+  halves : (c : lts.Else4 (claims t) (at t) transform.Post)
+      → Halved (length (start-from-else4 c .args .out .now)) (start-from-else4 c .args .from)
+      (start-from-else4 c .args .step) (length (start-from-else4 c .args .input .now))
   halves c =
-      let s = start-from-else3 c in
+      let s = start-from-else4 c in
       halved (length (s .args .out .now)) (s .args .from) (s .args .step) (length (s .args .input .now))
-      (s .pre .1 .1 .0) (c .before .before .if1 .left) (s .pre .1 .1 .1 .0)
+      (s .pre .1 .1 .0) (c .before .before .before .if1 .left) (s .pre .1 .1 .1 .0)
 
   mul-multiply : lts.Need-mul-multiply (claims t) (at t) transform.Post
   mul-multiply c = omega (arith, start-from-then1 c .pre .1 .1 .1 .0)
@@ -189,6 +196,32 @@ module _ (t : ℕ) where
       c .before .before .transform-four .ensures q e small w (subst (λ (j : ℕ). Levels j w (a .powers .now)) two levels .0) prepared
       ∙ ap (λ (j : ℕ). words (part (a .factor) (a .input .now) j w (a .from) (a .step))) (sym two)
 
+  transform-eight-requires : lts.Need-transform-eight-requires (claims t) (at t) transform.Post
+  transform-eight-requires c κs =
+      let s = start-from-then4 (c .before) in
+      let eight : length (s .args .out .now) ≡ 8 = c .before .if4 .taken in
+      let in-powers = s .pre .1 .1 .1 .1 .0 in
+      let in-quotients = s .pre .1 .1 .1 .1 .1 in (
+        s .pre .1 .0,
+        (
+          eight,
+          (
+            omega (arith, s .pre .1 .1 .1 .0, ap (λ (n : ℕ). s .args .step * (n - 1)) eight),
+            (omega (arith, in-powers), omega (arith, in-quotients)),
+          ),
+        ),
+      )
+
+  same-length-4 : lts.Need-same-length-4 (claims t) (at t) transform.Post
+  same-length-4 c = search needs
+
+  returns-4 : lts.Need-returns-4 (claims t) (at t) transform.Post
+  returns-4 c q e small w k size levels prepared =
+      let a = start-from-transform-eight (c .before .before) .args in
+      let three : k ≡ 3 = exponent-three k (sym size ∙ c .before .before .before .before .if4 .taken) in
+      c .before .before .transform-eight .ensures q e small w (subst (λ (j : ℕ). Levels j w (a .powers .now)) three levels) prepared
+      ∙ ap (λ (j : ℕ). words (part (a .factor) (a .input .now) j w (a .from) (a .step))) (sym three)
+
   add-twice : lts.Need-add-twice (claims t) (at t) transform.Post
   add-twice c = omega (arith, halves c .room)
 
@@ -200,7 +233,7 @@ module _ (t : ℕ) where
 
   slice-aggregate-transform : lts.Need-slice-aggregate-transform (claims t) (at t) transform.Post
   slice-aggregate-transform c =
-      let a = start-from-else3 (c .before) .args in
+      let a = start-from-else4 (c .before) .args in
       sym (length-take-le (length (a .out .now) / 2) (a .out .now) (omega arith))
 
   -- what the first call left is as long as half
@@ -246,7 +279,7 @@ module _ (t : ℕ) where
 
   transform-requires : lts.Need-transform-requires (claims t) (at t) transform.Post
   transform-requires c κs =
-      let s = start-from-else3 (c .before) in
+      let s = start-from-else4 (c .before) in
       let a = s .args in
       let d : List ℕ = a .out .now in
       let h = halves (c .before) in
@@ -289,14 +322,14 @@ module _ (t : ℕ) where
         subst⁻¹ (λ (n : ℕ). n ≤ length (a .quotients .now)) (both-length g) (s .pre .1 .1 .1 .1 .1),
       )
 
-  same-length-4 : lts.Need-same-length-4 (claims t) (at t) transform.Post
-  same-length-4 c = c .before .before .join .kept .1 .1 .1 .0 ∙ both-length (transform2-from-join (c .before .before))
+  same-length-5 : lts.Need-same-length-5 (claims t) (at t) transform.Post
+  same-length-5 c = c .before .before .join .kept .1 .1 .1 .0 ∙ both-length (transform2-from-join (c .before .before))
 
-  returns-4 : lts.Need-returns-4 (claims t) (at t) transform.Post
-  returns-4 c q e small w k size levels prepared =
+  returns-5 : lts.Need-returns-5 (claims t) (at t) transform.Post
+  returns-5 c q e small w k size levels prepared =
       let g = transform2-from-join (c .before .before) in
       let f = transform-from-join (c .before .before) in
-      let l = else3-from-join (c .before .before) in
+      let l = else4-from-join (c .before .before) in
       let a = start-from-join (c .before .before) .args in
       let n : ℕ = length (a .out .now) in
       let (exponent, half) = exponent-less n k size (else1-from-join (c .before .before) .if1 .left) in
@@ -309,14 +342,9 @@ module _ (t : ℕ) where
       g .transform2 .ensures q e small (w ⊗ w) (k - 1)
       (second-length (n / 2) (a .out .now) (f .transform .last .1 .1 .1 .1 .1 .1 .1 .0) (halves l .doubled) (first-kept f) ∙ half)
       (both .1) prepared in
-      let same : n / 2 ≡ _ = ap (λ (m : ℕ). m / 2) (sym (both-length g)) in
-      c .before .before .join .ensures q e small w (subst (λ (m : ℕ). LevelOf m w (a .powers .now)) (sym half ∙ same) (both .0)) prepared
-      even odd
-      (sym (length-words even) ∙ ap length (sym is-even) ∙ first-kept f ∙ same)
-      (sym (length-words odd) ∙ ap length (sym is-odd) ∙ second-kept g ∙ same)
-      (second-in g ∙ ap₂ _++_ is-even is-odd)
-      ∙ ap (λ (m : ℕ). words (join (primeRing q) m w even odd)) (sym same ∙ half)
-      ∙ ap words (part-joined (a .factor) (a .input .now) (k - 1) w (a .from) (a .step))
+      halves-joined (a .factor) (a .input .now) (k - 1) w (a .from) (a .step) (a .powers .now) _ _ _ _ (first-kept f ∙ half)
+      (second-kept g ∙ half) (second-in g) is-even is-odd (both .0)
+      (λ level. c .before .before .join .ensures q e small w level prepared)
       ∙ ap (λ (j : ℕ). words (part (a .factor) (a .input .now) j w (a .from) (a .step))) exponent
 
 pub +transform-spec : {M : Type 1} → statement M
@@ -333,6 +361,9 @@ pub +transform-spec : {M : Type 1} → statement M
     (transform-four-requires t)
     (same-length-3 t)
     (returns-3 t)
+    (transform-eight-requires t)
+    (same-length-4 t)
+    (returns-4 t)
     (add-twice t)
     (add-next t)
     (slice-relend-prefix-transform t)
@@ -344,5 +375,5 @@ pub +transform-spec : {M : Type 1} → statement M
     (part-transform-end t)
     (transform-requires-2 t)
     (join-requires t)
-    (same-length-4 t)
-    (returns-4 t)
+    (same-length-5 t)
+    (returns-5 t)
