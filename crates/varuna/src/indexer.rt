@@ -13,7 +13,7 @@ ghost use Rattle.varuna.specs.Inputs.{twelve};
 use crate::answers::Filled;
 use call_refusals::judge_index;
 use field::MODULE_PRIME;
-use index::index_matrix_into;
+use index::index_into;
 use shared::Fault;
 
 // The twelve index polynomials of a circuit with entry lists ea, eb, ec, each into a slice of |K_M| words: row, col, rowcol and
@@ -67,9 +67,26 @@ pub fn index(
     let fault = judge_index(MODULE_PRIME, r, c, x, ea, eb, ec, lent);
     match fault {
         Fault::Fine => {
-            index_matrix_into(MODULE_PRIME, r, c, ea, rowA, colA, rowcolA, rowcolvalA);
-            index_matrix_into(MODULE_PRIME, r, c, eb, rowB, colB, rowcolB, rowcolvalB);
-            index_matrix_into(MODULE_PRIME, r, c, ec, rowC, colC, rowcolC, rowcolvalC);
+            index_into(
+                MODULE_PRIME,
+                r,
+                c,
+                ea,
+                eb,
+                ec,
+                rowA,
+                colA,
+                rowcolA,
+                rowcolvalA,
+                rowB,
+                colB,
+                rowcolB,
+                rowcolvalB,
+                rowC,
+                colC,
+                rowcolC,
+                rowcolvalC,
+            );
             Filled::Done
         }
         Fault::Refused(number, position) => Filled::Refused(number, position),

@@ -147,7 +147,22 @@ pub fn third_round(
     );
     match fault {
         Fault::Fine => {
-            line_into(p, r, c, x, ea, eb, ec, z, mask, m, alpha, eta, remainder, quotient);
+            line_into(
+                p,
+                r,
+                c,
+                x,
+                ea,
+                eb,
+                ec,
+                z,
+                mask,
+                m,
+                alpha,
+                eta,
+                remainder,
+                quotient,
+            );
             Filled::Done
         }
         Fault::Refused(number, position) => Filled::Refused(number, position),

@@ -4,7 +4,7 @@ use mathlib.Core.List.{List}
 use Prim.Native.Nat.{ℕ}
 use lib.Dec.{lit<}
 use Rattle.domain.specs.BabyBear.{babyBear}
-use Rattle.protocol.specs.Three.{A, B, C, Three}
+use Rattle.protocol.specs.Three.{Three}
 use Rattle.protocol.specs.Circuit.{Circuit}
 use Rattle.protocol.specs.Index.{Index}
 use Rattle.shared.specs.Meanings.{faultRefusal}
@@ -42,90 +42,66 @@ fits c =
     let j = c .before .before in
     call-fits (circuit (start j)) (lent (start j)) (j .judge-index .result) (judgement j) (c .enum-told .given .1)
 
--- the places of the three fills, from the last
-abbrev at-c : tie.After-slice-known24 → tie.After-index-matrix-into3
-at-c c = c .before .before .before .before .before .before .before .before
-
-abbrev at-b : tie.After-slice-known24 → tie.After-index-matrix-into2
-at-b c = at-c c .before .before .before .before .before .before .before .before .before .before .before .before .before
-
-abbrev at-a : tie.After-slice-known24 → tie.After-index-matrix-into
-at-a c = at-b c .before .before .before .before .before .before .before .before .before .before .before .before .before
-
--- from before the fill of B, and of C, to where nothing was refused
-abbrev before-b : tie.After-slice-known16 → tie.After-enum-told
-before-b c = c .before .before .before .before .before .before .before .before .before .before .before .before .before
-
-abbrev before-c : tie.After-slice-known20 → tie.After-enum-told
-before-c c = before-b (c .before .before .before .before .before .before .before .before .before .before .before .before .before)
-
 judge-index-requires : tie.Need-judge-index-requires
 judge-index-requires c κs = tt
 
 enum-told : tie.Need-enum-told
 enum-told c = search needs
 
-index-matrix-into-requires : tie.Need-index-matrix-into-requires
-index-matrix-into-requires c κs =
-    let F = fits (c .before .before .before .before) in (lit< tt, ((F .shape .R-size, (F .shape .C-size, F .shape .lists .list-a)), F .lent-a))
-
-index-matrix-into-requires-2 : tie.Need-index-matrix-into-requires-2
-index-matrix-into-requires-2 c κs =
-    let F = fits (before-b (c .before .before .before .before)) in (lit< tt, ((F .shape .R-size, (F .shape .C-size, F .shape .lists .list-b)), F .lent-b))
-
-index-matrix-into-requires-3 : tie.Need-index-matrix-into-requires-3
-index-matrix-into-requires-3 c κs =
-    let F = fits (before-c (c .before .before .before .before)) in (lit< tt, ((F .shape .R-size, (F .shape .C-size, F .shape .lists .list-c)), F .lent-c))
+index-into-requires : tie.Need-index-into-requires
+index-into-requires c κs =
+    let F = fits (c .before .before .before .before .before .before .before .before .before .before .before .before) in
+    (lit< tt, (F .shape, (F .lent-a, (F .lent-b, F .lent-c))))
 
 enum-known-fault : tie.Need-enum-known-fault
 enum-known-fault c = search needs
 
 same-length : tie.Need-same-length
-same-length c = at-a c .index-matrix-into .kept .1 .1 .1 .1 .0
+same-length c = c .before .before .before .before .before .before .before .before .before .before .before .before .before .before .before .before .before .before .before .before .before .before .before .before .index-into .kept .1 .1 .1 .1 .1 .1 .0
 
 same-length-2 : tie.Need-same-length-2
-same-length-2 c = at-a c .index-matrix-into .kept .1 .1 .1 .1 .1 .0
+same-length-2 c = c .before .before .before .before .before .before .before .before .before .before .before .before .before .before .before .before .before .before .before .before .before .before .before .before .index-into .kept .1 .1 .1 .1 .1 .1 .1 .0
 
 same-length-3 : tie.Need-same-length-3
-same-length-3 c = at-a c .index-matrix-into .kept .1 .1 .1 .1 .1 .1 .0
+same-length-3 c = c .before .before .before .before .before .before .before .before .before .before .before .before .before .before .before .before .before .before .before .before .before .before .before .before .index-into .kept .1 .1 .1 .1 .1 .1 .1 .1 .0
 
 same-length-4 : tie.Need-same-length-4
-same-length-4 c = at-a c .index-matrix-into .kept .1 .1 .1 .1 .1 .1 .1 .0
+same-length-4 c = c .before .before .before .before .before .before .before .before .before .before .before .before .before .before .before .before .before .before .before .before .before .before .before .before .index-into .kept .1 .1 .1 .1 .1 .1 .1 .1 .1 .0
 
 same-length-5 : tie.Need-same-length-5
-same-length-5 c = at-b c .index-matrix-into2 .kept .1 .1 .1 .1 .0
+same-length-5 c = c .before .before .before .before .before .before .before .before .before .before .before .before .before .before .before .before .before .before .before .before .before .before .before .before .index-into .kept .1 .1 .1 .1 .1 .1 .1 .1 .1 .1 .0
 
 same-length-6 : tie.Need-same-length-6
-same-length-6 c = at-b c .index-matrix-into2 .kept .1 .1 .1 .1 .1 .0
+same-length-6 c = c .before .before .before .before .before .before .before .before .before .before .before .before .before .before .before .before .before .before .before .before .before .before .before .before .index-into .kept .1 .1 .1 .1 .1 .1 .1 .1 .1 .1 .1 .0
 
 same-length-7 : tie.Need-same-length-7
-same-length-7 c = at-b c .index-matrix-into2 .kept .1 .1 .1 .1 .1 .1 .0
+same-length-7 c = c .before .before .before .before .before .before .before .before .before .before .before .before .before .before .before .before .before .before .before .before .before .before .before .before .index-into .kept .1 .1 .1 .1 .1 .1 .1 .1 .1 .1 .1 .1 .0
 
 same-length-8 : tie.Need-same-length-8
-same-length-8 c = at-b c .index-matrix-into2 .kept .1 .1 .1 .1 .1 .1 .1 .0
+same-length-8 c = c .before .before .before .before .before .before .before .before .before .before .before .before .before .before .before .before .before .before .before .before .before .before .before .before .index-into .kept .1 .1 .1 .1 .1 .1 .1 .1 .1 .1 .1 .1 .1 .0
 
 same-length-9 : tie.Need-same-length-9
-same-length-9 c = at-c c .index-matrix-into3 .kept .1 .1 .1 .1 .0
+same-length-9 c = c .before .before .before .before .before .before .before .before .before .before .before .before .before .before .before .before .before .before .before .before .before .before .before .before .index-into .kept .1 .1 .1 .1 .1 .1 .1 .1 .1 .1 .1 .1 .1 .1 .0
 
 same-length-10 : tie.Need-same-length-10
-same-length-10 c = at-c c .index-matrix-into3 .kept .1 .1 .1 .1 .1 .0
+same-length-10 c = c .before .before .before .before .before .before .before .before .before .before .before .before .before .before .before .before .before .before .before .before .before .before .before .before .index-into .kept .1 .1 .1 .1 .1 .1 .1 .1 .1 .1 .1 .1 .1 .1 .1 .0
 
 same-length-11 : tie.Need-same-length-11
-same-length-11 c = at-c c .index-matrix-into3 .kept .1 .1 .1 .1 .1 .1 .0
+same-length-11 c = c .before .before .before .before .before .before .before .before .before .before .before .before .before .before .before .before .before .before .before .before .before .before .before .before .index-into .kept .1 .1 .1 .1 .1 .1 .1 .1 .1 .1 .1 .1 .1 .1 .1 .1 .0
 
 same-length-12 : tie.Need-same-length-12
-same-length-12 c = at-c c .index-matrix-into3 .kept .1 .1 .1 .1 .1 .1 .1 .0
+same-length-12 c = c .before .before .before .before .before .before .before .before .before .before .before .before .before .before .before .before .before .before .before .before .before .before .before .before .index-into .kept .1 .1 .1 .1 .1 .1 .1 .1 .1 .1 .1 .1 .1 .1 .1 .1 .1 .0
 
 returns : tie.Need-returns
 unfolding circuitOf
 returns c =
-    let d = at-a c .before .before .before .before .before in
+    let v = c .before .before .before .before .before .before .before .before .before .before .before .before .before .before .before .before .before .before .before .before .before .before .before .before in
+    let d = v .before .before .before .before .before .before .before .before .before .before .before .before .before in
     let j = d .before .before in
     let k : Circuit = circuitOf (circuit (start j)) in
+    let made = v .index-into .ensures babyBear known-prime k refl refl refl in
     index-done (circuit (start j)) (lent (start j)) (j .judge-index .result) (judgement j) (d .enum-told .given .1)
-    (at-a c .index-matrix-into .ensures babyBear known-prime k A refl refl refl)
-    (at-b c .index-matrix-into2 .ensures babyBear known-prime k B refl refl refl)
-    (at-c c .index-matrix-into3 .ensures babyBear known-prime k C refl refl refl)
+    (made .of-a) (made .of-b) (made .of-c)
 
 returns-2 : tie.Need-returns-2
 returns-2 c =
@@ -138,9 +114,7 @@ index-spec =
     (tie.spec
     judge-index-requires
     enum-told
-    index-matrix-into-requires
-    index-matrix-into-requires-2
-    index-matrix-into-requires-3
+    index-into-requires
     enum-known-fault
     same-length
     same-length-2

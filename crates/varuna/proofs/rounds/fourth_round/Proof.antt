@@ -93,10 +93,13 @@ enum-told c = search needs
 values-into-requires : tie.Need-values-into-requires
 unfolding lengths sizesOf circuitOf
 values-into-requires c κs =
-    let F = fits (c .before .before .before) in
-    (lit< tt,
-    (shaped (F .fits),
-    (F .fits .within, (one-below _ _ (F .lent-fit .0), (one-below _ _ (F .lent-fit .1 .0), one-below _ _ (F .lent-fit .1 .1 .0))))))
+    let F = fits (c .before .before .before) in (
+      lit< tt,
+      (
+        shaped (F .fits),
+        (F .fits .within, (one-below _ _ (F .lent-fit .0), (one-below _ _ (F .lent-fit .1 .0), one-below _ _ (F .lent-fit .1 .1 .0)))),
+      ),
+    )
 
 enum-known-fault : tie.Need-enum-known-fault
 enum-known-fault c = search needs
