@@ -3,7 +3,7 @@
 use mathlib.Core.Path.{_≡_, sym, ap, _∙_, subst}
 use mathlib.Core.Bool.{true}
 use mathlib.Core.List.{List, [], _∷_}
-use Prim.Native.Nat.{ℕ, _≤_}
+use Prim.Native.Nat.{ℕ}
 use lib.ListN.{length}
 use borrow.Author.Tests.{not-true}
 use Rattle.algebra.specs.Counting.{All}
@@ -16,7 +16,8 @@ use Rattle.field.proofs.Field.{mul-reciprocal}
 use Rattle.domain.specs.Size.{isSize, sizeFor}
 use Rattle.domain.specs.Domain.{vanishing, Outside}
 use Rattle.domain.specs.Known.{Known, KnownPrime, OutsideDomain}
-use Rattle.domain.proofs.DomainLaws.{vanishing-outside, outside-subgroup}
+use Rattle.domain.proofs.DomainLaws.{vanishing-outside}
+use Rattle.domain.proofs.Divisors.{outside-smaller}
 use Rattle.domain.proofs.Qualification.{known-qualifies}
 use Rattle.protocol.specs.Three.{MatrixName, at}
 use Rattle.protocol.specs.Circuit.{Circuit}
@@ -34,11 +35,6 @@ use Rattle.openings.specs.OpeningsGiven.{PointsOutside}
 pub outside-here : {q : Prime} {p n y : ℕ} → Known q p → OutsideDomain p n y → Outside {q = q} n (of y)
 outside-here {n = n} {y} K o =
     subst (λ (q : Prime). Outside {q = q} n (of y)) (o .over .known .is-module ∙ sym (K .is-module)) (o .is-outside)
-
--- outside a domain that lies in this one
-pub outside-smaller : {p n y : ℕ} (m : ℕ) → isSize m ≡ true → isSize n ≡ true → m ≤ n → OutsideDomain p n y → OutsideDomain p m y
-outside-smaller {n = n} {y} m s t le o =
-    record { over = o .over; is-outside = outside-subgroup (known-qualifies (o .over .known)) m n s t le (of y) (o .is-outside) }
 
 pub exact-quotient : {q : Prime} {p : ℕ} (n : ℕ) → isSize n ≡ true → Known q p → (y : ℕ) → Outside {q = q} n (of y) → (h : Elem q)
     → (h ⊗ vanishing n (of y) ⊘ vanishing n (of y)) .word ≡ h .word

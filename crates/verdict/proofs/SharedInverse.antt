@@ -1,21 +1,13 @@
 -- A quotient from one inverse that is shared: that of a product of its divisor with others. Assumes nothing.
-use mathlib.Core.Path.{_≡_, sym, ap, _∙_}
+use mathlib.Core.Path.{_≡_, ap, _∙_}
 use mathlib.Core.Logic.{_≢_}
-use mathlib.Core.Bool.{true}
 use mathlib.Core.List.{[], _∷_}
-use Prim.Native.Nat.{ℕ, _≤_}
 use Rattle.algebra.proofs.Solver.{_:*_, :-_, :1, _:=_, _⊙_, _from_, ring-by}
 use Rattle.field.specs.Prime.{Prime}
-use Rattle.field.specs.Element.{Elem, of, 𝟘, _⊗_}
+use Rattle.field.specs.Element.{Elem, 𝟘, _⊗_}
 use Rattle.field.specs.Power.{reciprocal, _⊘_}
 use Rattle.field.proofs.ElementLaws.{primeRing}
 use Rattle.field.proofs.Field.{mul-reciprocal, reciprocal-product}
-use Rattle.field.proofs.Words.{of-result, nonzero-by-value}
-use Rattle.domain.specs.Size.{isSize}
-use Rattle.domain.specs.Domain.{vanishing}
-use Rattle.domain.specs.Known.{OutsideDomain}
-use Rattle.domain.proofs.DomainLaws.{vanishing-outside, outside-subgroup}
-use Rattle.domain.proofs.Qualification.{known-qualifies}
 
 -- k v / (n d) from v/n divided by a product of d with others
 pub selector-from : {q : Prime} (k v n d others product : Elem q) → n ≢ 𝟘 → d ≢ 𝟘 → others ≢ 𝟘 → product ≡ d ⊗ others

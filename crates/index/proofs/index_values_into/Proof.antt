@@ -1,21 +1,13 @@
 -- `index::index_values_into` meets its contract. Assumes nothing.
 use borrow.Author.Needs.{needs}
-use mathlib.Core.Path.{_≡_, sym, ap, _∙_, subst}
-use mathlib.Core.List.{List}
+use mathlib.Core.Path.{_≡_, ap, _∙_, subst}
 use Prim.Native.Nat.{ℕ, _≤_, _<_}
 use native.Mathlib.Omega.{arith}
 use lib.ListN.{length, take}
-use Rattle.algebra.specs.Lists.{tabulate}
-use Rattle.algebra.specs.Ring.{pow}
-use Rattle.field.specs.Prime.{Prime}
-use Rattle.field.specs.Element.{of, words}
-use Rattle.field.proofs.ElementLaws.{primeRing}
 use Rattle.domain.specs.Size.{isSize}
-use Rattle.domain.specs.Domain.{root, domain}
 use Rattle.domain.proofs.Qualification.{known-qualifies}
 use Rattle.domain.proofs.SizeLaws.{size-positive, size-bound}
-use Rattle.domain.proofs.DomainLaws.{powers-domain}
-use Rattle.poly.proofs.LentParts.{array, returned, lent-length, back-holds, back-length, back-is}
+use Rattle.poly.proofs.LentParts.{returned, lent-length, back-holds, back-length}
 use Rattle.index.proofs.IndexValues.{listed}
 use Rattle.index.proofs.index_values_into.Statement.{statement}
 use Rattle.index.proofs.index_values_into.Tie as tie

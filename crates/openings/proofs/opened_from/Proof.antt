@@ -23,7 +23,8 @@ use Rattle.prover.proofs.CallLaws.{assignment-on-C}
 use Rattle.matrix_sumcheck.specs.MatrixGiven.{Challenged, EntriesWithin}
 use Rattle.matrix_sumcheck.proofs.GivenLaws.{entries-within, matrix-given}
 use Rattle.openings.proofs.OpeningLaws.{nine-same, three-same}
-use Rattle.openings.proofs.OutsideLaws.{outside-here, outside-smaller, outside-matrix}
+use Rattle.domain.proofs.Divisors.{outside-smaller}
+use Rattle.openings.proofs.OutsideLaws.{outside-here, outside-matrix}
 use Rattle.openings.proofs.opened_from.Statement.{statement}
 use Rattle.openings.proofs.opened_from.Tie as tie
 

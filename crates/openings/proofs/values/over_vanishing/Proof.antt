@@ -1,13 +1,12 @@
 -- `openings::values::over_vanishing` meets its contract: v_D(y) is not 0 for y outside the domain. Assumes nothing.
 use borrow.Author.Needs.{needs}
-use mathlib.Core.Path.{_≡_, sym, ap₂, _∙_}
+use mathlib.Core.Path.{_≡_, ap₂, _∙_}
 use Rattle.field.specs.Prime.{Prime}
 use Rattle.field.specs.Element.{Elem, of}
 use Rattle.field.specs.Power.{_⊘_}
-use Rattle.field.proofs.Words.{of-result, nonzero-by-value}
+use Rattle.field.proofs.Words.{of-result}
 use Rattle.domain.specs.Domain.{vanishing}
-use Rattle.domain.proofs.DomainLaws.{vanishing-outside}
-use Rattle.domain.proofs.Qualification.{known-qualifies}
+use Rattle.domain.proofs.Divisors.{vanishing-word-not-zero}
 use Rattle.openings.proofs.OutsideLaws.{outside-here, exact-quotient}
 use Rattle.openings.proofs.values.over_vanishing.Statement.{statement}
 use Rattle.openings.proofs.values.over_vanishing.Tie as tie
@@ -22,18 +21,10 @@ divisor c q e =
 vanishing-value-requires : tie.Need-vanishing-value-requires
 vanishing-value-requires c κs = search needs
 
--- for every prime of value p
 divide-requires : tie.Need-divide-requires
 divide-requires c κs =
     let s = c .before in
-    let a = s .args in
-    let o = s .pre .1 .1 in
-    let e = o .over .known .value in (
-      search needs,
-      λ r f. nonzero-by-value (f ∙ sym e) (c .vanishing-value .result) (λ z.
-          vanishing-outside (known-qualifies (o .over .known)) (a .n) (s .pre .1 .0) (of (a .y)) (o .is-outside)
-          (sym (divisor c (o .over .prime) e) ∙ z)),
-    )
+    (s .pre .0, vanishing-word-not-zero (s .pre .1 .1) (s .pre .1 .0) _ (c .vanishing-value .ensures))
 
 returns : tie.Need-returns
 returns c q K h e =

@@ -1,23 +1,17 @@
 -- `varuna::rounds::third_round` meets its contract. Assumes nothing.
-use mathlib.Core.Path.{_≡_, refl, sym, ap, ap₂, _∙_}
+use mathlib.Core.Path.{_≡_, refl, ap, ap₂, _∙_}
 use mathlib.Core.List.{List, [], _∷_}
-use Prim.Native.Nat.{ℕ, _*_, _≤_}
-use lib.Dec.{lit<}
+use Prim.Native.Nat.{ℕ}
 use lib.ListN.{length}
 use borrow.Author.Tests.{eqb-true}
-use Rattle.field.specs.Element.{words}
-use Rattle.domain.specs.Polynomial.{Poly}
 use Rattle.domain.specs.BabyBear.{babyBear}
 use Rattle.domain.proofs.Qualification.{babyBear-qualifies, babyBear-modulus}
-use Rattle.protocol.specs.Circuit.{Circuit, sizesOf}
+use Rattle.protocol.specs.Circuit.{sizesOf}
 use Rattle.protocol.specs.Messages.{Messages, lengths, lineRemainder, lineQuotient}
-use Rattle.shared.specs.Meanings.{faultRefusal, three}
+use Rattle.shared.specs.Meanings.{faultRefusal}
 use Rattle.protocol.specs.Calls.{ProverInput, circuitOf, roundRefusal, thirdRoundCall}
 use Rattle.circuit.specs.Given.{given, proverInput}
-use Rattle.poly.proofs.LentParts.{part-length, filled-within, filled-length, of-filled}
-use Rattle.prover.specs.CallGiven.{lineIn}
 use Rattle.varuna.proofs.AnswerLaws.{matched, fill-done}
-use Rattle.circuit.proofs.Fitting.{C-fits}
 use Rattle.varuna.proofs.CallRounds.{InputFits, input-fits, known-prime}
 use borrow.Author.Needs.{needs}
 use Rattle.varuna.proofs.rounds.third_round.Statement.{statement}
