@@ -1,4 +1,4 @@
--- The coefficients of sums, multiples, products, quotients and remainders of polynomials; an entry past the end is 0.
+-- The coefficients of sums, multiples, quotients and remainders of polynomials; an entry past the end is 0.
 -- Assumes nothing.
 use mathlib.Core.Path.{_≡_, refl, sym, ap, ap₂, _∙_}
 use mathlib.Core.List.{List, [], _∷_}
@@ -7,7 +7,7 @@ use native.Mathlib.Omega.{arith}
 use lib.ListN.{length, getD, take, drop, length-drop, getD-replicate, List·getD-eq-default}
 use lib.Seq.{take-nil, drop-nil, getD-take, getD-drop, drop-drop}
 use Rattle.algebra.specs.Ring.{CommRing}
-use Rattle.algebra.specs.Polynomial.{add, scale, mul, quotientIn, remainderIn, quotient, remainder}
+use Rattle.algebra.specs.Polynomial.{add, scale, quotientIn, remainderIn, quotient, remainder}
 use Rattle.algebra.proofs.Division.{length-quotient}
 use Rattle.algebra.proofs.RingLaws.{zero-add, mul-zero}
 use Rattle.algebra.proofs.Solver.{_:+_, _:*_, _:=_, ring}
@@ -15,7 +15,7 @@ use Rattle.algebra.proofs.PolynomialLaws.{length-add, length-scale}
 use Rattle.domain.proofs.ListLaws.{equal-entries}
 
 module _ {A : Type 0} (R : CommRing A) where
-  open CommRing R using (𝟘, _⊕_, _⊗_, add-comm, add-zero)
+  open CommRing R using (𝟘, _⊕_, _⊗_, add-zero)
 
   infixl 75 _⊕_
   infixl 80 _⊗_
@@ -29,34 +29,6 @@ module _ {A : Type 0} (R : CommRing A) where
   coefficient-scale k [] i = sym (mul-zero R k)
   coefficient-scale k (a ∷ f) zero = refl
   coefficient-scale k (a ∷ f) (suc i) = coefficient-scale k f i
-
-  -- Y^i · f
-  abbrev pub shifted : ℕ → List A → List A
-  shifted zero f = f
-  shifted (suc i) f = 𝟘 ∷ shifted i f
-
-  pub shifted-suc : (i : ℕ) (f : List A) → shifted (suc i) f ≡ shifted i (𝟘 ∷ f)
-  shifted-suc zero f = refl
-  shifted-suc (suc i) f = ap (λ (g : List A). 𝟘 ∷ g) (shifted-suc i f)
-
-  pub shifted-empty : (i k : ℕ) → getD (shifted i []) k 𝟘 ≡ 𝟘
-  shifted-empty zero k = refl
-  shifted-empty (suc i) zero = refl
-  shifted-empty (suc i) (suc k) = shifted-empty i k
-
-  pub shifted-add : (i : ℕ) (f g : List A) (k : ℕ)
-      → getD (shifted i (add R f g)) k 𝟘 ≡ getD (shifted i f) k 𝟘 ⊕ getD (shifted i g) k 𝟘
-  shifted-add zero f g k = coefficient-add f g k
-  shifted-add (suc i) f g zero = sym (add-zero 𝟘)
-  shifted-add (suc i) f g (suc k) = shifted-add i f g k
-
-  -- one row of a product: the coefficients of Y^i · ((a + Y·f) · g)
-  pub product-row : (i : ℕ) (a : A) (f g : List A) (k : ℕ)
-      → getD (shifted i (mul R (a ∷ f) g)) k 𝟘 ≡ getD (shifted (suc i) (mul R f g)) k 𝟘 ⊕ getD (shifted i (scale R a g)) k 𝟘
-  product-row i a f g k =
-      shifted-add i (scale R a g) (𝟘 ∷ mul R f g) k
-      ∙ ap (λ (h : List A). getD (shifted i (scale R a g)) k 𝟘 ⊕ getD h k 𝟘) (sym (shifted-suc i (mul R f g)))
-      ∙ add-comm (getD (shifted i (scale R a g)) k 𝟘) (getD (shifted (suc i) (mul R f g)) k 𝟘)
 
   -- the sum of each n-th coefficient from the j-th on
   unfoldable pub folds : ℕ → List A → ℕ → A

@@ -2,16 +2,12 @@
 -- coefficient that its contract names. Assumes nothing.
 use mathlib.Core.Path.{_≡_, refl, sym, ap, _∙_}
 use mathlib.Core.List.{List, [], _∷_, _++_, map, tail}
-use Prim.Native.Nat.{ℕ, zero, suc, _+_, _≤_}
-use native.Mathlib.Omega.{arith}
-use lib.ListN.{length, take, drop, getD, replicate, List·getD-map}
+use Prim.Native.Nat.{ℕ, zero, suc, _+_}
+use lib.ListN.{getD, replicate, List·getD-map}
 use Rattle.field.specs.Prime.{Prime}
-use Rattle.field.specs.Element.{Elem, of, 𝟘, _⊕_, words}
-use Rattle.field.proofs.ElementLaws.{primeRing, add-zero}
+use Rattle.field.specs.Element.{Elem, of, 𝟘, words}
 use Rattle.field.proofs.Words.{of-result}
-use Rattle.domain.specs.Polynomial.{_⊞_}
 use Rattle.domain.proofs.Fill.{word-at}
-use Rattle.poly.proofs.Coefficients.{shifted}
 
 -- a list of one value alone, which stands past its end too
 pub replicate-at : {A : Type 0} (d : A) (n i : ℕ) → getD (replicate n d) i d ≡ d
@@ -44,20 +40,3 @@ module _ {q : Prime} where
   -- the word of an element is a field word already
   pub reduced : {r : ℕ} (x : Elem q) → r ≡ x .word → r ≡ of {q = q} r .word
   reduced x e = e ∙ sym (ap (λ (a : Elem q). a .word) (of-result x e))
-
-  -- Where h is added to the entries of a list of field words, from the first on and from the i-th on: each entry then.
-  added-at : (h : List (Elem q)) (l : List ℕ) (k : ℕ) → length h ≤ length l → getD l k 0 ≡ of {q = q} (getD l k 0) .word
-      → getD (words (map of (take (length h) l) ⊞ h) ++ drop (length h) l) k 0 ≡ (of (getD l k 0) ⊕ getD h k 𝟘) .word
-  added-at [] l k le field-word = field-word ∙ sym (ap (λ (a : Elem q). a .word) (add-zero (of (getD l k 0))))
-  added-at (a ∷ h) [] k le field-word = absurd (omega arith)
-  added-at (a ∷ h) (x ∷ l) zero le field-word = refl
-  added-at (a ∷ h) (x ∷ l) (suc k) le field-word = added-at h l k (omega arith) field-word
-
-  pub added-from : (i : ℕ) (h : List (Elem q)) (l : List ℕ) (k : ℕ) → i + length h ≤ length l
-      → getD l k 0 ≡ of {q = q} (getD l k 0) .word
-      → getD (take i l ++ (words (map of (take (length h) (drop i l)) ⊞ h) ++ drop (length h) (drop i l))) k 0
-      ≡ (of (getD l k 0) ⊕ getD (shifted (primeRing q) i h) k 𝟘) .word
-  added-from zero h l k le field-word = added-at h l k (omega arith) field-word
-  added-from (suc i) h [] k le field-word = absurd (omega arith)
-  added-from (suc i) h (x ∷ l) zero le field-word = field-word ∙ sym (ap (λ (a : Elem q). a .word) (add-zero (of x)))
-  added-from (suc i) h (x ∷ l) (suc k) le field-word = added-from i h l k (omega arith) field-word

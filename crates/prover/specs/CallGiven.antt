@@ -6,7 +6,7 @@ use Rattle.field.specs.Element.{Elem, of}
 use Rattle.domain.specs.Polynomial.{Poly}
 use Rattle.protocol.specs.Three.{Three, mapThree}
 use Rattle.protocol.specs.Circuit.{Circuit, publicPart}
-use Rattle.protocol.specs.Messages.{witness, assignment, rowQuotient, line, lineRemainder, lineQuotient}
+use Rattle.protocol.specs.Messages.{witness, assignment, line, lineRemainder, lineQuotient}
 use Rattle.protocol.specs.Calls.{ProverInput, circuitOf}
 
 module _ (q : Prime) (i : ProverInput) where
@@ -21,9 +21,6 @@ module _ (q : Prime) (i : ProverInput) where
 
   abbrev pub assignmentIn : Poly q
   assignmentIn = assignment circuitIn (publicPart circuitIn zIn) witnessIn
-
-  abbrev pub rowQuotientIn : Poly q
-  rowQuotientIn = rowQuotient circuitIn assignmentIn
 
   abbrev pub lineIn : ℕ → Three ℕ → Poly q
   lineIn α η = line circuitIn (map of (i .m)) assignmentIn (of α) (mapThree of η)
