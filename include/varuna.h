@@ -77,7 +77,7 @@
  * target. It uses the base instruction set with SSE2 registers and the red zone below the stack pointer, is position independent, and has
  * no variables: calls that write separate memory may run at the same time. It calls memcpy and memset and nothing else: no heap, no files,
  * no system calls. The stack is measured, not proved: tests/c/stack.c runs every call on more than single words at the largest sizes.
- * varuna_openings took the most, 70,144 bytes, then varuna_third_round, 54,416; a step of the session took at most 4,696.
+ * varuna_fifth_round took the most, 76,308 bytes, then varuna_openings, 68,340; a step of the session took at most 12,864.
  */
 #ifndef VARUNA_H
 #define VARUNA_H
@@ -92,10 +92,10 @@ extern "C" {
 /* The version of what this file declares. The first number rises when a program that used the calls as described here has to change, the
  * second when calls or constants are added, the third when only text, speed or stack change. The archive belongs to the file it came with
  * and holds no version of its own. */
-#define VARUNA_VERSION "3.4.0"
+#define VARUNA_VERSION "3.4.1"
 #define VARUNA_VERSION_MAJOR 3
 #define VARUNA_VERSION_MINOR 4
-#define VARUNA_VERSION_PATCH 0
+#define VARUNA_VERSION_PATCH 1
 
 /* p, the number of elements of the field. */
 #define VARUNA_MODULUS UINT32_C(2013265921)

@@ -84,6 +84,9 @@ at-a c = c .before .before .before .before .before .before .before .before .befo
 abbrev at-b : tie.After-index-matrix-into3 → tie.After-index-matrix-into2
 at-b c = c .before .before .before .before .before .before .before .before .before .before .before .before .before
 
+abbrev at-c : tie.After-slice-known24 → tie.After-index-matrix-into3
+at-c c = c .before .before .before .before .before .before .before .before
+
 root-of-requires : tie.Need-root-of-requires
 root-of-requires c κs = start c .pre .1 .0 .R-size
 
@@ -143,44 +146,44 @@ index-matrix-into-requires-3 c κs =
     (h .0, ((some-rows f, (some-columns f, h .1 .0 .lists .list-c)), h .1 .1 .1 .1))
 
 same-length : tie.Need-same-length
-same-length c = let l = c .before .before .before .before .before .before .before .before in at-a (at-b l) .index-matrix-into .kept .1 .1 .1 .1 .0
+same-length c = at-a (at-b (at-c c)) .index-matrix-into .kept .1 .1 .1 .1 .0
 
 same-length-2 : tie.Need-same-length-2
-same-length-2 c = let l = c .before .before .before .before .before .before .before .before in at-a (at-b l) .index-matrix-into .kept .1 .1 .1 .1 .1 .0
+same-length-2 c = at-a (at-b (at-c c)) .index-matrix-into .kept .1 .1 .1 .1 .1 .0
 
 same-length-3 : tie.Need-same-length-3
-same-length-3 c = let l = c .before .before .before .before .before .before .before .before in at-a (at-b l) .index-matrix-into .kept .1 .1 .1 .1 .1 .1 .0
+same-length-3 c = at-a (at-b (at-c c)) .index-matrix-into .kept .1 .1 .1 .1 .1 .1 .0
 
 same-length-4 : tie.Need-same-length-4
-same-length-4 c = let l = c .before .before .before .before .before .before .before .before in at-a (at-b l) .index-matrix-into .kept .1 .1 .1 .1 .1 .1 .1 .0
+same-length-4 c = at-a (at-b (at-c c)) .index-matrix-into .kept .1 .1 .1 .1 .1 .1 .1 .0
 
 same-length-5 : tie.Need-same-length-5
-same-length-5 c = let l = c .before .before .before .before .before .before .before .before in at-b l .index-matrix-into2 .kept .1 .1 .1 .1 .0
+same-length-5 c = at-b (at-c c) .index-matrix-into2 .kept .1 .1 .1 .1 .0
 
 same-length-6 : tie.Need-same-length-6
-same-length-6 c = let l = c .before .before .before .before .before .before .before .before in at-b l .index-matrix-into2 .kept .1 .1 .1 .1 .1 .0
+same-length-6 c = at-b (at-c c) .index-matrix-into2 .kept .1 .1 .1 .1 .1 .0
 
 same-length-7 : tie.Need-same-length-7
-same-length-7 c = let l = c .before .before .before .before .before .before .before .before in at-b l .index-matrix-into2 .kept .1 .1 .1 .1 .1 .1 .0
+same-length-7 c = at-b (at-c c) .index-matrix-into2 .kept .1 .1 .1 .1 .1 .1 .0
 
 same-length-8 : tie.Need-same-length-8
-same-length-8 c = let l = c .before .before .before .before .before .before .before .before in at-b l .index-matrix-into2 .kept .1 .1 .1 .1 .1 .1 .1 .0
+same-length-8 c = at-b (at-c c) .index-matrix-into2 .kept .1 .1 .1 .1 .1 .1 .1 .0
 
 same-length-9 : tie.Need-same-length-9
-same-length-9 c = let l = c .before .before .before .before .before .before .before .before in l .index-matrix-into3 .kept .1 .1 .1 .1 .0
+same-length-9 c = at-c c .index-matrix-into3 .kept .1 .1 .1 .1 .0
 
 same-length-10 : tie.Need-same-length-10
-same-length-10 c = let l = c .before .before .before .before .before .before .before .before in l .index-matrix-into3 .kept .1 .1 .1 .1 .1 .0
+same-length-10 c = at-c c .index-matrix-into3 .kept .1 .1 .1 .1 .1 .0
 
 same-length-11 : tie.Need-same-length-11
-same-length-11 c = let l = c .before .before .before .before .before .before .before .before in l .index-matrix-into3 .kept .1 .1 .1 .1 .1 .1 .0
+same-length-11 c = at-c c .index-matrix-into3 .kept .1 .1 .1 .1 .1 .1 .0
 
 same-length-12 : tie.Need-same-length-12
-same-length-12 c = let l = c .before .before .before .before .before .before .before .before in l .index-matrix-into3 .kept .1 .1 .1 .1 .1 .1 .1 .0
+same-length-12 c = at-c c .index-matrix-into3 .kept .1 .1 .1 .1 .1 .1 .1 .0
 
 returns : tie.Need-returns
 returns c q known k er ec matrices =
-    let l = c .before .before .before .before .before .before .before .before in
+    let l = at-c c in
     let a = at-a (at-b l) in
     let both = both-listed (from-a a) q known k er ec in
     record {
