@@ -6,7 +6,7 @@ use mathlib.Core.List.{List, [], _∷_, _++_, map}
 use Prim.Native.Nat.{ℕ, zero, suc, _+_, _≤_, _<_}
 use native.Mathlib.Omega.{arith}
 use native.Mathlib.Decide.{ℕ-discrete}
-use lib.ListN.{length, getD, length-map}
+use lib.ListN.{length, getD, set, length-map}
 use Rattle.algebra.specs.Counting.{All, Distinct, AtMost, MoreThan}
 use Rattle.algebra.specs.Lists.{tabulate}
 
@@ -41,6 +41,12 @@ module _ {A : Type 0} where
   at-all P [] d h = tt
   at-all P (x ∷ l) d h = (h 0 (omega arith), at-all P l d (λ i below. h (suc i) (omega arith)))
 
+  -- another member that has it, in the place of one
+  pub all-set : (P : A → Type 0) (l : List A) (i : ℕ) (x : A) → All P l → P x → All P (set l i x)
+  all-set P [] i x h new = tt
+  all-set P (y ∷ l) zero x h new = (new, h .1)
+  all-set P (y ∷ l) (suc i) x h new = (h .0, all-set P l i x (h .1) new)
+
   pub all-tabulate : (P : A → Type 0) (n : ℕ) (f : ℕ → A) → ((i : ℕ) → i < n → P (f i)) → All P (tabulate n f)
   all-tabulate P zero f h = tt
   all-tabulate P (suc n) f h = (h 0 (omega arith), all-tabulate P n (λ i. f (suc i)) (λ i l. h (suc i) (omega arith)))
@@ -52,6 +58,11 @@ module _ {A : Type 0} where
     all-tabulate (λ y. y ≢ f 0) n (λ i. f (suc i)) (λ i l e. omega (arith, inj (suc i) 0 (omega arith) (omega arith) e)),
     distinct-tabulate n (λ i. f (suc i)) (λ i j l k e. omega (arith, inj (suc i) (suc j) (omega arith) (omega arith) e)),
   )
+
+  -- two lists without repetition and with no common member are one
+  pub distinct-append : (l k : List A) → Distinct l → Distinct k → All (λ x. All (λ y. y ≢ x) k) l → Distinct (l ++ k)
+  distinct-append [] k d e apart = e
+  distinct-append (x ∷ l) k d e apart = (all-append (λ y. y ≢ x) l k (d .0) (apart .0), distinct-append l k (d .1) e (apart .1))
 
   pub at-most-mono : {P Q : A → Type 0} (m n : ℕ) → m ≤ n → ((x : A) → Q x → P x) → AtMost m P → AtMost n Q
   at-most-mono m n m≤n f h l d q = let k : length l ≤ m = h l d (all-map f l q) in omega arith
@@ -140,7 +151,7 @@ module _ {A B : Type 0} (f : A → B) where
   all-image Q [] h = tt
   all-image Q (x ∷ l) h = (h .0, all-image Q l (h .1))
 
-  distinct-image : {P : A → Type 0} → ((x y : A) → P x → P y → f x ≡ f y → x ≡ y) → (l : List A) → Distinct l → All P l → Distinct (map f l)
+  pub distinct-image : {P : A → Type 0} → ((x y : A) → P x → P y → f x ≡ f y → x ≡ y) → (l : List A) → Distinct l → All P l → Distinct (map f l)
   distinct-image inj [] d p = tt
   distinct-image inj (x ∷ l) d p = (
     all-image (λ z. z ≢ f x) l (all-map₂ (λ y ne py e. ne (inj y x py (p .0) e)) l (d .0) (p .1)),

@@ -2,6 +2,8 @@ pub mod RingLaws
 pub mod Solver
 pub mod FieldLaws
 pub mod Counting
+pub mod PairCounting
+pub mod ExactCounting
 pub mod SumLaws
 pub mod PolynomialLaws
 pub mod PartLaws

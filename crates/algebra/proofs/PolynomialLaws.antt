@@ -1,8 +1,8 @@
 -- Laws of polynomials as lists of coefficients, the lists that `tabulate` makes among them: the values of sums, products
--- and parts, a value as a sum over the coefficients, and lengths. Assumes nothing.
+-- and parts, a list brought to a given length, a value as a sum over the coefficients, and lengths. Assumes nothing.
 use mathlib.Core.Path.{_≡_, refl, sym, _∙_, ap, ap₂}
 use mathlib.Core.List.{List, [], _∷_, _++_}
-use Prim.Native.Nat.{ℕ, zero, suc, _+_, _-_, _<_, max}
+use Prim.Native.Nat.{ℕ, zero, suc, _+_, _-_, _<_, _≤_, max}
 use native.Mathlib.Omega.{arith}
 use lib.ListN.{length, getD, take, drop, replicate}
 use Rattle.algebra.specs.Ring.{CommRing, pow}
@@ -10,6 +10,7 @@ use Rattle.algebra.specs.Lists.{tabulate}
 use Rattle.algebra.specs.Counting.{All}
 use Rattle.algebra.specs.Sum.{sum}
 use Rattle.algebra.specs.Polynomial.{eval, add, scale, mul}
+use Rattle.algebra.proofs.Counting.{all-tabulate}
 use Rattle.algebra.proofs.RingLaws.{zero-add, one-mul, mul-left-comm, mul-zero, zero-mul}
 use Rattle.algebra.proofs.Solver.{_:+_, _:*_, :0, :1, _:=_, _⊙_, _from_, ring, ring-by}
 use Rattle.algebra.proofs.SumLaws.{sum-ext, sum-scale, sum-first}
@@ -54,6 +55,15 @@ module _ {A : Type 0} (R : CommRing A) where
   pub eval-replicate-zero : (n : ℕ) (x : A) → eval R (replicate n 𝟘) x ≡ 𝟘
   eval-replicate-zero zero x = refl
   eval-replicate-zero (suc n) x = ap (λ v. 𝟘 ⊕ x ⊗ v) (eval-replicate-zero n x) ∙ zero-add R (x ⊗ 𝟘) ∙ mul-zero R x
+
+  -- the n coefficients from the constant on, with zeros where f has none
+  abbrev pub fitted : ℕ → List A → List A
+  fitted n f = tabulate n (λ i. getD f i 𝟘)
+
+  pub eval-fitted : (n : ℕ) (f : List A) (x : A) → length f ≤ n → eval R (fitted n f) x ≡ eval R f x
+  eval-fitted n [] x short = eval-zero (fitted n []) x (all-tabulate (λ c. c ≡ 𝟘) n (λ i. 𝟘) (λ i l. refl))
+  eval-fitted zero (a ∷ f) x short = absurd (omega arith)
+  eval-fitted (suc n) (a ∷ f) x short = ap (λ v. a ⊕ x ⊗ v) (eval-fitted n f x (omega arith))
 
   pub eval-append : (f g : List A) (x : A) → eval R (f ++ g) x ≡ eval R f x ⊕ pow R x (length f) ⊗ eval R g x
   eval-append [] g x = ring R (eval R g x ∷ []) (λ g. g := :0 :+ :1 :* g) tt

@@ -76,7 +76,7 @@ module _ {q : Prime} where
   sumOver-scale n c f = sum-scale (primeRing q) n c (λ i. f (element n i))
 
   -- the numbers below p stand for distinct elements
-  of-injective : (i j : ℕ) → i < q .p → j < q .p → of {q = q} i ≡ of j → i ≡ j
+  pub of-injective : (i j : ℕ) → i < q .p → j < q .p → of {q = q} i ≡ of j → i ≡ j
   unfolding of
   of-injective i j l k e = sym (mod-eq-of-lt l) ∙ ap (λ (x : Elem q). x .word) e ∙ mod-eq-of-lt k
 

@@ -5,6 +5,7 @@ pub mod ListLaws
 pub mod SizeLaws
 pub mod SizeDigits
 pub mod DomainLaws
+pub mod AllowedPoints
 pub mod Membership
 pub mod Divisors
 pub mod Interpolation

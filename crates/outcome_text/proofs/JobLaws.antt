@@ -6,7 +6,7 @@ use mathlib.Core.Option.{Option, none, some}
 use Prim.Native.Nat.{ℕ, zero, suc, _*_, _/_, _<_}
 use lib.Dec.{lit<}
 use native.Mathlib.Omega.{arith}
-use lib.ListN.{length, getD, length-map}
+use lib.ListN.{length, getD}
 use Rattle.algebra.specs.Lists.{tabulate}
 use Rattle.algebra.specs.Counting.{All}
 use Rattle.algebra.proofs.Counting.{append-all}
@@ -30,6 +30,7 @@ use Rattle.shared.specs.declared.Opened.{Opened}
 use Rattle.protocol.proofs.AdmissionLaws.{job-fits}
 use Rattle.protocol.proofs.CallsProve.{openings-listed}
 use Rattle.protocol.proofs.Honest.{rules-kept}
+use Rattle.protocol.proofs.JudgedSessions.{lengths-back}
 use Rattle.varuna.specs.declared.answers.IndexesOpened.{IndexesOpened}
 use Rattle.openings.specs.OpeningsGiven.{messageList}
 use Rattle.varuna.specs.Answers.{indexesList}
@@ -100,28 +101,23 @@ module _ (i : ProverInput) (d : Challenges) where
         (tabulated-below (c .|X|) (λ k. getD (i .z) (place k) 0) (λ k. picked-below (i .z) (from-z .0) (place k)))
 
     -- the messages' words are as many as the table says
-    in-words : (f : Poly babyBear) {n : ℕ} → length f ≡ n → length (words f) ≡ n
-    in-words f e = length-map f wordOf ∙ e
-
     lengths-due : mapMessages length (λ w. 1) (mapMessages words wordOf sent) ≡ lengths (sizesOf c)
     unfolding lengths
-    lengths-due = λ t.
+    lengths-due =
+        lengths-back sent
+        ∙ (λ t.
         record {
-          witness = in-words (sent .witness) (rules .witness-length) t;
-          mask = in-words (sent .mask) (rules .mask-length) t;
-          rowQuotient = in-words (sent .rowQuotient) (rules .rowQuotient-length) t;
+          witness = rules .witness-length t;
+          mask = rules .mask-length t;
+          rowQuotient = rules .rowQuotient-length t;
           sums = each (λ M. 1);
-          lineRemainder = in-words (sent .lineRemainder) (rules .lineRemainder-length) t;
-          lineQuotient = in-words (sent .lineQuotient) (rules .lineQuotient-length) t;
+          lineRemainder = rules .lineRemainder-length t;
+          lineQuotient = rules .lineQuotient-length t;
           values = each (λ M. 1);
           matrixRemainders =
-              record {
-                a = in-words (sent .matrixRemainders .a) (rules .matrixRemainder-length A) t;
-                b = in-words (sent .matrixRemainders .b) (rules .matrixRemainder-length B) t;
-                c = in-words (sent .matrixRemainders .c) (rules .matrixRemainder-length C) t;
-              };
-          joinedQuotient = in-words (sent .joinedQuotient) (rules .joinedQuotient-length) t;
-        }
+              record { a = rules .matrixRemainder-length A t; b = rules .matrixRemainder-length B t; c = rules .matrixRemainder-length C t };
+          joinedQuotient = rules .joinedQuotient-length t;
+        })
 
     abbrev last : Openings ℕ → Answer
     last o = lastAnswer (sizesOf c) (lengths (sizesOf c)) (publicOf (sizesOf c) (i .z)) d (sumWords i (j .α)) (valueWords i (j .α) (j .β)) o

@@ -7,6 +7,7 @@ use native.Mathlib.Omega.{arith}
 use lib.ListN.{length, getD, set, length-set}
 use lib.Seq.{getD-set-same, getD-set-other, set-getD}
 use Rattle.algebra.specs.Counting.{All}
+use Rattle.algebra.proofs.Counting.{all-set}
 use Rattle.protocol.specs.Three.{MatrixName, A, B, C, Three, at, each, listed, mapThree}
 use Rattle.protocol.specs.Circuit.{Circuit}
 use Rattle.protocol.specs.Blinded.{reservedColumns, blindedAssignment}
@@ -17,11 +18,6 @@ map-set : {S T : Type 0} (f : S → T) (l : List S) (i : ℕ) (x : S) → map f 
 map-set f [] i x = refl
 map-set f (y ∷ l) zero x = refl
 map-set {T = T} f (y ∷ l) (suc i) x = ap (λ (k : List T). f y ∷ k) (map-set f l i x)
-
-all-set : {T : Type 0} (P : T → Type 0) (l : List T) (i : ℕ) (x : T) → All P l → P x → All P (set l i x)
-all-set P [] i x h new = tt
-all-set P (y ∷ l) zero x h new = (new, h .1)
-all-set P (y ∷ l) (suc i) x h new = (h .0, all-set P l i x (h .1) new)
 
 module _ {T : Type 0} (c : Circuit) (z : List T) where
   module _ (ρ : Three T) where

@@ -27,17 +27,14 @@ use Rattle.protocol.specs.Session.{openStep, alphaStep, etaStep, betaSte
 use Rattle.protocol.specs.ConstantColumn.{OpensWithoutOne, ConstantColumn}
 use Rattle.protocol.proofs.RefusalLaws.{first-none, none-first, words-below, past, past-circuit}
 use Rattle.protocol.proofs.AdmissionLaws.{rows-satisfied, satisfied-rows}
-use Rattle.protocol.proofs.Sessions.{judged, open-takes, openings-turn}
+use Rattle.protocol.proofs.UnrefusedSteps.{open-passes, openings-passes}
+use Rattle.protocol.proofs.FollowingSteps.{must-refuse, judged}
+use Rattle.protocol.proofs.Sessions.{left-by-steps}
 
 -- the first of zeros, or of no elements, is 0
 first-is-zero : {q : Prime} (z : List (Elem q)) → All (λ a. a ≡ 𝟘) z → getD z 0 𝟘 ≡ 𝟘
 first-is-zero [] zeros = refl
 first-is-zero (a ∷ z) zeros = zeros .0
-
--- a refusal leaves the session
-refused : (o : Option Refusal) (s : Session) (next : Stepped) → (o ≡ none → ⊥) → (r : Refusal) × (unless o s next ≡ record { session = s; answer = Refused r })
-refused none s next refuses = absurd (refuses refl)
-refused (some r) s next refuses = (r, refl)
 
 -- x does not begin with 1
 abbrev WithoutOne : Session → Type 0
@@ -61,13 +58,12 @@ same-x (some r) s t a = refl
 module _ (q : Prime) where
   opening-refused :
       (s : Session) (n : Sizes) (x : List ℕ) → getD x 0 0 ≢ 1 → (r : Refusal) × (openStep q s n x ≡ record { session = s; answer = Refused r })
-  unfolding openStep
-  opening-refused s n x other = refused (openRefusal q n x) s _ (λ free. other (eqb-true (getD x 0 0) 1 (open-takes q n x free .1 .x-begins)))
+  opening-refused s n x other =
+      must-refuse q s (Open n x) (λ free. other (eqb-true (getD x 0 0) 1 (open-passes q n x .0 free .1 .x-begins)))
 
   verdict-with-one : (s : Session) (o : Openings ℕ) (v : Verdict) → openingsStep q s o .answer ≡ Judged v → getD (s .x) 0 0 ≡ 1
-  unfolding openingsStep
   verdict-with-one s o v e =
-      eqb-true (getD (s .x) 0 0) 1 (openings-turn q s o (judged (openingsRefusal q s o) s _ v e .0) .1 .public-begins)
+      eqb-true (getD (s .x) 0 0) 1 (left-by-steps q s (openings-passes q s o .0 (judged q s (Last o) v e .0) .1) .public-begins)
 
   step-quiet : (s : Session) (step : Step) → OpensWithoutOne step → WithoutOne s → Quiet (stepped q s step)
   unfolding alphaStep etaStep betaStep deltaStep gammaStep openingsStep

@@ -1,12 +1,13 @@
--- Demands 2 and 3, what is known where a verdict is answered, that no divisor is 0, that column 0 is the constant, what growing circuits
--- are, what blinding does, that parts of a list end at its value, and that fast interpolation agrees with the plain one, proved: for every
--- prime that qualifies, and so for the module's prime. Assumes nothing.
+-- Demands 2 and 3, how many false proofs pass in all, what is known where a verdict is answered, that no divisor is 0, that column 0 is the
+-- constant, what growing circuits are, what blinding does, that parts of a list end at its value, and that fast interpolation agrees with
+-- the plain one, proved: for every prime that qualifies, and so for the module's prime. Assumes nothing.
 use Rattle.field.specs.Prime.{Prime}
 use Rattle.domain.specs.BabyBear.{babyBear}
 use Rattle.domain.specs.Qualifies.{Qualifies}
 use Rattle.domain.proofs.Qualification.{babyBear-qualifies}
 use Rattle.protocol.specs.Demand2.{Demand2, Demand2Holds}
 use Rattle.protocol.specs.Demand3.{Setting, Demand3, Demand3Holds}
+use Rattle.protocol.specs.FalseProofs.{FalseProofs, FalseProofsHold}
 use Rattle.protocol.specs.Verdicts.{Verdicts}
 use Rattle.protocol.specs.Divisors.{Divisors}
 use Rattle.protocol.specs.ConstantColumn.{ConstantColumn}
@@ -14,12 +15,15 @@ use Rattle.protocol.specs.Growing.{Growing}
 use Rattle.protocol.specs.Blinding.{Blinding}
 use Rattle.protocol.specs.EvaluationInParts.{EvaluationInParts}
 use Rattle.protocol.specs.FastInterpolation.{FastInterpolation}
+use Rattle.protocol.proofs.AllowedTuples.{allowed-tuples, largest-multiple}
 use Rattle.protocol.proofs.Blinding as proofs
 use Rattle.protocol.proofs.CallsProve.{calls-give-proof, calls-accepted}
 use Rattle.protocol.proofs.ConstantColumn.{constant-column}
 use Rattle.protocol.proofs.Divisors.{divisors}
 use Rattle.protocol.proofs.EvaluationInParts.{evaluation-in-parts}
+use Rattle.protocol.proofs.FalseProofs.{without-witness}
 use Rattle.protocol.proofs.FastInterpolation.{fast-interpolation}
+use Rattle.protocol.proofs.ForbiddenChallenges.{allowed-judged, forbidden-refused}
 use Rattle.protocol.proofs.Growing.{growing}
 use Rattle.protocol.proofs.Honest.{rules-kept, honest-accepted}
 use Rattle.protocol.proofs.IndexDecoding.{index-gives-back}
@@ -55,6 +59,17 @@ demand3 q Q S =
       values-caught = values-caught Q S;
     }
 
+-- whole conversations, with demand 3 for each check
+pub false-proofs : FalseProofsHold
+false-proofs q Q =
+    record {
+      allowed-tuples = allowed-tuples Q;
+      allowed-judged = allowed-judged;
+      forbidden-refused = forbidden-refused;
+      without-witness = without-witness demand3 Q;
+      largest-multiple = largest-multiple Q;
+    }
+
 -- a verdict only at allowed challenges
 pub verdicts : (q : Prime) → Verdicts q
 verdicts q = record { verdicts-allowed = verdicts-allowed q; steps-pass = steps-pass q; only-steps-pass = only-steps-pass q }
@@ -69,6 +84,9 @@ module-demand2 = demand2 babyBear babyBear-qualifies
 
 pub module-demand3 : (S : Setting babyBear) → Demand3 babyBear S
 module-demand3 = demand3 babyBear babyBear-qualifies
+
+pub module-false-proofs : FalseProofs babyBear
+module-false-proofs = false-proofs babyBear babyBear-qualifies
 
 pub module-verdicts : Verdicts babyBear
 module-verdicts = verdicts babyBear

@@ -2,12 +2,12 @@
 -- them at all allowed challenges. Assumes nothing.
 use mathlib.Core.Path.{_≡_, refl, sym, ap, ap₂, _∙_, subst}
 use mathlib.Core.List.{List, [], _∷_, map}
-use Prim.Native.Nat.{ℕ, suc, _≤_}
+use Prim.Native.Nat.{suc}
 use lib.ListN.{length, length-map}
 use native.Mathlib.Nat.{le-of-eq}
 use Rattle.algebra.proofs.RingLaws.{zero-add}
 use Rattle.field.specs.Prime.{Prime}
-use Rattle.field.specs.Element.{Elem, of, wordOf, words, _⊕_}
+use Rattle.field.specs.Element.{Elem, of, _⊕_}
 use Rattle.field.proofs.ElementLaws.{primeRing}
 use Rattle.domain.specs.Domain.{sumOver}
 use Rattle.domain.specs.Polynomial.{Poly, eval, valuesOn}
@@ -17,13 +17,13 @@ use Rattle.protocol.specs.Three.{A, B, C, Three, mapThree}
 use Rattle.protocol.specs.Circuit.{Circuit, sizesOf, Satisfied, publicPart, extension}
 use Rattle.protocol.specs.Index.{indexAt, index}
 use Rattle.protocol.specs.Checks.{Accept, weighted, lineLeft, matrixLeft, joinedLeft, joinedRight, verdict}
-use Rattle.protocol.specs.Messages.{Messages, lengths, witness, assignment, image, sums, values, line, matrixRemainder, matrixQuotient, messages, openings}
+use Rattle.protocol.specs.Messages.{Short, Messages, mapMessages, lengths, witness, assignment, image, sums, values, line, matrixRemainder, matrixQuotient, messages, openings}
 use Rattle.protocol.specs.Session.{Taken, Judged}
+use Rattle.protocol.specs.Conversation.{transcriptOf}
 use Rattle.protocol.specs.Job.{Job, proof, trueOpenings, honestConversation}
 use Rattle.protocol.specs.Demand2.{KeepsRules, RulesKept, HonestAccepted}
 use Rattle.protocol.proofs.AdmissionLaws.{WellFormed, JobFits, job-fits}
-use Rattle.protocol.proofs.TakenSteps.{Short}
-use Rattle.protocol.proofs.Conversation.{declared, transcript, conversation-judged}
+use Rattle.protocol.proofs.Conversation.{drawn, conversation-judged}
 use Rattle.protocol.proofs.JoinedRule.{length-joinedQuotient, eval-joinedQuotient, joined-rule}
 use Rattle.protocol.proofs.LineCheck.{line-rule, length-lineRemainder, length-lineQuotient}
 use Rattle.protocol.proofs.MatrixCheck.{matrix-length, matrix-rule, length-matrixRemainder, length-matrixQuotient}
@@ -121,31 +121,28 @@ module _ {q : Prime} (Q : Qualifies q) (j : Job) (F : JobFits q j) where
   abbrev sent : Messages (Poly q) (Elem q)
   sent = proof q j
 
-  words-length : (f : Poly q) (n : ℕ) → length f ≡ n → length (words f) ≤ n
-  words-length f n e = le-of-eq (length-map f wordOf ∙ e)
-
-  short : Short (sizesOf c) (declared q j F sent)
+  short : Short (sizesOf c) (mapMessages length (λ e. 1) sent)
   short =
       let K = keeps-rules in
       record {
-        witness-short = words-length (sent .witness) _ (K .witness-length);
-        mask-short = words-length (sent .mask) _ (K .mask-length);
-        rowQuotient-short = words-length (sent .rowQuotient) _ (K .rowQuotient-length);
-        lineRemainder-short = words-length (sent .lineRemainder) _ (K .lineRemainder-length);
-        lineQuotient-short = words-length (sent .lineQuotient) _ (K .lineQuotient-length);
+        witness-short = le-of-eq (K .witness-length);
+        mask-short = le-of-eq (K .mask-length);
+        rowQuotient-short = le-of-eq (K .rowQuotient-length);
+        lineRemainder-short = le-of-eq (K .lineRemainder-length);
+        lineQuotient-short = le-of-eq (K .lineQuotient-length);
         matrixRemainder-short = elim [
-          | A ↦ words-length (sent .matrixRemainders .a) _ (K .matrixRemainder-length A)
-          | B ↦ words-length (sent .matrixRemainders .b) _ (K .matrixRemainder-length B)
-          | C ↦ words-length (sent .matrixRemainders .c) _ (K .matrixRemainder-length C)
+          | A ↦ le-of-eq (K .matrixRemainder-length A)
+          | B ↦ le-of-eq (K .matrixRemainder-length B)
+          | C ↦ le-of-eq (K .matrixRemainder-length C)
         ];
-        joinedQuotient-short = words-length (sent .joinedQuotient) _ (K .joinedQuotient-length);
+        joinedQuotient-short = le-of-eq (K .joinedQuotient-length);
       }
 
   -- the verdict on the honest messages and their true openings
-  honest-verdict : verdict (sizesOf c) x (transcript q j F sent) (trueOpenings q j sent) ≡ Accept
+  honest-verdict : verdict (sizesOf c) x (transcriptOf (drawn q j) sent) (trueOpenings q j sent) ≡ Accept
   unfolding proof messages trueOpenings openings values matrixLeft joinedLeft joinedRight
   honest-verdict =
-      accepts (sizesOf c) x (transcript q j F sent) (trueOpenings q j sent)
+      accepts (sizesOf c) x (transcriptOf (drawn q j) sent) (trueOpenings q j sent)
       (row-rule Q c W ẑ satisfied α)
       (ap (lineLeft η (values c α β) (eval m β)) (sym (eval-assignment c (size-positive (c .|X|) (W .X-size)) x w β))
       ∙ line-rule Q c W m ẑ m-length ẑ-length α η (weighted η (sums c ẑ α)) claim β)

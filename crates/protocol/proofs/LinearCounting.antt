@@ -3,18 +3,18 @@
 use mathlib.Core.Path.{_≡_, refl, sym, ap, ap₂, _∙_}
 use mathlib.Core.Logic.{_≢_}
 use mathlib.Core.List.{[], _∷_}
-use Prim.Native.Nat.{ℕ, _+_, _*_, _/_, _%_, _<_}
-use native.Mathlib.Omega.{arith}
-use native.Mathlib.Nat.{mul-add-div-right, mul-add-mod-self-right, div-eq-of-lt, mod-eq-of-lt, mul-le-mul-right, suc-mul, add-zero}
+use Prim.Native.Nat.{_*_}
 use Rattle.algebra.specs.Counting.{AtMost}
 use Rattle.algebra.specs.Ring.{CommRing}
-use Rattle.algebra.proofs.Counting.{at-most-injective, numbers-below}
+use Rattle.algebra.proofs.Counting.{at-most-injective}
+use Rattle.algebra.proofs.ExactCounting.{exactly-at-most, exactly-pairs}
 use Rattle.algebra.proofs.Solver.{_:+_, _:*_, :-_, :0, :1, _:=_, _⊙_, _from_, ring, ring-by}
 use Rattle.field.specs.Prime.{Prime}
 use Rattle.field.specs.Element.{Elem, 𝟘, _⊕_, _⊗_, neg}
 use Rattle.field.specs.Power.{reciprocal, _⊘_}
-use Rattle.field.proofs.ElementLaws.{same-word, word-below, primeRing}
+use Rattle.field.proofs.ElementLaws.{primeRing}
 use Rattle.field.proofs.Field.{mul-reciprocal}
+use Rattle.domain.proofs.AllowedPoints.{exactly-elements}
 use Rattle.protocol.specs.Three.{MatrixName, A, B, C, Three, at, sumMatrices}
 
 module _ {T : Type 0} where
@@ -39,29 +39,6 @@ module _ {T : Type 0} where
   triple-parts A t = refl
   triple-parts B t = refl
   triple-parts C t = refl
-
--- two elements as a number below p²
-module _ {q : Prime} where
-  pair : Elem q → Elem q → ℕ
-  pair u v = u .word * q .p + v .word
-
-  pair-below : (u v : Elem q) → pair u v < q .p * q .p
-  unfolding pair
-  pair-below u v = omega (arith, word-below v, suc-mul (u .word) (q .p), mul-le-mul-right (q .p) (word-below u))
-
-  pair-injective : (u v u′ v′ : Elem q) → pair u v ≡ pair u′ v′ → (u ≡ u′) × (v ≡ v′)
-  unfolding pair
-  pair-injective u v u′ v′ e = (
-    same-word (sym (high u v) ∙ ap (λ n. n / q .p) e ∙ high u′ v′),
-    same-word (sym (low u v) ∙ ap (λ n. n % q .p) e ∙ low u′ v′),
-  )
-    where
-      high : (u v : Elem q) → (u .word * q .p + v .word) / q .p ≡ u .word
-      high u v = mul-add-div-right (omega (arith, q .above-two)) (u .word) (v .word)
-          ∙ ap (λ n. u .word + n) (div-eq-of-lt (word-below v)) ∙ add-zero (u .word)
-
-      low : (u v : Elem q) → (u .word * q .p + v .word) % q .p ≡ v .word
-      low u v = mul-add-mod-self-right (u .word) (q .p) (v .word) ∙ mod-eq-of-lt (word-below v)
 
 module _ {q : Prime} (s : Elem q) (e : Three (Elem q)) where
   abbrev R : CommRing (Elem q)
@@ -108,6 +85,6 @@ module _ {q : Prime} (s : Elem q) (e : Three (Elem q)) where
     -- at most p² triples are solutions
     pub linear-solutions : AtMost (q .p * q .p) (λ t. linear t ≡ 𝟘)
     linear-solutions =
-        at-most-injective (λ t. pair (former M t) (latter M t)) (q .p * q .p)
-        (λ t u h k same. let (f, l) = pair-injective _ _ _ _ same in solutions-equal t u h k f l)
-        (λ t h. pair-below (former M t) (latter M t)) (numbers-below (q .p * q .p))
+        at-most-injective (λ t. (former M t, latter M t)) (q .p * q .p)
+        (λ t u h k same. solutions-equal t u h k (ap (λ (x : Elem q × Elem q). x .0) same) (ap (λ (x : Elem q × Elem q). x .1) same))
+        (λ t h. (tt, tt)) (exactly-at-most (exactly-pairs (exactly-elements q) (exactly-elements q)))

@@ -2,10 +2,10 @@
 use mathlib.Core.Path.{_≡_, sym, ap, _∙_}
 use mathlib.Core.List.{List, [], _∷_}
 use Prim.Native.Nat.{ℕ, _*_, _/_, _<_}
-use lib.ListN.{getD}
+use lib.ListN.{length, getD}
 use native.Mathlib.Omega.{arith}
 use native.Mathlib.Nat.{mul-le-mul-right, suc-mul, zero-mul}
-use Rattle.algebra.proofs.PolynomialLaws.{getD-tabulate}
+use Rattle.algebra.proofs.PolynomialLaws.{length-tabulate, getD-tabulate}
 use Rattle.algebra.proofs.Solver.{_:+_, _:*_, :0, :1, _:=_, _⊙_, _from_, ring-by}
 use Rattle.field.specs.Prime.{Prime}
 use Rattle.field.specs.Element.{Elem, 𝟘}
@@ -16,6 +16,7 @@ use Rattle.domain.specs.Qualifies.{Qualifies}
 use Rattle.domain.proofs.SizeLaws.{size-positive, size-divides, size-quotient-positive}
 use Rattle.domain.proofs.DomainLaws.{inside-element, vanishing-inside, subgroup-element}
 use Rattle.domain.proofs.Interpolation.{eval-interpolate, getD-valuesOn}
+use Rattle.domain.proofs.ListLaws.{equal-entries}
 use Rattle.protocol.specs.Circuit.{Circuit, sizesOf, publicPart}
 use Rattle.protocol.specs.Checks.{assignmentValue}
 use Rattle.protocol.specs.Messages.{assignment}
@@ -62,3 +63,11 @@ module _ {q : Prime} (Q : Qualifies q) (c : Circuit) (W : WellFormed (q .p) c) (
   -- ẑ at column 0 is the first public word
   pub column-zero : getD z 0 𝟘 ≡ getD x 0 𝟘
   column-zero = ap (λ k. getD z k 𝟘) (sym (zero-mul (c .|C| / c .|X|))) ∙ public-column 0 (X-positive c W)
+
+  -- so x is the public part of ẑ's values on C
+  pub public-part : length x ≡ c .|X| → publicPart c z ≡ x
+  unfolding publicPart
+  public-part x-length =
+      let f : ℕ → Elem q = λ i. getD z (i * (c .|C| / c .|X|)) 𝟘 in
+      equal-entries 𝟘 (publicPart c z) x (length-tabulate (c .|X|) f ∙ sym x-length)
+      (λ i l. let below : i < c .|X| = omega (arith, length-tabulate (c .|X|) f) in getD-tabulate (c .|X|) i f 𝟘 below ∙ public-column i below)

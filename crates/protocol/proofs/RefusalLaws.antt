@@ -8,7 +8,7 @@ use mathlib.Core.Option.{Option, none, some}
 use Prim.Native.Nat.{ℕ, suc, _<_, _≤_}
 use lib.Dec.{leb, ltb}
 use native.Mathlib.Omega.{arith}
-use borrow.Author.Tests.{ltb-true, lt-ltb, le-leb}
+use borrow.Author.Tests.{ltb-true, lt-ltb, leb-true, le-leb}
 use Rattle.algebra.specs.Counting.{All}
 use Rattle.field.specs.Prime.{Prime}
 use Rattle.protocol.specs.Circuit.{Circuit}
@@ -90,6 +90,15 @@ within-pairs : (declared table : List ℕ) → Within declared table → All (λ
 within-pairs [] k h = tt
 within-pairs (m ∷ l) [] h = tt
 within-pairs (m ∷ l) (n ∷ k) h = (le-leb m n (h .0), within-pairs l k (h .1))
+
+pairs-within : (declared table : List ℕ) → All (λ t. t ≡ true) (pairs leb declared table) → Within declared table
+pairs-within [] k h = tt
+pairs-within (m ∷ l) [] h = tt
+pairs-within (m ∷ l) (n ∷ k) h = (leb-true m n (h .0), pairs-within l k (h .1))
+
+pub lengthRefusal-none : (declared table : List ℕ) → lengthRefusal declared table ≡ none → Within declared table
+unfolding lengthRefusal
+lengthRefusal-none declared table e = pairs-within declared table (refuse-none 11 0 (pairs leb declared table) e)
 
 pub none-lengthRefusal : (declared table : List ℕ) → Within declared table → lengthRefusal declared table ≡ none
 unfolding lengthRefusal

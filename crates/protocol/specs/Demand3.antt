@@ -3,7 +3,7 @@
 use mathlib.Core.Path.{_≡_}
 use mathlib.Core.Logic.{_≢_}
 use mathlib.Core.List.{List}
-use Prim.Native.Nat.{_-_, _*_}
+use Prim.Native.Nat.{ℕ, _-_, _*_}
 use lib.ListN.{length}
 use Rattle.algebra.specs.Counting.{AtMost, MoreThan}
 use Rattle.field.specs.Prime.{Prime}
@@ -19,6 +19,23 @@ use Rattle.protocol.specs.Checks.{withα, withη, withβ, withδ, withγ
 use Rattle.protocol.specs.Messages.{lengths, assignment, image, sums, values}
 use Rattle.protocol.specs.Admission.{Admitted}
 use Rattle.protocol.specs.Meaning.{CheckMeans}
+
+module _ {q : Prime} (c : Circuit) where
+  -- "that m + Σ η_M M̂(α,Y) ẑ(Y) adds to σ over C"
+  abbrev pub LineClaim : Poly q → Poly q → Transcript (Elem q) → Type 0
+  LineClaim ẑ m t = sumOver (c .|C|) (λ y. lineLeft (t .η) (values c (t .α) y) (eval m y) (eval ẑ y)) ≡ weighted (t .η) (t .sums)
+
+  module _ (x : List (Elem q)) (t : Transcript (Elem q)) (o : Openings (Elem q)) (g : Three (Poly q)) where
+    -- the joined check's sides are equal at γ: "The joined check is Matrix, over the indexer's polynomials"
+    abbrev pub JoinedEqual : Poly q → Elem q → Type 0
+    JoinedEqual h2 γ =
+        Holds (sizesOf c) x (withγ γ t) (openedMatrix (eval h2 γ) (mapThree (λ f. eval f γ) g) (each (λ M. indexAt (index c M) γ)) o) Matrix
+
+    -- "some h2 of the allowed length pass the joined check at more than 2|K|-2 allowed points"
+    abbrev pub SomePasses : Type 0
+    SomePasses =
+        let k : ℕ = largest (sizesOf c .|K|) in
+        (h2 : Poly q) × (length h2 ≡ lengths (sizesOf c) .joinedQuotient) × MoreThan (2 * k - 2) (λ γ. Outside k γ × JoinedEqual h2 γ)
 
 module _ (q : Prime) where
   -- "every circuit that the table of refusals lets through, all public words", and every ŵ of its length
@@ -50,15 +67,11 @@ module _ (q : Prime) where
         (Outside (c .|R|))
         (2 * c .|R| - 2)
 
-    -- "that m + Σ η_M M̂(α,Y) ẑ(Y) adds to σ over C"
-    abbrev pub LineClaim : Poly q → Transcript (Elem q) → Type 0
-    LineClaim m t = sumOver (c .|C|) (λ y. lineLeft (t .η) (values c (t .α) y) (eval m y) (eval ẑ y)) ≡ weighted (t .η) (t .sums)
-
     -- Line: "with ω_M read as M̂(α,β)"; sought: g1 and h1
     abbrev pub LineMeans : Poly q → Transcript (Elem q) → Openings (Elem q) → Type 0
     LineMeans m t o =
         CheckMeans {q = q} {Choice = Poly q × Poly q}
-        (LineClaim m t)
+        (LineClaim c ẑ m t)
         (λ (g1, h1). (length g1 ≡ lengths s .lineRemainder) × (length h1 ≡ lengths s .lineQuotient))
         (λ (g1, h1) β.
         Holds s (S .x) (withβ β (withδ (values c (t .α) β) (t .δ) t)) (openedLine (eval (S .w) β) (eval m β) (eval g1 β) (eval h1 β) o) Line)
@@ -77,22 +90,13 @@ module _ (q : Prime) where
 
     -- "Whenever a claimed sum is false, at most p² of the p³ triples η make the line claim true"
     abbrev pub SumsCaught : Poly q → Transcript (Elem q) → Type 0
-    SumsCaught m t = (M : MatrixName) → at (t .sums) M ≢ image c ẑ M (t .α) → AtMost (q .p * q .p) (λ η. LineClaim m (withη (t .sums) η t))
-
-    -- the joined check's sides are equal at γ: "The joined check is Matrix, over the indexer's polynomials"
-    abbrev pub JoinedEqual : Transcript (Elem q) → Openings (Elem q) → Three (Poly q) → Three (Elem q) → Poly q → Elem q → Type 0
-    JoinedEqual t o g δ h2 γ =
-        Holds s (S .x) (withγ γ (withδ (t .values) δ t))
-        (openedMatrix (eval h2 γ) (mapThree (λ f. eval f γ) g) (each (λ M. indexAt (index c M) γ)) o) Matrix
+    SumsCaught m t = (M : MatrixName) → at (t .sums) M ≢ image c ẑ M (t .α) → AtMost (q .p * q .p) (λ η. LineClaim c ẑ m (withη (t .sums) η t))
 
     -- "Whenever a matrix value is false, then for every three polynomials g of the allowed lengths, the same for all δ, at most
     -- p² of the p³ triples δ let some h2 of the allowed length pass the joined check at more than 2|K|-2 allowed points"
     abbrev pub ValuesCaught : Transcript (Elem q) → Openings (Elem q) → Three (Poly q) → Type 0
     ValuesCaught t o g =
-        (M : MatrixName) → at (t .values) M ≢ extension c M (t .α) (t .β)
-        → AtMost (q .p * q .p) (λ δ.
-        (h2 : Poly q) × (length h2 ≡ lengths s .joinedQuotient)
-        × MoreThan (2 * largest (s .|K|) - 2) (λ γ. Outside (largest (s .|K|)) γ × JoinedEqual t o g δ h2 γ))
+        (M : MatrixName) → at (t .values) M ≢ extension c M (t .α) (t .β) → AtMost (q .p * q .p) (λ δ. SomePasses c (S .x) (withδ (t .values) δ t) o g)
 
     -- all of it: for "all other messages of the lengths above, honest or not (m need not add to 0), every α outside R and β
     -- outside C, and any η and δ": t has the σ, the ω and the challenges, o the openings that the check does not read

@@ -3,7 +3,6 @@
 use mathlib.Core.List.{List, [], _∷_, _++_, map}
 use mathlib.Core.Option.{Option}
 use Prim.Native.Nat.{ℕ}
-use lib.ListN.{length}
 use Rattle.field.specs.Prime.{Prime}
 use Rattle.field.specs.Element.{Elem, of, wordOf, words}
 use Rattle.domain.specs.Polynomial.{Poly}
@@ -14,7 +13,8 @@ use Rattle.protocol.specs.Checks.{Openings, mapOpenings}
 use Rattle.protocol.specs.Messages.{Messages, mapMessages, messages, openings}
 use Rattle.protocol.specs.Refusals.{Refusal}
 use Rattle.protocol.specs.Admission.{countTests, assignmentTests, proverRefusal}
-use Rattle.protocol.specs.Session.{Answer, Stepped, unopened, openStep, alphaStep, etaStep, betaStep, deltaStep, gammaStep, openingsStep}
+use Rattle.protocol.specs.Session.{Answer, unopened, answers}
+use Rattle.protocol.specs.Conversation.{Challenges, steps}
 
 -- "|R| |C| |X|; three entry counts; entries of A, B, C; z; r; m; α; η; β; δ; γ", all words
 pub record Job : Type 0 where
@@ -27,6 +27,9 @@ pub record Job : Type 0 where
   pub β : ℕ
   pub δ : Three ℕ
   pub γ : ℕ
+
+abbrev pub challenges : Job → Challenges ℕ
+challenges j = record { α = j .α; η = j .η; β = j .β; δ = j .δ; γ = j .γ }
 
 -- the challenge words, and those of them that have a forbidden domain
 abbrev pub challengeWords : Job → List ℕ
@@ -57,14 +60,7 @@ module _ (q : Prime) (j : Job) where
   -- the verifier's seven answers to messages in words, their lengths and openings
   unfoldable pub conversation : Messages (List ℕ) ℕ → Openings ℕ → List Answer
   conversation sent o =
-      let opened : Stepped = openStep q unopened (sizesOf (j .circuit)) publicWords in
-      let afterα : Stepped = alphaStep q (opened .session) (length (sent .witness)) (length (sent .mask)) (length (sent .rowQuotient)) (j .α) in
-      let afterη : Stepped = etaStep q (afterα .session) (sent .sums) (j .η) in
-      let afterβ : Stepped = betaStep q (afterη .session) (length (sent .lineRemainder)) (length (sent .lineQuotient)) (j .β) in
-      let afterδ : Stepped = deltaStep q (afterβ .session) (sent .values) (mapThree length (sent .matrixRemainders)) (j .δ) in
-      let afterγ : Stepped = gammaStep q (afterδ .session) (length (sent .joinedQuotient)) (j .γ) in
-      let closed : Stepped = openingsStep q (afterγ .session) o in
-      opened .answer ∷ afterα .answer ∷ afterη .answer ∷ afterβ .answer ∷ afterδ .answer ∷ afterγ .answer ∷ closed .answer ∷ []
+      answers q unopened (steps (sizesOf (j .circuit)) publicWords (challenges j) sent o)
 
   -- the verifier's answers to messages and openings of elements, and to the honest prover
   unfoldable pub conversationOn : Messages (Poly q) (Elem q) → Openings (Elem q) → List Answer

@@ -6,6 +6,7 @@ pub mod Messages
 pub mod Refusals
 pub mod Admission
 pub mod Session
+pub mod Conversation
 pub mod Record
 pub mod Job
 pub mod Calls
@@ -23,3 +24,4 @@ pub mod Blinded
 pub mod Blinding
 pub mod EvaluationInParts
 pub mod FastInterpolation
+pub mod FalseProofs

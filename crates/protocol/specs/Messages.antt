@@ -1,6 +1,6 @@
 -- The prover's messages, their lengths and their openings (document 01, "Prover"). Assumes nothing.
 use mathlib.Core.List.{List, tail}
-use Prim.Native.Nat.{ℕ, _+_, _-_, _*_}
+use Prim.Native.Nat.{ℕ, _+_, _-_, _*_, _≤_}
 use Rattle.field.specs.Prime.{Prime}
 use Rattle.field.specs.Element.{Elem, of, _⊗_}
 use Rattle.field.specs.Power.{_⊘_}
@@ -51,6 +51,16 @@ lengths s =
       matrixRemainders = each (λ M. at (s .|K|) M - 1);
       joinedQuotient = largest (s .|K|) - 1;
     }
+
+-- declared lengths within the table; of the σ and ω there are none
+pub record Short (s : Sizes) (declared : Messages ℕ ℕ) : Type 0 where
+  pub witness-short : declared .witness ≤ lengths s .witness
+  pub mask-short : declared .mask ≤ lengths s .mask
+  pub rowQuotient-short : declared .rowQuotient ≤ lengths s .rowQuotient
+  pub lineRemainder-short : declared .lineRemainder ≤ lengths s .lineRemainder
+  pub lineQuotient-short : declared .lineQuotient ≤ lengths s .lineQuotient
+  pub matrixRemainder-short : (M : MatrixName) → at (declared .matrixRemainders) M ≤ at (lengths s .matrixRemainders) M
+  pub joinedQuotient-short : declared .joinedQuotient ≤ lengths s .joinedQuotient
 
 module _ {q : Prime} (c : Circuit) where
   -- x̂ interpolates x on X

@@ -202,3 +202,8 @@ module _ (q : Prime) where
   abbrev pub after : Session → List Step → Session
   after s [] = s
   after s (step ∷ steps) = after (stepped s step .session) steps
+
+  -- the answers to steps that follow each other
+  abbrev pub answers : Session → List Step → List Answer
+  answers s [] = []
+  answers s (step ∷ steps) = stepped s step .answer ∷ answers (stepped s step .session) steps

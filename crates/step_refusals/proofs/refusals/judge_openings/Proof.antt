@@ -12,7 +12,7 @@ use Rattle.protocol.specs.Refusals.{Refusal, sixSizeTests, turnRefusal, wordRef
 use Rattle.protocol.specs.Session as steps
 use Rattle.protocol.specs.Session.{inTurn, leftBySteps, openingsRefusal}
 use Rattle.shared.proofs.EarlyReturns.{fails-first, passes, last-answer}
-use Rattle.protocol.proofs.Sessions.{in-turn}
+use Rattle.protocol.proofs.UnrefusedSteps.{in-turn}
 use Rattle.protocol.proofs.RefusalLaws.{all-true}
 use Rattle.step_refusals.proofs.refusals.judge_openings.Statement.{statement}
 use Rattle.step_refusals.proofs.refusals.judge_openings.Tie as tie

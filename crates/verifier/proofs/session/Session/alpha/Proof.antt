@@ -3,7 +3,7 @@ use Rattle.domain.proofs.Qualification.{babyBear-qualifies}
 use Rattle.domain.specs.BabyBear.{babyBear}
 use Rattle.shared.specs.Meanings.{faultRefusal, sizes}
 use Rattle.protocol.specs.Session.{alphaRefusal, alphaStep}
-use Rattle.step_refusals.proofs.Turns.{alpha-turn}
+use Rattle.protocol.proofs.UnrefusedSteps.{alpha-passes}
 use borrow.Author.Needs.{needs}
 use mathlib.Core.Path.{_≡_, refl, sym, ap, _∙_}
 use native.Mathlib.Omega.{arith}
@@ -29,9 +29,8 @@ enum-told c = search needs
 taken-requires : tie.Need-taken-requires
 taken-requires c κs =
     let j = c .before .before .before in
-    let a = j .before .args in
     let passed = judged j ∙ ap faultRefusal (c .before .enum-told .given .1) in
-    omega (arith, alpha-turn babyBear (a .self .stage) (sizes (a .self .sizes)) (a .witness) (a .mask) (a .quotient) (a .alpha) passed .stage-is)
+    omega (arith, alpha-passes babyBear _ _ _ _ _ _ .0 passed .turn .stage-is)
 
 returns : tie.Need-returns
 unfolding alphaStep

@@ -3,7 +3,7 @@ use Rattle.domain.proofs.Qualification.{babyBear-qualifies}
 use Rattle.domain.specs.BabyBear.{babyBear}
 use Rattle.shared.specs.Meanings.{faultRefusal, sizes}
 use Rattle.protocol.specs.Session.{betaRefusal, betaStep}
-use Rattle.step_refusals.proofs.Turns.{beta-turn}
+use Rattle.protocol.proofs.UnrefusedSteps.{beta-passes}
 use borrow.Author.Needs.{needs}
 use mathlib.Core.Path.{_≡_, refl, sym, ap, _∙_}
 use native.Mathlib.Omega.{arith}
@@ -29,9 +29,8 @@ enum-told c = search needs
 taken-requires : tie.Need-taken-requires
 taken-requires c κs =
     let j = c .before .before .before in
-    let a = j .before .args in
     let passed = judged j ∙ ap faultRefusal (c .before .enum-told .given .1) in
-    omega (arith, beta-turn babyBear (a .self .stage) (sizes (a .self .sizes)) (a .remainder) (a .quotient) (a .beta) passed .stage-is)
+    omega (arith, beta-passes babyBear _ _ _ _ _ .0 passed .turn .stage-is)
 
 returns : tie.Need-returns
 unfolding betaStep

@@ -2,7 +2,7 @@
 use Rattle.domain.specs.BabyBear.{babyBear}
 use Rattle.shared.specs.Meanings.{faultRefusal, three, sizes}
 use Rattle.protocol.specs.Session.{deltaRefusal, deltaStep}
-use Rattle.step_refusals.proofs.Turns.{delta-turn}
+use Rattle.protocol.proofs.UnrefusedSteps.{delta-passes}
 use borrow.Author.Needs.{needs}
 use mathlib.Core.Path.{_≡_, refl, sym, ap, _∙_}
 use native.Mathlib.Omega.{arith}
@@ -28,9 +28,8 @@ enum-told c = search needs
 taken-requires : tie.Need-taken-requires
 taken-requires c κs =
     let j = c .before .before .before in
-    let a = j .before .args in
     let passed = judged j ∙ ap faultRefusal (c .before .enum-told .given .1) in
-    omega (arith, delta-turn babyBear (a .self .stage) (sizes (a .self .sizes)) (three (a .values)) (three (a .remainders)) (three (a .delta)) passed .stage-is)
+    omega (arith, delta-passes babyBear _ _ _ _ _ .0 passed .0 .stage-is)
 
 returns : tie.Need-returns
 unfolding deltaStep

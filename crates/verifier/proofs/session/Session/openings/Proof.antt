@@ -9,10 +9,10 @@ use Rattle.shared.specs.Meanings.{faultRefusal, sizes, transcript, openings}
 use Rattle.protocol.specs.Refusals.{sixSizeTests}
 use Rattle.protocol.specs.Session as steps
 use Rattle.protocol.specs.Session.{Judged, openingsRefusal, openingsStep, verdictOf}
-use Rattle.protocol.proofs.Sessions.{InTurn, LeftBySteps}
+use Rattle.protocol.proofs.UnrefusedSteps.{InTurn, openings-passes}
+use Rattle.protocol.proofs.Sessions.{LeftBySteps, left-by-steps}
 use Rattle.protocol.proofs.RefusalLaws.{all-true}
 use Rattle.verifier.specs.Session.{sessionMeaning}
-use Rattle.protocol.proofs.Sessions.{openings-turn}
 use Rattle.protocol.proofs.AllowedSizes.{allowed}
 use borrow.Author.Needs.{needs}
 use lib.Dec.{lit<}
@@ -32,8 +32,9 @@ passed : (c : tie.After-enum-told) → let a = c .before .before .before .before
     InTurn 6 (a .self .stage) (sizes (a .self .sizes)) × LeftBySteps babyBear (sessionMeaning (a .self))
 passed c =
     let a = c .before .before .before .before .before .args in
-    openings-turn babyBear (sessionMeaning (a .self)) (openings (a .o) (a .index))
-    (judged (c .before .before) ∙ ap faultRefusal (c .enum-told .given .1))
+    let free = judged (c .before .before) ∙ ap faultRefusal (c .enum-told .given .1) in
+    let (turn, left, _) = openings-passes babyBear (sessionMeaning (a .self)) (openings (a .o) (a .index)) .0 free in
+    (turn, left-by-steps babyBear (sessionMeaning (a .self)) left)
 
 -- a session has 1,024 words of x, which is told by owning it
 whole : (s : tie.Start) → length (s .args .self .x) ≡ maxSize
