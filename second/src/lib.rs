@@ -16,6 +16,7 @@ mod field;
 mod growing;
 mod index;
 mod job;
+mod large;
 mod memory;
 mod message;
 mod polynomial;

@@ -1,7 +1,9 @@
 //! The program `sheet`: circuits as text, one a line, to a table with a row for each figure and a column for each circuit.
 
 use crate::field::MODULUS;
+use crate::large::Large;
 use crate::refusal::{self, Refusal};
+use std::fmt::Display;
 
 /// The most bytes of a text.
 const TEXT_LIMIT: usize = 2048;
@@ -24,10 +26,10 @@ struct Given {
 }
 
 /// A figure's name, its number for a circuit, and the theorem behind it.
-type Row = (&'static str, fn(&Given) -> u128, &'static str);
+type Row<Number> = (&'static str, fn(&Given) -> Number, &'static str);
 
-/// The rows of the table, in order.
-const ROWS: [Row; 35] = [
+/// The rows of the table for one circuit and for single checks, in order.
+const ROWS: [Row<u128>; 35] = [
     ("|R|", |g| g.rows, "given"),
     ("|C|", |g| g.columns, "given"),
     ("|X|", |g| g.public, "given"),
@@ -65,6 +67,18 @@ const ROWS: [Row; 35] = [
     ("triples of delta that save a false matrix value, at most", |_| P.pow(2), "values-caught"),
 ];
 
+/// The rows after them, for whole conversations.
+const TUPLE_ROWS: [Row<Large>; 8] = [
+    ("allowed challenge tuples", Given::tuples, "allowed-tuples"),
+    ("tuples that alpha saves, at most", |g| g.saved(0), "saved-by-alpha"),
+    ("tuples that eta saves, at most", |g| g.saved(1), "saved-by-eta"),
+    ("tuples that beta saves, at most", |g| g.saved(2), "saved-by-beta"),
+    ("tuples that delta saves, at most", |g| g.saved(3), "saved-by-delta"),
+    ("tuples that gamma saves, at most", |g| g.saved(4), "saved-by-gamma"),
+    ("tuples accepted without a witness, at most", Given::accepted, "few-accepted"),
+    ("tuples accepted without a witness, at most one in", |g| g.tuples().over(&g.accepted()), "one-in"),
+];
+
 impl Given {
     /// The circuit of a line's numbers: refusal 4 for a size, then 5 for a count over 1,024.
     fn new(numbers: [u128; 6]) -> Result<Given, Refusal> {
@@ -98,6 +112,29 @@ impl Given {
         }
     }
 
+    /// How many challenges α, η, β, δ and γ are allowed.
+    fn challenges(&self) -> [u128; 5] {
+        [P - self.rows, P.pow(3), P - self.columns, P.pow(3), P - self.most_places()]
+    }
+
+    /// N: how many tuples of challenges are allowed.
+    fn tuples(&self) -> Large {
+        Large::product(&self.challenges())
+    }
+
+    /// N with the factor of one challenge replaced by how many of these save a false claim at most.
+    fn saved(&self, challenge: usize) -> Large {
+        let saving = [2 * self.rows - 2, P.pow(2), 2 * self.columns - 1, P.pow(2), 2 * self.most_places() - 2];
+        let mut factors = self.challenges();
+        factors[challenge] = saving[challenge];
+        Large::product(&factors)
+    }
+
+    /// The sum of the five counts.
+    fn accepted(&self) -> Large {
+        (1..5).fold(self.saved(0), |sum, challenge| sum.plus(&self.saved(challenge)))
+    }
+
     fn record_bytes(&self) -> u128 {
         let words: u128 = (0..11).map(|section| self.section(section)).sum();
         WORD_BYTES * words + TRAILER_BYTES
@@ -126,6 +163,15 @@ fn line(line: &[u8]) -> Result<Option<Given>, String> {
     Ok(Some(circuit))
 }
 
+/// Rows of the table for the circuits.
+fn rows<Number: Display>(rows: &[Row<Number>], circuits: &[Given]) -> String {
+    let row = |(name, figure, source): &Row<Number>| {
+        let numbers: String = circuits.iter().map(|circuit| format!("\t{}", figure(circuit))).collect();
+        format!("{name}{numbers}\t{source}\n")
+    };
+    rows.iter().map(row).collect()
+}
+
 /// The text that the program prints for a text.
 pub fn sheet(text: &[u8]) -> String {
     if text.len() > TEXT_LIMIT {
@@ -144,9 +190,5 @@ pub fn sheet(text: &[u8]) -> String {
     if circuits.len() > CIRCUIT_LIMIT {
         return format!("sheet takes at most {CIRCUIT_LIMIT} circuits\n");
     }
-    let row = |(name, figure, source): &Row| {
-        let numbers: String = circuits.iter().map(|circuit| format!("\t{}", figure(circuit))).collect();
-        format!("{name}{numbers}\t{source}\n")
-    };
-    ROWS.iter().map(row).collect()
+    rows(&ROWS, &circuits) + &rows(&TUPLE_ROWS, &circuits)
 }

@@ -24,10 +24,10 @@ fn compare_text(text: impl AsRef<[u8]>) -> String {
     ours
 }
 
-/// The columns of a table, after its shape was looked at: 35 rows, with a name and a theorem beside so many numbers.
+/// The columns of a table, after its shape was looked at: 43 rows, with a name and a theorem beside so many numbers.
 fn columns(table: &str, circuits: usize) -> Vec<Vec<String>> {
     let rows: Vec<Vec<&str>> = table.lines().map(|row| row.split('\t').collect()).collect();
-    assert_eq!(rows.len(), 35, "{table}");
+    assert_eq!(rows.len(), 43, "{table}");
     assert!(rows.iter().all(|row| row.len() == circuits + 2), "{table}");
     (0..circuits + 2).map(|column| rows.iter().map(|row| row[column].to_string()).collect()).collect()
 }
@@ -56,7 +56,15 @@ fn whole_table() {
         triples of eta\t8160249294558465929206824961\tall-triples\n\
         triples of eta that save a false sum, at most\t4053239668659978241\tsums-caught\n\
         triples of delta\t8160249294558465929206824961\tall-triples\n\
-        triples of delta that save a false matrix value, at most\t4053239668659978241\tvalues-caught\n";
+        triples of delta that save a false matrix value, at most\t4053239668659978241\tvalues-caught\n\
+        allowed challenge tuples\t543387846684679834382058527943070163501761887041278962245807979237107411354529757569\tallowed-tuples\n\
+        tuples that alpha saves, at most\t68555534762373364346454609482127043485433877487275648760022033874702247267582\tsaved-by-alpha\n\
+        tuples that eta saves, at most\t269903663006810432362182982554479033225418554651667876836727113723943778689\tsaved-by-eta\n\
+        tuples that beta saves, at most\t276111517474757085330146788453444678074386172719082553102893729179231570364543\tsaved-by-beta\n\
+        tuples that delta saves, at most\t269903663006810432362182982554479033225418554651667876836727113723943778689\tsaved-by-delta\n\
+        tuples that gamma saves, at most\t552223175387165626990858793169293287749905481457593186633166199549110681996542\tsaved-by-gamma\n\
+        tuples accepted without a witness, at most\t897430034950309697532184557069973967376176368773254724249755416830492387186045\tfew-accepted\n\
+        tuples accepted without a witness, at most one in\t605493\tone-in\n";
     assert_eq!(compare_text(DIFFERENT), table);
 }
 

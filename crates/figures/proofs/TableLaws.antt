@@ -21,8 +21,8 @@ use Rattle.text.proofs.WrittenLaws.{written-then, written-length, written-as}
 use Rattle.sheet_lines.specs.declared.numbers.Request.{Request}
 use Rattle.sheet_lines.specs.Lines.{Given, linesOf}
 use Rattle.sheet_lines.specs.Meanings.{given}
-use Rattle.figures.specs.Figures.{Figure, figure, sizeFigures, lengthFigures, checkFigures, tripleFigures, figures}
-use Rattle.figures.specs.Placed.{figureAt, Within, cellRoom, rowRoom}
+use Rattle.figures.specs.Figures.{Figure, sizeFigures, lengthFigures, checkFigures, tripleFigures, tupleFigures, figures}
+use Rattle.figures.specs.Placed.{rowCount, noFigure, figureAt, tupleAt, Within, nameRoom, sourceRoom, numberRoom, cellRoom, rowRoom}
 use Rattle.figures.specs.Sheet.{cellText, cellsText, rowText, rowsText}
 use Rattle.figures.proofs.PrimePowers.{squared, cubed, prime-squared, prime-cubed}
 
@@ -40,6 +40,10 @@ within-then first second =
 pub within-less : {b c t : List ℕ} {at place m n : ℕ} → m ≤ n → Within m b at t place c → Within n b at t place c
 within-less h w = record { written = w .written; within = omega (arith, w .within) }
 
+-- the same text by another name
+pub within-as : {b c s t : List ℕ} {at place room : ℕ} → s ≡ t → Within room b at s place c → Within room b at t place c
+within-as e w = record { written = written-as e (w .written); within = w .within }
+
 pub within-length : {b c t : List ℕ} {at place room : ℕ} → Within room b at t place c → length c ≡ length b
 within-length w = written-length (w .written)
 
@@ -55,34 +59,37 @@ unfolding rowsText
 rows-more gs [] f = append-nil (rowText gs f)
 rows-more gs (h ∷ fs) f = ap (λ t. rowText gs h ++ t) (rows-more gs fs f) ∙ sym (append-assoc (rowText gs h) (rowsText gs fs) (rowText gs f))
 
-abbrev noFigure : Figure
-noFigure = figure "" (λ g. 0) ""
-
 module _ (q : Prime) where
-  pub length-figures : length (figures q) ≡ 35
+  pub length-figures : length (figures q) ≡ rowCount
   unfolding figures
   length-figures = refl
 
   -- the figures in their groups
   pub size-row : (i : ℕ) → i < 10 → figureAt q i ≡ getD sizeFigures i noFigure
   unfolding figures
-  size-row i h = List·getD-append sizeFigures (lengthFigures ++ (checkFigures q ++ tripleFigures q)) noFigure i h
+  size-row i h = List·getD-append sizeFigures (lengthFigures ++ (checkFigures q ++ (tripleFigures q ++ tupleFigures q))) noFigure i h
 
   pub length-row : (i : ℕ) → i < 12 → figureAt q (10 + i) ≡ getD lengthFigures i noFigure
   unfolding figures
   length-row i h =
-      getD-append-add sizeFigures (lengthFigures ++ (checkFigures q ++ tripleFigures q)) i noFigure
-      ∙ List·getD-append lengthFigures (checkFigures q ++ tripleFigures q) noFigure i h
+      getD-append-add sizeFigures (lengthFigures ++ (checkFigures q ++ (tripleFigures q ++ tupleFigures q))) i noFigure
+      ∙ List·getD-append lengthFigures (checkFigures q ++ (tripleFigures q ++ tupleFigures q)) noFigure i h
 
   pub check-row : (i : ℕ) → i < 9 → figureAt q (22 + i) ≡ getD (checkFigures q) i noFigure
   unfolding figures
   check-row i h =
-      getD-append-add (sizeFigures ++ lengthFigures) (checkFigures q ++ tripleFigures q) i noFigure
-      ∙ List·getD-append (checkFigures q) (tripleFigures q) noFigure i h
+      getD-append-add (sizeFigures ++ lengthFigures) (checkFigures q ++ (tripleFigures q ++ tupleFigures q)) i noFigure
+      ∙ List·getD-append (checkFigures q) (tripleFigures q ++ tupleFigures q) noFigure i h
 
-  pub triple-row : (i : ℕ) → figureAt q (31 + i) ≡ getD (tripleFigures q) i noFigure
+  pub triple-row : (i : ℕ) → i < 4 → figureAt q (31 + i) ≡ getD (tripleFigures q) i noFigure
   unfolding figures
-  triple-row i = getD-append-add (sizeFigures ++ (lengthFigures ++ checkFigures q)) (tripleFigures q) i noFigure
+  triple-row i h =
+      getD-append-add (sizeFigures ++ (lengthFigures ++ checkFigures q)) (tripleFigures q ++ tupleFigures q) i noFigure
+      ∙ List·getD-append (tripleFigures q) (tupleFigures q) noFigure i h
+
+  pub tuple-row : (i : ℕ) → figureAt q (35 + i) ≡ tupleAt q i
+  unfolding figures
+  tuple-row i = getD-append-add (sizeFigures ++ (lengthFigures ++ (checkFigures q ++ tripleFigures q))) (tupleFigures q) i noFigure
 
 -- a number of a list of figures' numbers
 pub number-of : (fs : List Figure) (g : Given) (i : ℕ) → getD (map (λ (f : Figure). f .number g) fs) i 0 ≡ getD fs i noFigure .number g
@@ -118,7 +125,7 @@ module _ (q : Prime) (label : Figure → List ℕ) (blank : label noFigure ≡ [
     label-short : length (getD (linesOf labels) i []) ≤ room
     label-short = rw lines (short-line room (map label (figures q)) short i)
 
-    pub label-room : i < 35 → (at n : ℕ) → at + room ≤ n
+    pub label-room : i < rowCount → (at n : ℕ) → at + room ≤ n
         → (i < length (linesOf labels)) × (at + length (getD (linesOf labels) i []) ≤ n)
     label-room below at n fits = (
       omega (arith, ap length lines ∙ length-map (figures q) label ∙ length-figures q),
@@ -137,7 +144,7 @@ abbrev pub sourceOf : Figure → List ℕ
 sourceOf f = ascii (f .source)
 
 module _ (q : Prime) where
-  pub names-short : shortLines 56 (map nameOf (figures q)) ≡ true
+  pub names-short : shortLines nameRoom (map nameOf (figures q)) ≡ true
   unfolding figures
   names-short = refl
 
@@ -145,7 +152,7 @@ module _ (q : Prime) where
   unfolding figures linesOf pick
   names-lines = refl
 
-  pub sources-short : shortLines 14 (map sourceOf (figures q)) ≡ true
+  pub sources-short : shortLines sourceRoom (map sourceOf (figures q)) ≡ true
   unfolding figures
   sources-short = refl
 
@@ -161,11 +168,11 @@ pub powers-lines : linesOf powers ≡ cubed ∷ squared ∷ []
 unfolding linesOf pick
 powers-lines = refl
 
-pub power-short : (j : ℕ) → length (getD (linesOf powers) (j % 2) []) ≤ 28
-power-short j = rw powers-lines (short-line 28 (cubed ∷ squared ∷ []) refl (j % 2))
+pub power-short : (j : ℕ) → length (getD (linesOf powers) (j % 2) []) ≤ numberRoom
+power-short j = rw powers-lines (short-line numberRoom (cubed ∷ squared ∷ []) refl (j % 2))
 
 pub power-row : (j : ℕ) (g : Given) → j < 4 → getD (linesOf powers) (j % 2) [] ≡ decimal (figureAt babyBear (31 + j) .number g)
-power-row j g below = rw powers-lines (go j below) ∙ ap (λ (f : Figure). decimal (f .number g)) (sym (triple-row babyBear j))
+power-row j g below = rw powers-lines (go j below) ∙ ap (λ (f : Figure). decimal (f .number g)) (sym (triple-row babyBear j below))
   where
     go : (j : ℕ) → j < 4 → getD (cubed ∷ squared ∷ []) (j % 2) [] ≡ decimal (getD (tripleFigures babyBear) j noFigure .number g)
     go zero below = prime-cubed
@@ -194,7 +201,7 @@ cell-turn f array k d below before cell =
     }
 
 -- a row more
-pub row-turn : (q : Prime) (gs : List Given) (i : ℕ) {b c e : List ℕ} {at place next : ℕ} → i < 35
+pub row-turn : (q : Prime) (gs : List Given) (i : ℕ) {b c e : List ℕ} {at place next : ℕ} → i < rowCount
     → Within (rowRoom * i) b at (rowsText gs (take i (figures q))) place c
     → Within rowRoom c place (rowText gs (figureAt q i)) next e
     → Within (rowRoom * (i + 1)) b at (rowsText gs (take (i + 1) (figures q))) next e

@@ -1,5 +1,6 @@
 -- The figures of a circuit, a row of the sheet for each: what was given, the sizes, the lengths of the messages, the degrees of the
--- checks, the allowed points, and the counts of demand 3, each with the theorem behind it. Assumes nothing.
+-- checks, the allowed points, the counts of demand 3, and those of whole conversations (document 02, request 7), each with the theorem
+-- behind it. Assumes nothing.
 use mathlib.Core.List.{List, [], _∷_, _++_}
 use Prim.Native.Nat.{ℕ, _+_, _-_, _*_}
 use Prim.Native.String.{String}
@@ -7,6 +8,7 @@ use Rattle.field.specs.Prime.{Prime}
 use Rattle.domain.specs.Size.{sizeFor}
 use Rattle.protocol.specs.Three.{mapThree}
 use Rattle.protocol.specs.Circuit.{Sizes, largest}
+use Rattle.protocol.specs.FalseProofs.{allTuples, savedByα, savedByη, savedByβ, savedByδ, savedByγ, fiveCounts, oneIn}
 use Rattle.protocol.specs.Messages.{lengths}
 use Rattle.protocol.specs.Record.{sectionBytes}
 use Rattle.protocol.specs.Refusals.{trailerBytes}
@@ -85,6 +87,19 @@ module _ (q : Prime) where
       ∷ figure "triples of delta that save a false matrix value, at most" (λ g. q .p * q .p) "values-caught"
       ∷ []
 
+  -- how many tuples of challenges end in Accept though there is no witness, of how many
+  abbrev pub tupleFigures : List Figure
+  tupleFigures =
+      figure "allowed challenge tuples" (λ g. allTuples q (sizesFor g)) "allowed-tuples"
+      ∷ figure "tuples that alpha saves, at most" (λ g. savedByα q (sizesFor g)) "saved-by-alpha"
+      ∷ figure "tuples that eta saves, at most" (λ g. savedByη q (sizesFor g)) "saved-by-eta"
+      ∷ figure "tuples that beta saves, at most" (λ g. savedByβ q (sizesFor g)) "saved-by-beta"
+      ∷ figure "tuples that delta saves, at most" (λ g. savedByδ q (sizesFor g)) "saved-by-delta"
+      ∷ figure "tuples that gamma saves, at most" (λ g. savedByγ q (sizesFor g)) "saved-by-gamma"
+      ∷ figure "tuples accepted without a witness, at most" (λ g. fiveCounts q (sizesFor g)) "few-accepted"
+      ∷ figure "tuples accepted without a witness, at most one in" (λ g. oneIn q (sizesFor g)) "one-in"
+      ∷ []
+
   -- all rows of the sheet
   unfoldable pub figures : List Figure
-  figures = sizeFigures ++ (lengthFigures ++ (checkFigures ++ tripleFigures))
+  figures = sizeFigures ++ (lengthFigures ++ (checkFigures ++ (tripleFigures ++ tupleFigures)))

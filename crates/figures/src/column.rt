@@ -40,20 +40,20 @@ fn less(m: usize, n: usize) -> usize
 }
 
 // 2n - d: the degree of a check over a domain of size n.
-fn degree(n: u32, d: usize) -> usize
+pub fn degree(n: u32, d: usize) -> usize
     ensures { λ r. ⌜ r ≡ 2 * n - d ⌝ }
 {
     less(2 * (n as usize), d)
 }
 
 // The points outside a domain of size n.
-fn allowed(n: u32) -> usize
+pub fn allowed(n: u32) -> usize
     ensures { λ r. ⌜ r ≡ babyBear .p - n ⌝ }
 {
     less(MODULE_PRIME as usize, n as usize)
 }
 
-fn sizes_for(g: Request) -> Sizes
+pub fn sizes_for(g: Request) -> Sizes
     ensures { λ s. ⌜ sizesMeaning s ≡ sizesFor (given g) ⌝ }
 {
     let n = g.entries;

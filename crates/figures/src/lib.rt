@@ -3,6 +3,7 @@ mod column;
 mod messages;
 mod nth_line;
 mod table;
+mod tuples;
 
 use messages::put_wrong;
 use sheet_lines::circuits::MOST_CIRCUITS;
@@ -10,6 +11,8 @@ use sheet_lines::circuits::collect;
 use sheet_lines::circuits::first_wrong;
 use sheet_lines::circuits::is_wrong;
 use sheet_lines::numbers::Request;
+use table::ROW_BYTES;
+use table::ROWS;
 use table::put_table;
 use text::put_bytes;
 ghost use mathlib.Core.List.{List};
@@ -26,7 +29,7 @@ ghost use Rattle.figures.specs.Sheet.{tableText, sheetText};
 pub const LONGEST_TEXT: usize = 2048;
 
 // Room for every sheet.
-pub const SHEET_BYTES: usize = 19600;
+pub const SHEET_BYTES: usize = ROW_BYTES * ROWS;
 
 // The table, where there are circuits and not too many.
 fn put_circuits(array: [Request; MOST_CIRCUITS], count: usize, out: &mut [u8]) -> usize

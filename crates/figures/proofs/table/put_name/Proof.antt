@@ -2,6 +2,7 @@
 use mathlib.Core.Path.{refl}
 use Rattle.domain.specs.BabyBear.{babyBear}
 use Rattle.figures.specs.Figures.{figures}
+use Rattle.figures.specs.Placed.{nameRoom}
 use Rattle.figures.proofs.TableLaws.{label-room, label-put, nameOf, names-short, names-lines}
 use borrow.Author.Needs.{needs}
 use Rattle.figures.proofs.table.put_name.Statement.{statement}
@@ -14,7 +15,8 @@ put-line-requires : tie.Need-put-line-requires
 unfolding figures
 put-line-requires c κs =
     let start = c .before .before .before in
-    label-room babyBear nameOf refl 56 (names-short babyBear) (names-lines babyBear) (start .args .row) (start .pre .0) (start .args .at) _ (start .pre .1)
+    label-room babyBear nameOf refl nameRoom (names-short babyBear) (names-lines babyBear) (start .args .row) (start .pre .0)
+    (start .args .at) _ (start .pre .1)
 
 same-length : tie.Need-same-length
 same-length c = search needs
@@ -23,7 +25,8 @@ returns : tie.Need-returns
 unfolding figures
 returns c =
     let start = c .before .before .before .before .before .before in
-    label-put babyBear nameOf refl 56 (names-short babyBear) (names-lines babyBear) (start .args .row) (c .before .before .put-line .ensures)
+    label-put babyBear nameOf refl nameRoom (names-short babyBear) (names-lines babyBear) (start .args .row)
+    (c .before .before .put-line .ensures)
 
 pub put-name-spec : {M : Type 1} → statement M
 put-name-spec = tie.close (tie.spec slice-aggregate-put-line put-line-requires same-length returns)

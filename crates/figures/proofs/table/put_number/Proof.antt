@@ -1,5 +1,5 @@
 -- `figures::table::put_number` meets its contract. Assumes nothing.
-use mathlib.Core.Path.{_≡_, ap, _∙_}
+use mathlib.Core.Path.{_≡_, sym, ap, _∙_}
 use Prim.Native.Nat.{_+_, _-_}
 use native.Mathlib.Omega.{arith}
 use lib.ListN.{length}
@@ -7,8 +7,9 @@ use Rattle.domain.specs.BabyBear.{babyBear}
 use Rattle.text.specs.Decimal.{decimal}
 use Rattle.text.proofs.WrittenLaws.{written-as}
 use Rattle.sheet_lines.specs.Meanings.{given}
-use Rattle.figures.specs.Placed.{figureAt}
-use Rattle.figures.proofs.TableLaws.{within-room, few-digits, powers-lines, power-short, power-row}
+use Rattle.figures.specs.Figures.{Figure}
+use Rattle.figures.specs.Placed.{figureAt, numberRoom}
+use Rattle.figures.proofs.TableLaws.{within-room, within-as, tuple-row, few-digits, powers-lines, power-short, power-row}
 use borrow.Author.Needs.{needs}
 use Rattle.figures.proofs.table.put_number.Statement.{statement}
 use Rattle.figures.proofs.table.put_number.Tie as tie
@@ -28,7 +29,7 @@ returns : tie.Need-returns
 returns c =
     let numbered = c .before .before .before .before in
     let short = few-digits (numbered .number .result) (omega (arith, numbered .number .ok)) in
-    within-room 28 (omega (arith, ap (λ n. length (decimal n)) (numbered .number .ensures)))
+    within-room numberRoom (omega (arith, ap (λ n. length (decimal n)) (numbered .number .ensures)))
     (written-as (ap decimal (numbered .number .ensures)) (c .before .before .put-decimal .ensures))
 
 slice-aggregate-put-line : tie.Need-slice-aggregate-put-line
@@ -36,7 +37,7 @@ slice-aggregate-put-line c = search needs
 
 put-line-requires : tie.Need-put-line-requires
 put-line-requires c κs =
-    let start = c .before .before .before .before in
+    let start = c .before .before .before .before .before in
     (omega (arith, ap length powers-lines), omega (arith, start .pre .1, power-short (start .args .row - 31)))
 
 same-length-2 : tie.Need-same-length-2
@@ -44,12 +45,27 @@ same-length-2 c = search needs
 
 returns-2 : tie.Need-returns-2
 returns-2 c =
-    let start = c .before .before .before .before .before .before .before in
+    let start = c .before .before .before .before .before .before .before .before in
     let row = start .args .row in
     let same : 31 + (row - 31) ≡ row = omega arith in
     let g = given (start .args .request) in
-    let line = power-row (row - 31) g (omega (arith, start .pre .0)) ∙ ap (λ i. decimal (figureAt babyBear i .number g)) same in
-    within-room 28 (omega (arith, ap length line, power-short (row - 31))) (written-as line (c .before .before .put-line .ensures))
+    let line = power-row (row - 31) g (search needs) ∙ ap (λ i. decimal (figureAt babyBear i .number g)) same in
+    within-room numberRoom (omega (arith, ap length line, power-short (row - 31))) (written-as line (c .before .before .put-line .ensures))
+
+put-tuples-requires : tie.Need-put-tuples-requires
+put-tuples-requires c κs = search needs
+
+same-length-3 : tie.Need-same-length-3
+same-length-3 c = search needs
+
+returns-3 : tie.Need-returns-3
+returns-3 c =
+    let start = c .before .before .before .before .before .before .before in
+    let row = start .args .row in
+    let same : 35 + (row - 31 - 4) ≡ row = omega arith in
+    let figure = sym (tuple-row babyBear (row - 31 - 4)) ∙ ap (figureAt babyBear) same in
+    let g = given (start .args .request) in
+    within-as (ap (λ (f : Figure). decimal (f .number g)) figure) (c .before .before .put-tuples .ensures)
 
 pub put-number-spec : {M : Type 1} → statement M
 put-number-spec =
@@ -62,4 +78,7 @@ put-number-spec =
     slice-aggregate-put-line
     put-line-requires
     same-length-2
-    returns-2)
+    returns-2
+    put-tuples-requires
+    same-length-3
+    returns-3)

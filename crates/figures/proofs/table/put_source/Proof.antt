@@ -2,6 +2,7 @@
 use mathlib.Core.Path.{refl}
 use Rattle.domain.specs.BabyBear.{babyBear}
 use Rattle.figures.specs.Figures.{figures}
+use Rattle.figures.specs.Placed.{sourceRoom}
 use Rattle.figures.proofs.TableLaws.{label-room, label-put, sourceOf, sources-short, sources-lines}
 use borrow.Author.Needs.{needs}
 use Rattle.figures.proofs.table.put_source.Statement.{statement}
@@ -14,7 +15,8 @@ put-line-requires : tie.Need-put-line-requires
 unfolding figures
 put-line-requires c κs =
     let start = c .before .before .before in
-    label-room babyBear sourceOf refl 14 (sources-short babyBear) (sources-lines babyBear) (start .args .row) (start .pre .0) (start .args .at) _ (start .pre .1)
+    label-room babyBear sourceOf refl sourceRoom (sources-short babyBear) (sources-lines babyBear) (start .args .row) (start .pre .0)
+    (start .args .at) _ (start .pre .1)
 
 same-length : tie.Need-same-length
 same-length c = search needs
@@ -23,7 +25,8 @@ returns : tie.Need-returns
 unfolding figures
 returns c =
     let start = c .before .before .before .before .before .before in
-    label-put babyBear sourceOf refl 14 (sources-short babyBear) (sources-lines babyBear) (start .args .row) (c .before .before .put-line .ensures)
+    label-put babyBear sourceOf refl sourceRoom (sources-short babyBear) (sources-lines babyBear) (start .args .row)
+    (c .before .before .put-line .ensures)
 
 pub put-source-spec : {M : Type 1} → statement M
 put-source-spec =

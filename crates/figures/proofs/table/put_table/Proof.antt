@@ -9,7 +9,7 @@ use Rattle.domain.specs.BabyBear.{babyBear}
 use Rattle.text.proofs.WrittenLaws.{written-none, written-as}
 use Rattle.sheet_lines.specs.Meanings.{given}
 use Rattle.figures.specs.Figures.{figures}
-use Rattle.figures.specs.Placed.{Within, rowRoom}
+use Rattle.figures.specs.Placed.{rowCount, Within, rowRoom}
 use Rattle.figures.specs.Sheet.{rowsText}
 use Rattle.figures.proofs.TableLaws.{within-room, within-length, row-turn, length-figures}
 use borrow.Author.Needs.{needs}
@@ -17,10 +17,10 @@ use Rattle.figures.proofs.table.put_table.Statement.{statement}
 use Rattle.figures.proofs.table.put_table.Tie as tie
 
 abbrev Inv-loop : tie.InvT-loop
-Inv-loop array count out₀ place₀ row₀ out place row = (row ≤ 35) × Within (rowRoom * row) out₀ 0 (rowsText (map given (take count array)) (take row (figures babyBear))) place out
+Inv-loop array count out₀ place₀ row₀ out place row = (row ≤ rowCount) × Within (rowRoom * row) out₀ 0 (rowsText (map given (take count array)) (take row (figures babyBear))) place out
 
 abbrev μ-loop : tie.MeasureT-loop
-μ-loop array count out₀ place₀ row₀ out place row = 35 - row
+μ-loop array count out₀ place₀ row₀ out place row = rowCount - row
 
 loop-holds : tie.Need-loop-holds Inv-loop μ-loop
 unfolding rowsText
