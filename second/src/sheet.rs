@@ -62,7 +62,7 @@ const ROWS: [Row<u128>; 35] = [
     ("degree of Matrix joined", |g| 2 * g.most_places() - 2, "values-caught"),
     ("allowed points of Matrix", |g| P - g.most_places(), "allowed-points"),
     ("triples of eta", |_| P.pow(3), "all-triples"),
-    ("triples of eta that save a false sum, at most", |_| P.pow(2), "sums-caught"),
+    ("triples of eta that save a false sum", |_| P.pow(2), "sums-caught"),
     ("triples of delta", |_| P.pow(3), "all-triples"),
     ("triples of delta that save a false matrix value, at most", |_| P.pow(2), "values-caught"),
 ];

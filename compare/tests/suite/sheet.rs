@@ -54,7 +54,7 @@ fn whole_table() {
         degree of Matrix for C\t14\tmatrix-means\ndegree of Matrix joined\t2046\tvalues-caught\n\
         allowed points of Matrix\t2013264897\tallowed-points\n\
         triples of eta\t8160249294558465929206824961\tall-triples\n\
-        triples of eta that save a false sum, at most\t4053239668659978241\tsums-caught\n\
+        triples of eta that save a false sum\t4053239668659978241\tsums-caught\n\
         triples of delta\t8160249294558465929206824961\tall-triples\n\
         triples of delta that save a false matrix value, at most\t4053239668659978241\tvalues-caught\n\
         allowed challenge tuples\t543387846684679834382058527943070163501761887041278962245807979237107411354529757569\tallowed-tuples\n\

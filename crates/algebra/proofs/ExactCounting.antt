@@ -1,6 +1,6 @@
--- Exact counts: what they bound, how a bound and a list that attains it make one, and the counts of pairs and of what corresponds.
--- Assumes nothing.
-use mathlib.Core.Path.{_≡_, sym, ap, ap₂, _∙_}
+-- Exact counts: what they bound, that there is only one, how a bound and a list that attains it make one, and the counts of nothing, of
+-- pairs and of what corresponds. Assumes nothing.
+use mathlib.Core.Path.{_≡_, refl, sym, ap, ap₂, _∙_}
 use mathlib.Core.Logic.{_≢_, _⊎_, inl, inr}
 use mathlib.Core.List.{List, [], _∷_, _++_, map}
 use Prim.Native.Nat.{ℕ, suc, _*_, _≤_}
@@ -19,6 +19,17 @@ module _ {A : Type 0} where
 
   pub exactly-at-most : {n : ℕ} {P : A → Type 0} → Exactly n P → AtMost n P
   exactly-at-most {n} e = at-most-mono (length (e .members)) n (omega (arith, e .count)) (e .whole) (members-at-most (e .members))
+
+  -- a property has one count only
+  pub exactly-one-count : {n m : ℕ} {P : A → Type 0} → Exactly n P → Exactly m P → n ≡ m
+  exactly-one-count {n} {m} e f =
+      let e-count : length (e .members) ≡ n = e .count in
+      let f-count : length (f .members) ≡ m = f .count in
+      omega (arith, exactly-at-most f (e .members) (e .distinct) (e .have), exactly-at-most e (f .members) (f .distinct) (f .have))
+
+  -- what nothing has
+  pub exactly-none : {P : A → Type 0} → ((x : A) → ¬ P x) → Exactly 0 P
+  exactly-none never = record { members = []; distinct = tt; count = refl; have = tt; whole = λ x p. absurd (never x p) }
 
   member-or-not : ((x y : A) → Dec (x ≡ y)) → (x : A) (l : List A) → Member x l ⊎ All (λ y. y ≢ x) l
   member-or-not same x [] = inr tt
@@ -114,15 +125,20 @@ module _ {A B : Type 0} where
         whole = λ t p. member-products (t .0) (t .1) l k (firsts .whole (t .0) (p .0)) (seconds .whole (t .1) (p .1));
       }
 
-  -- the same number of things, where two properties correspond
-  pub exactly-along : {n : ℕ} {P : A → Type 0} {Q : B → Type 0} (f : A → B) (g : B → A) → ((a : A) → g (f a) ≡ a) → ((b : B) → f (g b) ≡ b)
+  -- the same number of things, where those that have one property and those that have another correspond
+  pub exactly-along : {n : ℕ} {P : A → Type 0} {Q : B → Type 0} (f : A → B) (g : B → A)
+      → ((a : A) → P a → g (f a) ≡ a) → ((b : B) → Q b → f (g b) ≡ b)
       → ((a : A) → P a → Q (f a)) → ((b : B) → Q b → P (g b)) → Exactly n P → Exactly n Q
   exactly-along {n} {P} {Q} f g back forth to from e =
       let l : List A = e .members in
       record {
         members = map f l;
-        distinct = distinct-image f {P = P} (λ a b p q same. sym (back a) ∙ ap g same ∙ back b) l (e .distinct) (e .have);
+        distinct = distinct-image f {P = P} (λ a b p q same. sym (back a p) ∙ ap g same ∙ back b q) l (e .distinct) (e .have);
         count = length-map l f ∙ e .count;
         have = all-image f Q l (all-map to l (e .have));
-        whole = λ b q. member-image f (sym (forth b)) l (e .whole (g b) (from b q));
+        whole = λ b q. member-image f (sym (forth b q)) l (e .whole (g b) (from b q));
       }
+
+-- the same number of things, where two properties say the same
+pub exactly-same : {A : Type 0} {n : ℕ} {P Q : A → Type 0} → ((x : A) → P x → Q x) → ((x : A) → Q x → P x) → Exactly n P → Exactly n Q
+exactly-same to from = exactly-along (λ x. x) (λ x. x) (λ x p. refl) (λ x q. refl) to from

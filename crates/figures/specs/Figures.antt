@@ -82,7 +82,7 @@ module _ (q : Prime) where
   abbrev pub tripleFigures : List Figure
   tripleFigures =
       figure "triples of eta" (λ g. q .p * q .p * q .p) "all-triples"
-      ∷ figure "triples of eta that save a false sum, at most" (λ g. q .p * q .p) "sums-caught"
+      ∷ figure "triples of eta that save a false sum" (λ g. q .p * q .p) "sums-caught"
       ∷ figure "triples of delta" (λ g. q .p * q .p * q .p) "all-triples"
       ∷ figure "triples of delta that save a false matrix value, at most" (λ g. q .p * q .p) "values-caught"
       ∷ []

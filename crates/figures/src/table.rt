@@ -31,14 +31,14 @@ pub const ROWS: usize = 43;
 pub const ROW_BYTES: usize = 1688;
 
 // The names of the figures and of the theorems, a line for each row.
-const NAMES: [u8; 851] = *b"|R|\n|C|\n|X|\n\
+const NAMES: [u8; 842] = *b"|R|\n|C|\n|X|\n\
     entries of A\nentries of B\nentries of C\n\
     size of K_A\nsize of K_B\nsize of K_C\nsize of K\n\
     words of w\nwords of m\nwords of h0\nwords of s\nwords of g1\nwords of h1\nwords of o\n\
     words of ga\nwords of gb\nwords of gc\nwords of h2\nbytes of the record\n\
     degree of Row\nallowed points of Row\ndegree of Line\nallowed points of Line\n\
     degree of Matrix for A\ndegree of Matrix for B\ndegree of Matrix for C\ndegree of Matrix joined\nallowed points of Matrix\n\
-    triples of eta\ntriples of eta that save a false sum, at most\n\
+    triples of eta\ntriples of eta that save a false sum\n\
     triples of delta\ntriples of delta that save a false matrix value, at most\n\
     allowed challenge tuples\n\
     tuples that alpha saves, at most\ntuples that eta saves, at most\ntuples that beta saves, at most\n\
@@ -75,7 +75,7 @@ fn put_source(row: usize, out: &mut [u8], at: usize) -> usize
 }
 
 // The number of a row for a circuit. The rows after the numbers count triples of challenges: all p³, then the p² that save a false
-// claim at most, for eta and for delta. The rows after these count tuples.
+// sum or matrix value, for eta and for delta. The rows after these count tuples.
 fn put_number(row: usize, request: Request, out: &mut [u8], at: usize) -> usize
     requires { ⌜ row < rowCount ⌝ }
     requires { ⌜ at + numberRoom ≤ length (now out) ⌝ }

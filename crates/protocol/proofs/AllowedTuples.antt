@@ -41,7 +41,7 @@ module _ {q : Prime} (Q : Qualifies q) (c : Circuit) (admitted : Admitted q c) w
   unfolding allTuples sizesOf
   allowed-tuples =
       exactly-along (λ ((((α, η), β), δ), γ). record { α = α; η = η; β = β; δ = δ; γ = γ })
-      (λ t. ((((t .α, t .η), t .β), t .δ), t .γ)) (λ t. refl) (λ t. refl)
+      (λ t. ((((t .α, t .η), t .β), t .δ), t .γ)) (λ t h. refl) (λ t h. refl)
       (λ t h. (h .0 .0 .0 .0, h .0 .0 .1, h .1)) (λ t h. ((((h .0, tt), h .1), tt), h .2))
       (exactly-pairs
       (exactly-pairs

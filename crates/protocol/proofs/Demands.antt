@@ -33,7 +33,7 @@ use Rattle.protocol.proofs.MatrixCheck.{matrix-means}
 use Rattle.protocol.proofs.RecordLaws.{read-written, written-read}
 use Rattle.protocol.proofs.RowCheck.{row-means}
 use Rattle.protocol.proofs.Sessions.{verdicts-allowed, steps-pass, only-steps-pass}
-use Rattle.protocol.proofs.Sums.{sums-caught}
+use Rattle.protocol.proofs.Sums.{sums-caught, sums-true}
 use Rattle.protocol.proofs.VerdictLaws.{verdict-means}
 
 pub demand2 : Demand2Holds
@@ -56,6 +56,7 @@ demand3 q Q S =
       line = λ m m-length t outside o. line-means Q S m m-length t o;
       matrix = matrix-means Q S;
       sums-caught = λ m m-length t outside. sums-caught S m t;
+      sums-true = λ m m-length t outside. sums-true S m t;
       values-caught = values-caught Q S;
     }
 

@@ -7,6 +7,7 @@ use Prim.Native.Nat.{ℕ, _-_, _*_}
 use lib.ListN.{length}
 use Rattle.algebra.specs.Counting.{AtMost}
 use Rattle.algebra.proofs.Counting.{all-map}
+use Rattle.algebra.proofs.ExactCounting.{exactly-at-most}
 use Rattle.algebra.proofs.PairCounting.{at-most-unless}
 use Rattle.algebra.proofs.PolynomialLaws.{length-tabulate}
 use Rattle.field.specs.Prime.{Prime}
@@ -139,8 +140,9 @@ module _ {q : Prime} (T : Attempt q) where
       unfolding sums
       few-etas false =
           let (M, other) = differing (F .sums α) (sums c ẑ α) false in
-          D .sums-caught (F .mask) (length-tabulate _ _) (heard α zeros 𝟘 zeros) α-outside M
-          (λ e. other (e ∙ sym (at-each (λ M. image c ẑ M α) M)))
+          exactly-at-most
+          (D .sums-caught (F .mask) (length-tabulate _ _) (heard α zeros 𝟘 zeros) α-outside M
+          (λ e. other (e ∙ sym (at-each (λ M. image c ẑ M α) M))))
 
       module _ (η : Three (Elem q)) where
         -- with a false line claim and true values: Line at more points would make the claim true

@@ -32,5 +32,5 @@ module _ {q : Prime} where
 pub exactly-triples : (q : Prime) → Exactly (q .p * q .p * q .p) (λ (t : Three (Elem q)). Unit {0})
 exactly-triples q =
     exactly-along (λ (t : (Elem q × Elem q) × Elem q). record { a = t .0 .0; b = t .0 .1; c = t .1 })
-    (λ (t : Three (Elem q)). ((t .a, t .b), t .c)) (λ t. refl) (λ t. refl) (λ t u. tt) (λ t u. ((tt, tt), tt))
+    (λ (t : Three (Elem q)). ((t .a, t .b), t .c)) (λ t u. refl) (λ t u. refl) (λ t u. tt) (λ t u. ((tt, tt), tt))
     (exactly-pairs (exactly-pairs (exactly-elements q) (exactly-elements q)) (exactly-elements q))

@@ -5,9 +5,9 @@ use mathlib.Core.Logic.{_≢_}
 use mathlib.Core.List.{List}
 use Prim.Native.Nat.{ℕ, _-_, _*_}
 use lib.ListN.{length}
-use Rattle.algebra.specs.Counting.{AtMost, MoreThan}
+use Rattle.algebra.specs.Counting.{AtMost, MoreThan, Exactly}
 use Rattle.field.specs.Prime.{Prime}
-use Rattle.field.specs.Element.{Elem}
+use Rattle.field.specs.Element.{Elem, 𝟘}
 use Rattle.domain.specs.Domain.{Outside, sumOver}
 use Rattle.domain.specs.Polynomial.{Poly, eval, valuesOn}
 use Rattle.domain.specs.Qualifies.{Qualifies}
@@ -88,9 +88,22 @@ module _ (q : Prime) where
         (Outside (largest (s .|K|)))
         (2 * at (s .|K|) M - 2)
 
-    -- "Whenever a claimed sum is false, at most p² of the p³ triples η make the line claim true"
-    abbrev pub SumsCaught : Poly q → Transcript (Elem q) → Type 0
-    SumsCaught m t = (M : MatrixName) → at (t .sums) M ≢ image c ẑ M (t .α) → AtMost (q .p * q .p) (λ η. LineClaim c ẑ m (withη (t .sums) η t))
+    module _ (m : Poly q) (t : Transcript (Elem q)) where
+      -- the line claim at η, with the σ that were sent before it
+      abbrev pub LineClaimAt : Three (Elem q) → Type 0
+      LineClaimAt η = LineClaim c ẑ m (withη (t .sums) η t)
+
+      -- "If any of the three claimed sums is false, the η triples that make the line claim true number exactly p², whether the mask
+      -- adds to 0 or not" (document 02, request 8)
+      abbrev pub SumsCaught : Type 0
+      SumsCaught = (M : MatrixName) → at (t .sums) M ≢ image c ẑ M (t .α) → Exactly (q .p * q .p) LineClaimAt
+
+      -- the case that is left: where all three are true η has no say, and the claim is true for all p³ triples if the mask adds to 0, and
+      -- for none if it does not
+      abbrev pub SumsTrue : Type 0
+      SumsTrue =
+          ((M : MatrixName) → at (t .sums) M ≡ image c ẑ M (t .α))
+          → (sumOver (c .|C|) (eval m) ≡ 𝟘 → Exactly (q .p * q .p * q .p) LineClaimAt) × (sumOver (c .|C|) (eval m) ≢ 𝟘 → Exactly 0 LineClaimAt)
 
     -- "Whenever a matrix value is false, then for every three polynomials g of the allowed lengths, the same for all δ, at most
     -- p² of the p³ triples δ let some h2 of the allowed length pass the joined check at more than 2|K|-2 allowed points"
@@ -108,6 +121,7 @@ module _ (q : Prime) where
       pub matrix : (M : MatrixName) (t : Transcript (Elem q)) → Outside (c .|R|) (t .α) → Outside (c .|C|) (t .β) → MatrixMeans M t
       pub sums-caught :
           (m : Poly q) → length m ≡ lengths s .mask → (t : Transcript (Elem q)) → Outside (c .|R|) (t .α) → SumsCaught m t
+      pub sums-true : (m : Poly q) → length m ≡ lengths s .mask → (t : Transcript (Elem q)) → Outside (c .|R|) (t .α) → SumsTrue m t
       pub values-caught :
           (t : Transcript (Elem q)) → Outside (c .|R|) (t .α) → Outside (c .|C|) (t .β) → (o : Openings (Elem q)) (g : Three (Poly q))
           → ((M : MatrixName) → length (at g M) ≡ at (lengths s .matrixRemainders) M) → ValuesCaught t o g
