@@ -1,5 +1,5 @@
 //! False proofs: one word of a good one is replaced, and the same check must fail on both sides. At 64, 256 and 1,024 it must be the
-//! check that the word enters first.
+//! check that the word enters first. And false sums, which just those η save that the theorem counts.
 
 use compare::calls::{compare_circuit, proof_of, proved};
 use compare::case::{Case, ALPHA, BETA, GAMMA};
@@ -13,6 +13,7 @@ const COUNTS: [[usize; 3]; 3] = [[100, 500, 200], [512, 128, 256], [1024, 150, 3
 /// The sections whose polynomials are opened first, in the order of their openings.
 const OPENED_SECTIONS: [usize; 9] = [0, 1, 4, 5, 2, 10, 7, 8, 9];
 
+const ACCEPTED: Answer = Ok(Some(Verdict::Accept));
 const FAILS_ROW: Answer = Ok(Some(Verdict::Fails(Check::Row)));
 const FAILS_LINE: Answer = Ok(Some(Verdict::Fails(Check::Line)));
 const FAILS_MATRIX: Answer = Ok(Some(Verdict::Fails(Check::Matrix)));
@@ -64,6 +65,12 @@ fn times(a: u32, b: u32) -> u32 {
     second::multiply(a, b).expect("field words")
 }
 
+/// The answer to the last of a proof's steps, on both sides.
+fn verdict(steps: &[Step; 7]) -> Answer {
+    let [before @ .., last] = steps;
+    Pair::after(before).take(last)
+}
+
 /// A good proof, with all that is opened.
 struct Good {
     steps: [Step; 7],
@@ -87,14 +94,13 @@ impl Good {
         assert_eq!(values, proof.openings);
         let mut good =
             Good { steps: Step::of_proof(case, &proof), opened, openings: proof.openings, answers: Answers::default() };
-        good.expect(&good.steps.clone(), Ok(Some(Verdict::Accept)));
+        good.expect(&good.steps.clone(), ACCEPTED);
         good
     }
 
     /// Takes all steps on both sides and holds the last answer to the one expected.
     fn expect(&mut self, steps: &[Step; 7], expected: Answer) {
-        let [before @ .., last] = steps;
-        let answer = Pair::after(before).take(last);
+        let answer = verdict(steps);
         assert_eq!(answer, expected, "the verdict, then the one expected");
         self.answers.add(&answer);
     }
@@ -222,4 +228,30 @@ fn tampered_at_256() {
 #[test]
 fn tampered_at_1024() {
     tampered_at(1024, 82);
+}
+
+/// Sums that are false and keep Row, with the mask of a good proof or one that does not add to 0. Whatever η_B and η_C are, one η_A makes
+/// the line claim true, and with it g1 and h1 of the good proof for this η pass; with any other they fail Line.
+#[test]
+fn false_sums_that_eta_saves() {
+    let mut random = Random::new(83);
+    for _ in 0..count(60) {
+        let (mut case, proof) = proved(random.case(4));
+        let sums = [0, 1, 2].map(|place| proof.sections[3][place]);
+        let change = random.nonzero();
+        let claimed = [plus(sums[0], change), sums[1], plus(sums[2], times(change, sums[1]))];
+        for shift in [0, random.nonzero()] {
+            let [_, eta_b, eta_c] = random.three();
+            // the sums claim change (η_A + σ_B η_C) too much, and the mask adds to shift |C|
+            let in_all = times(times(shift, case.sizes[1]), second::inverse(change).expect("not 0"));
+            let saving = minus(in_all, times(sums[1], eta_c));
+            for (eta_a, expected) in [(saving, ACCEPTED), (other(&mut random, saving), FAILS_LINE)] {
+                case.challenges[1..=3].copy_from_slice(&[eta_a, eta_b, eta_c]);
+                let (_, mut proof) = proved(case.clone());
+                proof.sections[3] = claimed.to_vec();
+                proof.openings[1] = plus(proof.openings[1], shift);
+                assert_eq!(verdict(&Step::of_proof(&case, &proof)), expected, "the verdict, then the one expected");
+            }
+        }
+    }
 }

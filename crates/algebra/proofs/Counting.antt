@@ -64,8 +64,12 @@ module _ {A : Type 0} where
   distinct-append [] k d e apart = e
   distinct-append (x ∷ l) k d e apart = (all-append (λ y. y ≢ x) l k (d .0) (apart .0), distinct-append l k (d .1) e (apart .1))
 
+  -- what fewer things have
+  pub at-most-of : {P Q : A → Type 0} {n : ℕ} → ((x : A) → Q x → P x) → AtMost n P → AtMost n Q
+  at-most-of f h l d q = h l d (all-map f l q)
+
   pub at-most-mono : {P Q : A → Type 0} (m n : ℕ) → m ≤ n → ((x : A) → Q x → P x) → AtMost m P → AtMost n Q
-  at-most-mono m n m≤n f h l d q = let k : length l ≤ m = h l d (all-map f l q) in omega arith
+  at-most-mono m n m≤n f h l d q = let k : length l ≤ m = at-most-of f h l d q in omega arith
 
   pub at-most-one : (a : A) → AtMost 1 (λ x. x ≡ a)
   at-most-one a [] d h = omega arith

@@ -6,9 +6,9 @@ use mathlib.Core.List.{List}
 use Prim.Native.Nat.{ℕ}
 use lib.ListN.{length}
 use native.Mathlib.Omega.{arith}
-use native.Mathlib.Nat.{le-refl, mul-le-mul-left}
+use native.Mathlib.Nat.{mul-le-mul-left}
 use Rattle.algebra.specs.Counting.{AtMost}
-use Rattle.algebra.proofs.Counting.{at-most-mono, at-most-either}
+use Rattle.algebra.proofs.Counting.{at-most-of, at-most-either}
 use Rattle.algebra.proofs.PairCounting.{at-most-cases, at-most-of-member}
 use Rattle.field.specs.Prime.{Prime}
 use Rattle.field.specs.Element.{Elem}
@@ -56,7 +56,7 @@ module _ (demand3 : Demand3Holds) {q : Prime} (Q : Qualifies q) (c : Circuit) (a
       at-most-of-member n
       (λ t r.
       let h : Accepted c x (fittedStrategy s P) t = accept-holds c x P t (ends t r) in
-      at-most-mono n n (le-refl n)
+      at-most-of
       (λ u r. into (h .x-length) (h .x-begins) u r (accept-holds c x P u (ends u r)) (accept-saved c x P u (ends u r)))
       (count (h .x-length) (h .x-begins)))
 
@@ -129,7 +129,7 @@ module _ (demand3 : Demand3Holds) {q : Prime} (Q : Qualifies q) (c : Circuit) (a
   unfolding fiveCounts
   all-five =
       at-most-cases (ManyPass c x P) (fiveCounts q s)
-      (at-most-mono _ _ (le-refl _) which
+      (at-most-of which
       (at-most-either _ _ (at-most-either _ _ (at-most-either _ _ (at-most-either _ _ by-alpha by-eta) by-beta) by-delta) by-gamma))
 
   pub without-witness : FewAccepted q c x P

@@ -5,11 +5,10 @@ use mathlib.Core.Logic.{_≢_, _⊎_, inl, inr}
 use Prim.Native.Nat.{ℕ, zero, suc, _+_, _-_, _*_, _≤_, _<_}
 use lib.ListN.{length}
 use native.Mathlib.Omega.{arith}
-use native.Mathlib.Nat.{le-refl}
 use native.Mathlib.Decide.{ℕ-discrete}
 use Rattle.algebra.specs.Counting.{AtMost, MoreThan}
 use Rattle.algebra.specs.Ring.{CommRing}
-use Rattle.algebra.proofs.Counting.{all-map, at-most-mono}
+use Rattle.algebra.proofs.Counting.{all-map, at-most-of}
 use Rattle.algebra.proofs.ExactCounting.{exactly-at-most}
 use Rattle.algebra.proofs.PolynomialLaws.{eval-scale, eval-mul, length-scale, length-product}
 use Rattle.algebra.proofs.RingLaws.{zero-add, one-mul, mul-zero}
@@ -137,7 +136,7 @@ module _ {q : Prime} (c : Circuit) (α β : Elem q) (ω : Three (Elem q)) (g : T
     -- where E_M is not 0 at some point of K_M, at most p² triples δ let some h2 pass
     few-pass : (M : MatrixName) (i : ℕ) → i < sizeK c M → eval (side M) (element (sizeK c M) i) ≢ 𝟘 → AtMost (q .p * q .p) Passes
     few-pass M i below other =
-        at-most-mono (q .p * q .p) (q .p * q .p) (le-refl _) (λ δ pass. joined-linear δ pass κ on)
+        at-most-of (λ δ pass. joined-linear δ pass κ on)
         (exactly-at-most (linear-solutions 𝟘 errors M (λ e. other (sym (selected-on M i below) ∙ sym (at-each (λ N. eval (selected N) κ) M) ∙ e))))
       where
         κ : Elem q

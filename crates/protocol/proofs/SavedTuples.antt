@@ -1,9 +1,8 @@
 -- The five kinds of tuples that one challenge saves, and how many there are of each: the few values of that challenge, and all values of the
 -- others. Assumes nothing.
 use Prim.Native.Nat.{_-_, _*_}
-use native.Mathlib.Nat.{le-refl}
 use Rattle.algebra.specs.Counting.{AtMost}
-use Rattle.algebra.proofs.Counting.{at-most-mono}
+use Rattle.algebra.proofs.Counting.{at-most-of}
 use Rattle.algebra.proofs.ExactCounting.{exactly-at-most}
 use Rattle.field.specs.Prime.{Prime}
 use Rattle.field.specs.Element.{Elem}
@@ -83,23 +82,23 @@ module _ {q : Prime} (T : Attempt q) where
     pub saved-by-η : AtMost (savedByη q s) (OfKind byη)
     unfolding savedByη sizesOf
     saved-by-η =
-        at-most-tuples byη _ _ _ _ _ (at-most-mono _ _ (le-refl _) (λ α a. a .0) all-alphas) (λ α a. few-etas T demand3 Q α (a .0) (a .1))
+        at-most-tuples byη _ _ _ _ _ (at-most-of (λ α a. a .0) all-alphas) (λ α a. few-etas T demand3 Q α (a .0) (a .1))
         (λ α η _ _. all-betas) (λ α η β _ _ _. all-triples) (λ α η β δ _ _ _ _. all-gammas)
 
     pub saved-by-β : AtMost (savedByβ q s) (OfKind byβ)
     unfolding savedByβ sizesOf
     saved-by-β =
-        at-most-tuples byβ _ _ _ _ _ all-alphas (λ α _. at-most-mono _ _ (le-refl _) (λ η e. tt) all-triples)
+        at-most-tuples byβ _ _ _ _ _ all-alphas (λ α _. at-most-of (λ η e. tt) all-triples)
         (λ α η a. few-betas T demand3 Q α a η) (λ α η β _ _ _. all-triples) (λ α η β δ _ _ _ _. all-gammas)
 
     pub saved-by-δ : AtMost (savedByδ q s) (OfKind byδ)
     unfolding savedByδ sizesOf
     saved-by-δ =
-        at-most-tuples byδ _ _ _ _ _ all-alphas (λ α _. all-triples) (λ α η _ _. at-most-mono _ _ (le-refl _) (λ β b. b .0) all-betas)
+        at-most-tuples byδ _ _ _ _ _ all-alphas (λ α _. all-triples) (λ α η _ _. at-most-of (λ β b. b .0) all-betas)
         (λ α η β a _ b. few-deltas T demand3 Q α a η β (b .0) (b .1)) (λ α η β δ _ _ _ _. all-gammas)
 
     pub saved-by-γ : AtMost (savedByγ q s) (OfKind byγ)
     unfolding savedByγ sizesOf
     saved-by-γ =
         at-most-tuples byγ _ _ _ _ _ all-alphas (λ α _. all-triples) (λ α η _ _. all-betas)
-        (λ α η β _ _ _. at-most-mono _ _ (le-refl _) (λ δ d. tt) all-triples) (λ α η β δ _ _ _. few-gammas T α η β δ)
+        (λ α η β _ _ _. at-most-of (λ δ d. tt) all-triples) (λ α η β δ _ _ _. few-gammas T α η β δ)

@@ -36,7 +36,8 @@ module _ {q : Prime} (c : Circuit) (m ẑ : Poly q) (α : Elem q) where
       let scaled : MatrixName → Elem q → Elem q = λ M y. at η M ⊗ term M y in
       sumOver-ext (c .|C|) _ (λ y. eval m y ⊕ (scaled A y ⊕ scaled B y ⊕ scaled C y))
       (λ i l.
-      ring R (eval m (element (c .|C|) i) ∷ eval ẑ (element (c .|C|) i) ∷ η .a ∷ η .b ∷ η .c ∷ extension c A α (element (c .|C|) i) ∷ extension c B α (element (c .|C|) i) ∷ extension c C α (element (c .|C|) i) ∷ [])
+      let y : Elem q = element (c .|C|) i in
+      ring R (eval m y ∷ eval ẑ y ∷ η .a ∷ η .b ∷ η .c ∷ extension c A α y ∷ extension c B α y ∷ extension c C α y ∷ [])
       (λ m z a b c u v w. m :+ (a :* u :+ b :* v :+ c :* w) :* z := m :+ (a :* (u :* z) :+ b :* (v :* z) :+ c :* (w :* z))) tt)
       ∙ sumOver-add (c .|C|) (eval m) (λ y. scaled A y ⊕ scaled B y ⊕ scaled C y)
       ∙ ap (λ v. sumOver (c .|C|) (eval m) ⊕ v)
