@@ -2,9 +2,9 @@
  * Varuna for one R1CS circuit, over the field of p = 2,013,265,921 elements: the calls of libvaruna_c.a, for C and C++. This file is
  * enough to use them; docs/CALLS.md has the same calls as tables, and "document 01" is the specification behind both.
  *
- * A verifier is the seven steps of a session. It hears the prover's messages, draws each challenge after the messages before it, and
- * learns the openings from the commitments that the host checks. With the words of document 01's square case, whose prover knows a
- * square root of 9:
+ * A verifier is the steps of a session. It hears the prover's messages, draws each challenge after the messages before it, and learns the
+ * openings from the commitments that the host checks. It may ask for the verdict on them, as often as it wishes, before it commits them and
+ * so closes the session. With the words of document 01's square case, whose prover knows a square root of 9:
  *
  *     #include "varuna.h"
  *
@@ -31,13 +31,15 @@
  *             && varuna_session_beta(session, 1, 2, 3, &position) == VARUNA_DONE
  *             && varuna_session_delta(session, omega, g_lengths, delta, &position) == VARUNA_DONE
  *             && varuna_session_gamma(session, 0, 5, &position) == VARUNA_DONE
- *             && varuna_session_openings(session, openings, &verdict, &position) == VARUNA_DONE
+ *             && varuna_session_ask(session, openings, &verdict, &position) == VARUNA_DONE
+ *             && verdict == VARUNA_ACCEPT
+ *             && varuna_session_commit(session, openings, &verdict, &position) == VARUNA_DONE
  *             && verdict == VARUNA_ACCEPT;
  *     }
  *
  * ANSWERS. Every call but varuna_session_new returns VARUNA_DONE, or the number of the first refusal that applies. It sets *position to
  * the refusal's position, and to 0 where it is done. A refusal changes no other memory: no result, no slice, no session and no circuit.
- * Only *verdict is set by a refused last step, too: to VARUNA_NO_VERDICT. No call keeps anything for the next one.
+ * Only *verdict is set where openings are refused, too: to VARUNA_NO_VERDICT. No call keeps anything for the next one.
  *
  * NAMES are document 01's, everywhere:
  *
@@ -77,7 +79,8 @@
  * target. It uses the base instruction set with SSE2 registers and the red zone below the stack pointer, is position independent, and has
  * no variables: calls that write separate memory may run at the same time. It calls memcpy and memset and nothing else: no heap, no files,
  * no system calls. The stack is measured, not proved: tests/c/stack.c runs every call on more than single words at the largest sizes.
- * varuna_fifth_round took the most, 76,308 bytes, then varuna_openings, 68,340; a step of the session took at most 12,864.
+ * varuna_fifth_round took the most, 76,308 bytes, then varuna_openings, 68,340; of a session's steps the commit took 17,248, asking 13,024
+ * and opening 4,248.
  */
 #ifndef VARUNA_H
 #define VARUNA_H
@@ -92,10 +95,10 @@ extern "C" {
 /* The version of what this file declares. The first number rises when a program that used the calls as described here has to change, the
  * second when calls or constants are added, the third when only text, speed or stack change. The archive belongs to the file it came with
  * and holds no version of its own. */
-#define VARUNA_VERSION "3.4.1"
-#define VARUNA_VERSION_MAJOR 3
-#define VARUNA_VERSION_MINOR 4
-#define VARUNA_VERSION_PATCH 1
+#define VARUNA_VERSION "4.0.0"
+#define VARUNA_VERSION_MAJOR 4
+#define VARUNA_VERSION_MINOR 0
+#define VARUNA_VERSION_PATCH 0
 
 /* p, the number of elements of the field. */
 #define VARUNA_MODULUS UINT32_C(2013265921)
@@ -371,20 +374,20 @@ uint32_t varuna_openings(uint32_t rows, uint32_t columns, uint32_t publics, cons
 /*
  * The verifier. A session is 1,046 words that the caller keeps, in this order:
  *
- *     0             the stage: how many of the seven steps were taken
+ *     0             the stage: how many steps were taken, the commit being the seventh; asking does not count
  *     1 to 6        the six sizes
  *     7 to 1030     x: the |X| public words, of which the first is 1, and zeros after them
  *     1031 to 1045  the transcript: alpha, three sigma, three eta, beta, three omega, three delta, gamma
  *
  * In a new session all words are 0. Opening leaves stage 1, the sizes, x with zeros after it, and a transcript of zeros, whatever the words
- * were before. Each later step leaves the stage one higher, its own words of the transcript set (the last step has none), and all other
- * words as they were. A refused step leaves every word as it was and may be tried again. After a verdict every step but opening is out of
- * turn.
+ * were before. Each later step leaves the stage one higher, its own words of the transcript set (a commit has none), and all other words
+ * as they were; asking leaves every word. A refused step leaves every word as it was and may be tried again. After a commit that gave a
+ * verdict every step but opening is out of turn, asking too.
  *
  * Words that no step made are judged by what they hold. Every step but opening is out of turn (1) unless the stage is the number of the
- * steps before it and the sizes are allowed. The last step is out of turn, too, unless the words are such as steps leave: the public words
- * and the transcript below p, the first word of x 1, those after the public ones 0, alpha outside R, beta outside C and gamma outside K.
- * So a verdict is given only for sessions that steps can make.
+ * steps before it and the sizes are allowed. Asking and committing are out of turn, too, unless the words are such as steps leave: the
+ * public words and the transcript below p, the first word of x 1, those after the public ones 0, alpha outside R, beta outside C and gamma
+ * outside K. So a verdict is given only for sessions that steps can make.
  *
  * A declared length is how many words the prover's polynomial has, as its commitment says: at most the length in the table of sections.
  */
@@ -415,10 +418,15 @@ uint32_t varuna_session_delta(uint32_t session[VARUNA_SESSION_WORDS], const uint
 /* Step 6, the declared length of h2 (at most |K| - 1), then gamma, outside K. Refusals 1, 6, 10, 11. */
 uint32_t varuna_session_gamma(uint32_t session[VARUNA_SESSION_WORDS], uint32_t h2_length, uint32_t gamma, size_t *position);
 
-/* Step 7, the 21 openings in the order that stands at VARUNA_OPENINGS. *verdict is one of the four verdicts, and VARUNA_NO_VERDICT where
- * the step is refused. Refusals 1, 6. */
-uint32_t varuna_session_openings(uint32_t session[VARUNA_SESSION_WORDS], const uint32_t openings[VARUNA_OPENINGS], uint32_t *verdict,
-                                 size_t *position);
+/* Before step 7, as often as wished and with other openings if wished: asks for the verdict on the 21 openings, in the order that stands at
+ * VARUNA_OPENINGS. *verdict is one of the four verdicts, and VARUNA_NO_VERDICT where they are refused. Refusals 1, 6. */
+uint32_t varuna_session_ask(const uint32_t session[VARUNA_SESSION_WORDS], const uint32_t openings[VARUNA_OPENINGS], uint32_t *verdict,
+                            size_t *position);
+
+/* Step 7, the 21 openings: sets *verdict as asking does for these, whatever was asked about before, and a verdict closes the session. It
+ * needs no asking before it. Refusals 1, 6. */
+uint32_t varuna_session_commit(uint32_t session[VARUNA_SESSION_WORDS], const uint32_t openings[VARUNA_OPENINGS], uint32_t *verdict,
+                               size_t *position);
 
 /*
  * The proof record: little-endian words; the eleven sections without gaps, then a trailer of 18 words: the eleven starts of the sections in

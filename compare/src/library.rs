@@ -2,8 +2,8 @@
 //! implementation.
 //!
 //! A call's results, sessions and circuits stand between guard words. Every function checks that the guards are as they were, that
-//! the position is 0 where the call is done, and that a refused call has left its results, its session and its circuit alone; a
-//! refused last step must set the verdict to none. Slices that a caller lends are watched by the caller (`calls`), for both
+//! the position is 0 where the call is done, and that a refused call has left its results, its session and its circuit alone; where
+//! openings are refused, the verdict must be none. Slices that a caller lends are watched by the caller (`calls`), for both
 //! implementations alike.
 
 use second::{Check, Refusal, Verdict};
@@ -336,8 +336,8 @@ extern "C" {
         position: *mut usize,
     ) -> u32;
     fn varuna_session_gamma(session: *mut u32, quotient: u32, gamma: u32, position: *mut usize) -> u32;
-    fn varuna_session_openings(session: *mut u32, openings: *const u32, verdict: *mut u32, position: *mut usize)
-        -> u32;
+    fn varuna_session_ask(session: *const u32, openings: *const u32, verdict: *mut u32, position: *mut usize) -> u32;
+    fn varuna_session_commit(session: *mut u32, openings: *const u32, verdict: *mut u32, position: *mut usize) -> u32;
     fn varuna_write_record(
         sizes: *const u32,
         w: *const u32,
@@ -882,17 +882,34 @@ impl Session {
         self.step(|session, position| unsafe { varuna_session_gamma(session, length, gamma, position) })
     }
 
-    pub fn openings(&mut self, openings: [u32; OPENINGS]) -> Result<Verdict, Refusal> {
-        let mut verdict = Guarded::new([UNWRITTEN]);
-        let (opened, place) = (openings.as_ptr(), verdict.place());
+    /// Asking must leave the session, refused or not.
+    pub fn ask(&self, openings: [u32; OPENINGS]) -> Result<Verdict, Refusal> {
+        let mut asked = self.clone();
+        let (session, opened) = (asked.0.place(), openings.as_ptr());
         // SAFETY: the places are those of session, openings, verdict and position.
         let answer =
-            self.step(|session, position| unsafe { varuna_session_openings(session, opened, place, position) });
-        verdict.check();
-        let [word] = verdict.words;
-        assert!(answer.is_ok() || word == NO_VERDICT, "a refused step has left a verdict");
-        answer.map(|()| verdict_of(word))
+            judged(|verdict| answer(|position| unsafe { varuna_session_ask(session, opened, verdict, position) }));
+        assert!(*self == asked, "asking has changed the session");
+        answer
     }
+
+    pub fn commit(&mut self, openings: [u32; OPENINGS]) -> Result<Verdict, Refusal> {
+        let opened = openings.as_ptr();
+        // SAFETY: the places are those of session, openings, verdict and position.
+        judged(|verdict| {
+            self.step(|session, position| unsafe { varuna_session_commit(session, opened, verdict, position) })
+        })
+    }
+}
+
+/// The verdict of a step that takes openings; where it is refused, the verdict must be none.
+fn judged(step: impl FnOnce(*mut u32) -> Result<(), Refusal>) -> Result<Verdict, Refusal> {
+    let mut verdict = Guarded::new([UNWRITTEN]);
+    let answer = step(verdict.place());
+    verdict.check();
+    let [word] = verdict.words;
+    assert!(answer.is_ok() || word == NO_VERDICT, "a refused step has left a verdict");
+    answer.map(|()| verdict_of(word))
 }
 
 /// What the C interface has for a verdict where there is none.

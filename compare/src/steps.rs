@@ -16,7 +16,8 @@ pub enum Step {
     Beta([u32; 2], u32),
     Delta([u32; 3], [u32; 3], [u32; 3]),
     Gamma(u32, u32),
-    Openings([u32; 21]),
+    Ask([u32; 21]),
+    Commit([u32; 21]),
 }
 
 /// What a step answers: nothing, a verdict, or a refusal.
@@ -25,8 +26,8 @@ pub type Answer = Result<Option<Verdict>, Refusal>;
 pub const OUT_OF_TURN: Refusal = Refusal { number: 1, position: 0 };
 
 impl Step {
-    /// The seven good steps of a proof, in order.
-    pub fn of_proof(case: &Case, proof: &Proof) -> [Step; 7] {
+    /// The eight good steps of a proof, in order: six before its openings, then asking about them and committing them.
+    pub fn of_proof(case: &Case, proof: &Proof) -> [Step; 8] {
         let length = |section: usize| proof.sections[section].len() as u32;
         let three = |section: usize| [0, 1, 2].map(|place| proof.sections[section][place]);
         [
@@ -36,7 +37,8 @@ impl Step {
             Step::Beta([4, 5].map(length), case.beta()),
             Step::Delta(three(6), [7, 8, 9].map(length), case.delta()),
             Step::Gamma(length(10), case.gamma()),
-            Step::Openings(proof.openings),
+            Step::Ask(proof.openings),
+            Step::Commit(proof.openings),
         ]
     }
 
@@ -49,7 +51,8 @@ impl Step {
             Step::Beta(lengths, beta) => session.beta(*lengths, *beta),
             Step::Delta(values, lengths, delta) => session.delta(*values, *lengths, *delta),
             Step::Gamma(length, gamma) => session.gamma(*length, *gamma),
-            Step::Openings(openings) => return session.openings(*openings).map(Some),
+            Step::Ask(openings) => return session.ask(*openings).map(Some),
+            Step::Commit(openings) => return session.commit(*openings).map(Some),
         };
         taken.map(|()| None)
     }
@@ -66,8 +69,12 @@ impl Step {
             Step::Beta(lengths, beta) => session.beta(*lengths, *beta),
             Step::Delta(values, lengths, delta) => session.delta(*values, *lengths, *delta),
             Step::Gamma(length, gamma) => session.gamma(*length, *gamma),
-            Step::Openings(openings) => {
-                let (next, verdict) = session.openings(*openings);
+            Step::Ask(openings) => {
+                let verdict = session.ask(*openings);
+                return (session, verdict.map(Some));
+            }
+            Step::Commit(openings) => {
+                let (next, verdict) = session.commit(*openings);
                 return (next, verdict.map(Some));
             }
         };
@@ -83,7 +90,7 @@ impl Step {
             Step::Beta(lengths, beta) => lengths.iter_mut().chain([beta]).collect(),
             Step::Delta(values, lengths, delta) => values.iter_mut().chain(lengths).chain(delta).collect(),
             Step::Gamma(length, gamma) => vec![length, gamma],
-            Step::Openings(openings) => openings.iter_mut().collect(),
+            Step::Ask(openings) | Step::Commit(openings) => openings.iter_mut().collect(),
         }
     }
 }
@@ -182,5 +189,14 @@ impl Pair {
         let mut pair = Pair::unopened();
         steps.iter().for_each(|step| assert!(pair.take(step).is_ok(), "a good step is refused: {step:?}"));
         pair
+    }
+
+    /// The answer to the openings of a proof's steps, which must be the same where they are asked about and where they are committed.
+    pub fn verdict(steps: &[Step; 8]) -> Answer {
+        let [before @ .., ask, commit] = steps;
+        let mut pair = Pair::after(before);
+        let asked = pair.take(ask);
+        assert_eq!(pair.take(commit), asked, "the answer to committing, then to asking");
+        asked
     }
 }

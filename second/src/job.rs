@@ -172,7 +172,7 @@ impl<'a> Job<'a> {
         Ok(sections)
     }
 
-    /// The verdict of a session that hears the sections and openings.
+    /// The verdict of a session that hears the sections, asked for and then committed.
     fn verdict(&self, sections: &[Vec<u32>; 11], openings: [u32; 21]) -> Result<Verdict, Refusal> {
         let length = |section: usize| sections[section].len() as u32;
         let three = |section: usize| [0, 1, 2].map(|place| sections[section][place]);
@@ -191,6 +191,9 @@ impl<'a> Job<'a> {
         answer?;
         let (session, answer) = session.gamma(length(message::JOINED_QUOTIENT), self.gamma);
         answer?;
-        session.openings(openings).1
+        let asked = session.ask(openings)?;
+        let committed = session.commit(openings).1?;
+        assert_eq!(committed, asked, "a commit has the verdict that asking gave");
+        Ok(committed)
     }
 }

@@ -1,7 +1,8 @@
-//! The verifier session: seven steps in one order. A step takes the session and gives back the next one
+//! The verifier session: six steps in one order, then openings, which may be asked about as often as wished
+//! and are committed once. Asking leaves the session. Every other step takes it and gives back the next one
 //! with its answer, or the same one where it is refused. A session may hold any words, such as no step
-//! made: every step is in turn only at its stage and with allowed sizes, and the last one only on words
-//! that steps can leave.
+//! made: every step is in turn only at its stage and with allowed sizes, and openings only on words that
+//! steps can leave.
 
 use crate::domain::Sizes;
 use crate::field::{self, Element};
@@ -22,7 +23,7 @@ pub const SESSION_WORDS: usize = TRANSCRIPT_START + TRANSCRIPT_WORDS;
 /// A session.
 #[derive(Clone, Debug, PartialEq, Eq)]
 pub struct Session {
-    /// How many of the seven steps were taken.
+    /// How many steps were taken, asking aside: 7 once openings are committed.
     stage: u32,
     sizes: Sizes,
     /// The public words, and zeros after them.
@@ -97,12 +98,16 @@ impl Session {
         })
     }
 
-    /// The 21 openings; the answer is the verdict.
-    pub fn openings(self, openings: [u32; 21]) -> (Session, Result<Verdict, Refusal>) {
-        let answer = self.check(self.in_turn(6) && self.left_by_steps(), &openings);
-        let verdict = answer.map(|()| self.verdict(Openings::new(openings)));
-        let (session, _) = self.step(answer, |_| ());
-        (session, verdict)
+    /// Asks about the 21 openings; the answer is the verdict.
+    pub fn ask(&self, openings: [u32; 21]) -> Result<Verdict, Refusal> {
+        self.check(self.in_turn(6) && self.left_by_steps(), &openings)?;
+        Ok(self.verdict(Openings::new(openings)))
+    }
+
+    /// Commits the 21 openings, which ends the session; the answer is the one that asking gives.
+    pub fn commit(self, openings: [u32; 21]) -> (Session, Result<Verdict, Refusal>) {
+        let answer = self.ask(openings);
+        self.step(answer, |_| ())
     }
 
     /// Whether so many steps were taken, with sizes such as opening leaves.
@@ -153,11 +158,11 @@ impl Session {
     }
 
     /// The next session where the answer is good, the same one where it is a refusal.
-    fn step(
+    fn step<Answer>(
         mut self,
-        answer: Result<(), Refusal>,
+        answer: Result<Answer, Refusal>,
         hear: impl FnOnce(&mut Transcript<u32>),
-    ) -> (Session, Result<(), Refusal>) {
+    ) -> (Session, Result<Answer, Refusal>) {
         if answer.is_ok() {
             self.stage += 1;
             hear(&mut self.transcript);

@@ -1,7 +1,7 @@
 /*
  * Every exported call on the square case of document 01, or on a small circuit where that leaves no room for what the call does, with the
  * words that it must give, and a refusal of each kind that a call has: its number, its position, and that it leaves the memory of its
- * results, the session and the circuit as they were, but for the verdict, which a refused last step sets to none. Prints a line for each
+ * results, the session and the circuit as they were, but for the verdict, which refused openings set to none. Prints a line for each
  * test and last the counts; exits with 1 where a test failed.
  */
 #include "../../include/varuna.h" /* first, since it must need no other header */
@@ -953,7 +953,13 @@ static struct conversation honest(void)
     return t;
 }
 
-enum step { OPEN, ALPHA, ETA, BETA, DELTA, GAMMA, LAST, STEPS };
+enum step { OPEN, ALPHA, ETA, BETA, DELTA, GAMMA, ASK, COMMIT, STEPS };
+
+/* Asking for the verdict and committing take the openings, and give a verdict. */
+static int takes_openings(enum step step)
+{
+    return step >= ASK;
+}
 
 static uint32_t take(enum step step, uint32_t *session, const struct conversation *t, uint32_t *verdict, size_t *position)
 {
@@ -970,8 +976,10 @@ static uint32_t take(enum step step, uint32_t *session, const struct conversatio
         return varuna_session_delta(session, t->values, t->remainders, t->delta, position);
     case GAMMA:
         return varuna_session_gamma(session, 0, t->gamma, position);
+    case ASK:
+        return varuna_session_ask(session, t->openings, verdict, position);
     default:
-        return varuna_session_openings(session, t->openings, verdict, position);
+        return varuna_session_commit(session, t->openings, verdict, position);
     }
 }
 
@@ -990,18 +998,20 @@ static int reach(enum step step, uint32_t *session)
     return taken;
 }
 
+/* Whether every step is taken, and both asking and committing give the verdict; the stage rises with every step but asking. */
 static int plays_to(const struct conversation *t, uint32_t expected)
 {
     uint32_t session[VARUNA_SESSION_WORDS];
-    uint32_t verdict = 77;
-    int taken = 1;
+    int all = 1;
     varuna_session_new(session);
     for (enum step s = OPEN; s < STEPS; s++) {
+        uint32_t verdict = 77;
         size_t position = NOWHERE;
         uint32_t number = take(s, session, t, &verdict, &position);
-        taken = taken && is_done(number, position) && session[0] == (uint32_t)s + 1;
+        all = all && is_done(number, position) && session[0] == (uint32_t)(s < ASK ? s + 1 : s) &&
+              verdict == (takes_openings(s) ? expected : 77);
     }
-    return taken && verdict == expected;
+    return all;
 }
 
 static void test_verdicts(void)
@@ -1030,7 +1040,7 @@ static int refuses(uint32_t *session, enum step step, const struct conversation 
         size_t position = NOWHERE;
         uint32_t number = take(step, session, t, &verdict, &position);
         all = all && is_refused(number, position, expected_number, expected_position) && same(session, kept, VARUNA_SESSION_WORDS) &&
-              verdict == (step == LAST ? VARUNA_NO_VERDICT : stale[i]);
+              verdict == (takes_openings(step) ? VARUNA_NO_VERDICT : stale[i]);
     }
     return all;
 }
@@ -1044,7 +1054,7 @@ static int refuses_step(enum step before, enum step step, const struct conversat
 static void test_steps(void)
 {
     struct conversation t = honest();
-    static const char *const names[STEPS] = {"open", "alpha", "eta", "beta", "delta", "gamma", "openings"};
+    static const char *const names[STEPS] = {"open", "alpha", "eta", "beta", "delta", "gamma", "ask", "commit"};
     for (enum step s = ALPHA; s < STEPS; s++) {
         char name[80];
         snprintf(name, sizeof name, "session %s refuses a step out of turn", names[s]);
@@ -1069,7 +1079,46 @@ static void test_steps(void)
     t.gamma = P;
     test("session gamma refuses word p", refuses_step(GAMMA, GAMMA, &t, VARUNA_REFUSED_WORD, 0));
     t.openings[20] = P;
-    test("session openings refuses word p", refuses_step(LAST, LAST, &t, VARUNA_REFUSED_WORD, 20));
+    test("session ask refuses word p", refuses_step(ASK, ASK, &t, VARUNA_REFUSED_WORD, 20));
+    test("session commit refuses word p", refuses_step(ASK, COMMIT, &t, VARUNA_REFUSED_WORD, 20) &&
+             refuses_step(COMMIT, COMMIT, &t, VARUNA_REFUSED_WORD, 20));
+}
+
+/* Whether asking on a session gives the verdict and leaves every word of the session. */
+static int asks(uint32_t *session, const struct conversation *t, uint32_t expected)
+{
+    uint32_t kept[VARUNA_SESSION_WORDS], verdict = 77;
+    size_t position = NOWHERE;
+    memcpy(kept, session, sizeof kept);
+    uint32_t number = varuna_session_ask(session, t->openings, &verdict, &position);
+    return is_done(number, position) && verdict == expected && same(session, kept, VARUNA_SESSION_WORDS);
+}
+
+/* Whether committing gives the verdict and leaves stage 7 with all other words as they were. */
+static int commits(uint32_t *session, const struct conversation *t, uint32_t expected)
+{
+    uint32_t kept[VARUNA_SESSION_WORDS], verdict = 77;
+    size_t position = NOWHERE;
+    memcpy(kept, session, sizeof kept);
+    uint32_t number = varuna_session_commit(session, t->openings, &verdict, &position);
+    return is_done(number, position) && verdict == expected && session[0] == 7 && same(session + 1, kept + 1, VARUNA_SESSION_WORDS - 1);
+}
+
+static void test_asking(void)
+{
+    struct conversation good = honest(), bad = honest(), not_words = honest();
+    uint32_t session[VARUNA_SESSION_WORDS];
+    bad.openings[12] = 1;
+    not_words.openings[0] = P;
+    test("session commit without asking", reach(ASK, session) && commits(session, &good, VARUNA_ACCEPT));
+    test("session ask again and with other openings", reach(ASK, session) && asks(session, &good, VARUNA_ACCEPT) &&
+             asks(session, &bad, VARUNA_FAILS_MATRIX) && refuses(session, ASK, &not_words, VARUNA_REFUSED_WORD, 0) &&
+             asks(session, &bad, VARUNA_FAILS_MATRIX) && asks(session, &good, VARUNA_ACCEPT));
+    test("session commit of other openings than those asked about last", commits(session, &bad, VARUNA_FAILS_MATRIX));
+    test("session commit of good openings after asking about others", reach(ASK, session) && asks(session, &bad, VARUNA_FAILS_MATRIX) &&
+             commits(session, &good, VARUNA_ACCEPT));
+    test("session closed by the commit", refuses(session, ASK, &not_words, VARUNA_REFUSED_TURN, 0) &&
+             refuses(session, COMMIT, &not_words, VARUNA_REFUSED_TURN, 0));
 }
 
 static void test_opening(void)
@@ -1163,15 +1212,11 @@ static void test_forged_sessions(void)
     struct conversation t = honest();
     for (size_t i = 0; i < COUNT(forged); i++) {
         char name[80];
-        uint32_t session[VARUNA_SESSION_WORDS], good[VARUNA_SESSION_WORDS], verdict = 77;
-        size_t position = NOWHERE;
-        int reached = reach(LAST, session);
-        memcpy(good, session, sizeof good);
-        uint32_t number = take(LAST, good, &t, &verdict, &position);
-        int accepted = is_done(number, position) && verdict == VARUNA_ACCEPT;
+        uint32_t session[VARUNA_SESSION_WORDS];
+        int accepted = reach(ASK, session) && asks(session, &t, VARUNA_ACCEPT);
         session[forged[i].place] = forged[i].word;
-        snprintf(name, sizeof name, "session openings refuses %s that no step left", forged[i].what);
-        test(name, reached && accepted && refuses(session, LAST, &t, VARUNA_REFUSED_TURN, 0));
+        snprintf(name, sizeof name, "session ask and commit refuse %s that no step left", forged[i].what);
+        test(name, accepted && refuses(session, ASK, &t, VARUNA_REFUSED_TURN, 0) && refuses(session, COMMIT, &t, VARUNA_REFUSED_TURN, 0));
     }
 }
 
@@ -1304,6 +1349,7 @@ int main(void)
     test_forged_sessions();
     test_verdicts();
     test_steps();
+    test_asking();
     test_opening();
     test_declared_lengths();
     test_writing(bytes);

@@ -28,7 +28,9 @@ static int accepts()
         && varuna_session_beta(session, 1, 2, 3, &position) == VARUNA_DONE
         && varuna_session_delta(session, omega, g_lengths, delta, &position) == VARUNA_DONE
         && varuna_session_gamma(session, 0, 5, &position) == VARUNA_DONE
-        && varuna_session_openings(session, openings, &verdict, &position) == VARUNA_DONE
+        && varuna_session_ask(session, openings, &verdict, &position) == VARUNA_DONE
+        && verdict == VARUNA_ACCEPT
+        && varuna_session_commit(session, openings, &verdict, &position) == VARUNA_DONE
         && verdict == VARUNA_ACCEPT;
 }
 

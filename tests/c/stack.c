@@ -198,9 +198,14 @@ static void session_gamma(void)
     number = varuna_session_gamma(session, N - 1, gamma_point, &position);
 }
 
-static void session_openings(void)
+static void session_ask(void)
 {
-    number = varuna_session_openings(session, openings, &verdict, &position);
+    number = varuna_session_ask(session, openings, &verdict, &position);
+}
+
+static void session_commit(void)
+{
+    number = varuna_session_commit(session, openings, &verdict, &position);
 }
 
 static void write_record(void)
@@ -275,7 +280,8 @@ static const struct {
     {"session_beta", session_beta},
     {"session_delta", session_delta},
     {"session_gamma", session_gamma},
-    {"session_openings", session_openings},
+    {"session_ask", session_ask},
+    {"session_commit", session_commit},
     {"write_record", write_record},
     {"read_record", read_record},
     {"section", section},

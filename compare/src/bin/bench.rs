@@ -4,16 +4,17 @@
 //!
 //! Each size n stands for |R| = |C| = n, n entries in each matrix and |X| = n/4. Evaluated is the mask polynomial, 2n words at β,
 //! whole and in parts of at most 64 words. The assignment, n words, is interpolated on C, and its words are taken as coefficients and
-//! evaluated on C. A verdict is the session's last step alone, with |X| = n. Times are medians in microseconds, of more runs where a run
-//! is short. Every run begins with lent buffers cleared to zero, which is not timed. The ratio is the library's time over the second
-//! implementation's, and the line below it has the inverse: how many times faster the library is. Then come the library's nanoseconds
-//! for each of the n places. The exponent e says that from the last size but one to the last the time grew as n^e.
+//! evaluated on C. A session is the eight steps of a proof; a verdict is asked for once, with |X| = n. Times are medians in
+//! microseconds, of more runs where a run is short. Every run begins with lent buffers cleared to zero, which is not timed. The ratio is
+//! the library's time over the second implementation's, and the line below it has the inverse: how many times faster the library is.
+//! Then come the library's nanoseconds for each of the n places. The exponent e says that from the last size but one to the last the
+//! time grew as n^e.
 
 #![forbid(unsafe_code)]
 
 use compare::calls::{self, Proof, Side};
 use compare::case::Case;
-use compare::library::{self, OPENINGS, SESSION_WORDS};
+use compare::library::{self, OPENINGS};
 use compare::random::Random;
 use second::Verdict;
 use std::hint::black_box;
@@ -52,7 +53,7 @@ impl Buffers {
     }
 }
 
-/// A case with its proof and record, and a verdict still to be given where all columns are public.
+/// A case with its proof and record, and a verdict to ask for where all columns are public.
 struct Work {
     case: Case,
     proof: Proof,
@@ -60,9 +61,9 @@ struct Work {
     public: Judged,
 }
 
-/// Both sides' sessions before the last step, and the openings that it takes.
+/// Both sides' sessions before the openings, and the openings.
 struct Judged {
-    library: [u32; SESSION_WORDS],
+    library: library::Session,
     second: second::Session,
     openings: [u32; OPENINGS],
 }
@@ -70,8 +71,8 @@ struct Judged {
 impl Judged {
     fn new(case: &Case) -> Judged {
         let proof = calls::prove(Side::Library, case).expect("a satisfied case is proved");
-        let library = *library_session(case, &proof).words();
-        Judged { library, second: second_session(case, &proof), openings: proof.openings }
+        let (library, second) = (library_session(case, &proof), second_session(case, &proof));
+        Judged { library, second, openings: proof.openings }
     }
 }
 
@@ -182,22 +183,28 @@ fn whole_proof(side: Side, work: &Work, buffers: &mut Buffers) {
     }
 }
 
-/// The seven steps and the verdict.
+/// The eight steps, with the verdict asked for and committed.
 fn session(side: Side, work: &Work, _: &mut Buffers) {
     let (case, proof) = (&work.case, &work.proof);
-    let verdict = match side {
-        Side::Library => library_session(case, proof).openings(proof.openings),
-        Side::Second => second_session(case, proof).openings(proof.openings).1,
+    let verdicts = match side {
+        Side::Library => {
+            let mut session = library_session(case, proof);
+            [session.ask(proof.openings), session.commit(proof.openings)]
+        }
+        Side::Second => {
+            let session = second_session(case, proof);
+            [session.ask(proof.openings), session.commit(proof.openings).1]
+        }
     };
-    assert_eq!(verdict, Ok(Verdict::Accept));
+    assert_eq!(verdicts, [Ok(Verdict::Accept); 2]);
 }
 
-/// The last step alone.
+/// Asking alone.
 fn verdict(side: Side, work: &Work, _: &mut Buffers) {
     let judged = &work.public;
     let verdict = match side {
-        Side::Library => library::Session::from_words(judged.library).openings(judged.openings),
-        Side::Second => judged.second.clone().openings(judged.openings).1,
+        Side::Library => judged.library.ask(judged.openings),
+        Side::Second => judged.second.ask(judged.openings),
     };
     assert_eq!(verdict, Ok(Verdict::Accept));
 }

@@ -13,24 +13,26 @@ fn refusals(outcomes: &[Outcome; 7]) -> [Option<(u32, usize)>; 7] {
 }
 
 /// Compares a satisfied case, which no call may refuse, and a whole session on its proof, which must be accepted. Gives the steps.
-pub fn compare_good(case: &Case) -> [Step; 7] {
+pub fn compare_good(case: &Case) -> [Step; 8] {
     let outcomes = compare_circuit(case);
     assert_eq!(refusals(&outcomes), [None; 7], "a satisfied case is refused:\n{case}");
     let proof = proof_of(case, outcomes).expect("no call is refused");
     let steps = Step::of_proof(case, &proof);
-    let mut pair = Pair::after(&steps[..6]);
-    assert_eq!(pair.take(&steps[6]), Ok(Some(Verdict::Accept)), "a good proof fails:\n{case}");
+    assert_eq!(Pair::verdict(&steps), Ok(Some(Verdict::Accept)), "a good proof fails:\n{case}");
     steps
 }
 
-/// Compares the verdicts on a good proof, whole and with each opening replaced.
-fn compare_openings(random: &mut Random, steps: &[Step; 7], answers: &mut Answers) {
-    let pair = Pair::after(&steps[..6]);
-    answers.add(&pair.clone().take(&steps[6]));
-    for opening in 0..21 {
-        let mut last = steps[6].clone();
-        *last.words()[opening] = random.word();
-        answers.add(&pair.clone().take(&last));
+/// Compares the verdicts on a good proof, whole and with each opening replaced, asked for and committed.
+fn compare_openings(random: &mut Random, steps: &[Step; 8], answers: &mut Answers) {
+    let [before @ .., ask, commit] = steps;
+    let pair = Pair::after(before);
+    for step in [ask, commit] {
+        answers.add(&pair.clone().take(step));
+        for opening in 0..21 {
+            let mut replaced = step.clone();
+            *replaced.words()[opening] = random.word();
+            answers.add(&pair.clone().take(&replaced));
+        }
     }
 }
 

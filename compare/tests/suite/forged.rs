@@ -1,5 +1,5 @@
 //! Sessions that no step made: random words, and good sessions with one word or two forged. Every step must answer alike on both
-//! sides; the last one gives a verdict where steps could have left the words, and is out of turn everywhere else.
+//! sides; asking and committing give a verdict where steps could have left the words, and are out of turn everywhere else.
 
 use compare::calls::proved;
 use compare::random::{count, elements, Random, NO_SIZES, SIZES};
@@ -82,7 +82,7 @@ fn forgeries(random: &mut Random, good: &Words) -> Vec<Words> {
 }
 
 /// The good steps, and after them bad ones: sizes, lengths, words and challenges that are refused.
-fn good_and_bad(good: &[Step; 7]) -> Vec<Step> {
+fn good_and_bad(good: &[Step; 8]) -> Vec<Step> {
     let mut steps = good.to_vec();
     for step in good {
         let places = step.clone().words().len();
@@ -105,7 +105,7 @@ fn good_and_bad(good: &[Step; 7]) -> Vec<Step> {
     steps
 }
 
-/// The sessions of small runs after every step, forged: each verdict and each refusal of a step must occur.
+/// The sessions of small runs after every step that changes them, forged: each verdict and each refusal of a step must occur.
 #[test]
 fn small_sessions() {
     let mut random = Random::new(46);
@@ -115,7 +115,7 @@ fn small_sessions() {
         let steps = Step::of_proof(&case, &proof);
         let taken = good_and_bad(&steps);
         let mut good = Pair::unopened();
-        for step in &steps {
+        for step in steps.iter().filter(|step| !matches!(step, Step::Ask(_))) {
             assert!(good.take(step).is_ok());
             for words in forgeries(&mut random, good.ours.words()) {
                 let pair = Pair::of_words(words);
@@ -126,22 +126,25 @@ fn small_sessions() {
     answers.expect(20, &[1, 4, 5, 6, 10, 11, 13]);
 }
 
-/// A session before its last step, and that step.
-struct Last {
+/// A session before its openings, and the two steps that take them.
+struct Unjudged {
     words: Words,
-    step: Step,
+    steps: [Step; 2],
     answers: Answers,
 }
 
-impl Last {
-    /// The last step on forged words must answer so.
+impl Unjudged {
+    /// Asking and committing on forged words must answer so.
     fn expect(&mut self, changes: &[(usize, u32)], expected: Answer) {
-        let answer = Pair::of_words(forged(&self.words, changes)).take(&self.step);
-        assert_eq!(answer, expected, "the words at these places replaced: {changes:?}");
-        self.answers.add(&answer);
+        let words = forged(&self.words, changes);
+        for step in &self.steps {
+            let answer = Pair::of_words(words).take(step);
+            assert_eq!(answer, expected, "{step:?} with the words at these places replaced: {changes:?}");
+            self.answers.add(&answer);
+        }
     }
 
-    /// Words that no steps leave: the last step is out of turn.
+    /// Words that no steps leave: asking and committing are out of turn.
     fn expect_out_of_turn(&mut self, places: impl Iterator<Item = usize>, words: &[u32]) {
         for place in places {
             words.iter().for_each(|&word| self.expect(&[(place, word)], Err(OUT_OF_TURN)));
@@ -156,33 +159,34 @@ fn forged_at(size: u32, test: u64) {
     for (public, counts) in [(1, [20, 130, 40]), (size / 4, [300, 20, 60]), (size, [60, 20, 260])] {
         let (case, proof) = proved(random.case_of_counts([size, size, public], counts));
         let steps = Step::of_proof(&case, &proof);
-        let words = *Pair::after(&steps[..6]).ours.words();
-        let mut last = Last { words, step: steps[6].clone(), answers };
+        let [before @ .., ask, commit] = &steps;
+        let words = *Pair::after(before).ours.words();
+        let mut unjudged = Unjudged { words, steps: [ask.clone(), commit.clone()], answers };
         let public_end = PUBLIC_START + public as usize;
-        last.expect_out_of_turn([PUBLIC_START].into_iter(), &[0, 2, MODULUS - 1]);
-        last.expect_out_of_turn(public_end..TRANSCRIPT_START, &[1, MODULUS]);
-        last.expect_out_of_turn(
+        unjudged.expect_out_of_turn([PUBLIC_START].into_iter(), &[0, 2, MODULUS - 1]);
+        unjudged.expect_out_of_turn(public_end..TRANSCRIPT_START, &[1, MODULUS]);
+        unjudged.expect_out_of_turn(
             (PUBLIC_START..public_end).chain(TRANSCRIPT_START..SESSION_WORDS),
             &[MODULUS, u32::MAX],
         );
-        last.expect_out_of_turn([0].into_iter(), &[0, 1, 2, 3, 4, 5, 7, 8, 6 + (1 << 8), 6 + (1 << 16), u32::MAX]);
-        last.expect_out_of_turn(1..PUBLIC_START, &NO_SIZES);
+        unjudged.expect_out_of_turn([0].into_iter(), &[0, 1, 2, 3, 4, 5, 7, 8, 6 + (1 << 8), 6 + (1 << 16), u32::MAX]);
+        unjudged.expect_out_of_turn(1..PUBLIC_START, &NO_SIZES);
         for (place, forbidden) in CHALLENGES.into_iter().zip([size, size, case.largest_places()]) {
-            last.expect_out_of_turn([place].into_iter(), &elements(forbidden));
+            unjudged.expect_out_of_turn([place].into_iter(), &elements(forbidden));
         }
-        judged(&mut random, &mut last, &steps, public as usize);
-        answers = last.answers;
+        judged(&mut random, &mut unjudged, &steps, public as usize);
+        answers = unjudged.answers;
     }
     answers.expect(1, &[1]);
 }
 
 /// Words that steps could have left: each gives a verdict, by the check that it enters first.
-fn judged(random: &mut Random, last: &mut Last, steps: &[Step; 7], public: usize) {
+fn judged(random: &mut Random, unjudged: &mut Unjudged, steps: &[Step; 8], public: usize) {
     let [accept, row] = [Verdict::Accept, Verdict::Fails(Check::Row)].map(|verdict| Ok(Some(verdict)));
     let [line, matrix] = [Check::Line, Check::Matrix].map(|check| Ok(Some(Verdict::Fails(check))));
     let put_back = forged(Pair::after(steps).ours.words(), &[(0, 6)]);
-    assert_eq!(put_back, last.words, "the last step changes the stage alone");
-    last.expect(&[], accept);
+    assert_eq!(put_back, unjudged.words, "a commit changes the stage alone");
+    unjudged.expect(&[], accept);
     let [alpha, beta, gamma] = CHALLENGES;
     let sums = (SUMS..SUMS + 3).map(|place| (place, row));
     let others = (ETA..ETA + 3).chain(VALUES..VALUES + 3).map(|place| (place, line));
@@ -191,15 +195,15 @@ fn judged(random: &mut Random, last: &mut Last, steps: &[Step; 7], public: usize
     let public_words = after_constant.map(|place| (PUBLIC_START + place, line));
     for (place, expected) in sums.chain(others).chain(deltas).chain(public_words) {
         let word = random.outside(1024);
-        last.expect(&[(place, word)], expected);
+        unjudged.expect(&[(place, word)], expected);
     }
     for (place, expected) in [(alpha, row), (beta, line), (gamma, matrix)] {
         let word = random.outside(1024);
-        last.expect(&[(place, word)], expected);
+        unjudged.expect(&[(place, word)], expected);
     }
-    let [a, b, c] = [0, 1, 2].map(|sum| last.words[SUMS + sum]);
+    let [a, b, c] = [0, 1, 2].map(|sum| unjudged.words[SUMS + sum]);
     let kept = [(SUMS, second::add(a, 1)), (SUMS + 2, second::add(c, b))];
-    last.expect(&kept.map(|(place, word)| (place, word.expect("field words"))), line);
+    unjudged.expect(&kept.map(|(place, word)| (place, word.expect("field words"))), line);
 }
 
 #[test]

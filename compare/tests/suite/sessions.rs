@@ -24,7 +24,7 @@ fn damage(random: &mut Random, step: &mut Step) {
     }
 }
 
-/// Every step of good proofs in order, the verdict with them, then once more every step, now out of turn.
+/// Every step of good proofs in order, the verdicts with them, then once more every step, now out of turn.
 #[test]
 fn good_runs() {
     let mut random = Random::new(40);
@@ -37,7 +37,7 @@ fn good_runs() {
             assert_eq!(pair.take(step), Err(OUT_OF_TURN));
         }
         let answers = steps.each_ref().map(|step| pair.take(step));
-        assert_eq!(answers[6], Ok(Some(Verdict::Accept)));
+        assert_eq!(answers[6..], [Ok(Some(Verdict::Accept)); 2]);
         for step in &steps[1..] {
             assert_eq!(pair.take(step), Err(OUT_OF_TURN));
         }
@@ -59,10 +59,41 @@ fn largest_run() {
         Step::Beta([length[4], length[5]], random.outside(1024)),
         Step::Delta(random.three(), [length[7], length[8], length[9]], random.three()),
         Step::Gamma(length[10], random.outside(1024)),
-        Step::Openings([0; 21]),
+        Step::Ask([0; 21]),
+        Step::Commit([0; 21]),
     ];
     let answers = steps.map(|step| pair.take(&step));
-    assert_eq!(answers[6], Ok(Some(Verdict::Fails(Check::Row))));
+    assert_eq!(answers[6..], [Ok(Some(Verdict::Fails(Check::Row))); 2]);
+}
+
+/// Two runs with the same steps, one of which also asks between them: the steps' answers and the words that they leave are alike. Asked
+/// about and committed are the good openings, these with another word for h0, m or row_A, and some that are refused.
+#[test]
+fn asking_in_between() {
+    let mut random = Random::new(47);
+    let mut answers = Answers::default();
+    for _ in 0..count(60) {
+        let (case, proof) = proved(random.case(4));
+        let [before @ .., _, _] = Step::of_proof(&case, &proof);
+        let mut openings = [proof.openings; 5];
+        for (choice, place) in [(1, 4), (2, 1), (3, 9)] {
+            openings[choice][place] = random.word();
+        }
+        openings[4][random.place(21)] = MODULUS;
+        for committed in openings {
+            let [mut asking, mut silent] = [(); 2].map(|()| Pair::unopened());
+            for step in before.iter().chain([&Step::Commit(committed)]) {
+                for _ in 0..random.below(3) {
+                    answers.add(&asking.take(&Step::Ask(random.one_of(&openings))));
+                }
+                let answer = asking.take(step);
+                assert_eq!(answer, silent.take(step), "after asking, then without");
+                assert!(asking.ours == silent.ours, "asking has changed what a step leaves");
+                answers.add(&answer);
+            }
+        }
+    }
+    answers.expect(20, &[1, 6]);
 }
 
 /// Every word of every step at its boundaries, alone and with each other word of the step: the first refusal must win.
@@ -99,7 +130,7 @@ fn faults_around_the_constant() {
     ];
     let (case, proof) = proved(Case::square());
     let steps = Step::of_proof(&case, &proof);
-    for taken in 0..=7 {
+    for taken in 0..=8 {
         for ((sizes, x), first) in combined(&([4, 8, 2, 1, 2, 4], vec![1, 0]), &faults) {
             let mut pair = Pair::after(&steps[..taken]);
             let before = *pair.ours.words();
@@ -142,8 +173,9 @@ fn random_orders() {
         let steps = Step::of_proof(&case, &proof);
         let mut pair = Pair::unopened();
         for _ in 0..40 {
-            let taken = pair.ours.words()[0] as usize;
-            let place = if random.one_in(4) { random.place(7) } else { taken % 7 };
+            let stage = pair.ours.words()[0] as usize;
+            let next = if stage == 6 { random.one_of(&[6, 7]) } else { stage % 7 };
+            let place = if random.one_in(4) { random.place(8) } else { next };
             let mut step = steps[place].clone();
             if random.one_in(3) {
                 damage(&mut random, &mut step);

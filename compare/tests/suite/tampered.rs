@@ -18,7 +18,8 @@ const FAILS_ROW: Answer = Ok(Some(Verdict::Fails(Check::Row)));
 const FAILS_LINE: Answer = Ok(Some(Verdict::Fails(Check::Line)));
 const FAILS_MATRIX: Answer = Ok(Some(Verdict::Fails(Check::Matrix)));
 
-/// Proofs with one false word each: the same check must fail on both sides.
+/// Proofs with one false word each: the same check must fail on both sides. An opening is false only where it is asked about or only where
+/// it is committed, and the other verdict is Accept.
 #[test]
 fn tampered_proofs() {
     let mut random = Random::new(43);
@@ -26,13 +27,18 @@ fn tampered_proofs() {
     for _ in 0..count(120) {
         let (case, proof) = proved(random.case(4));
         let good = Step::of_proof(&case, &proof);
-        for place in 2..7 {
+        for place in 2..8 {
             for word in 0..good[place].clone().words().len() {
                 let mut steps = good.clone();
                 *steps[place].words()[word] = random.word();
                 let mut pair = Pair::unopened();
-                let [.., last] = steps.map(|step| pair.take(&step));
-                answers.add(&last);
+                let [.., asked, committed] = steps.map(|step| pair.take(&step));
+                match place {
+                    6 => assert_eq!(committed, ACCEPTED),
+                    7 => assert_eq!(asked, ACCEPTED),
+                    _ => assert_eq!(asked, committed),
+                }
+                [asked, committed].iter().for_each(|answer| answers.add(answer));
             }
         }
     }
@@ -65,15 +71,9 @@ fn times(a: u32, b: u32) -> u32 {
     second::multiply(a, b).expect("field words")
 }
 
-/// The answer to the last of a proof's steps, on both sides.
-fn verdict(steps: &[Step; 7]) -> Answer {
-    let [before @ .., last] = steps;
-    Pair::after(before).take(last)
-}
-
 /// A good proof, with all that is opened.
 struct Good {
-    steps: [Step; 7],
+    steps: [Step; 8],
     /// The polynomials in the order of their openings, each with its point.
     opened: Vec<(Vec<u32>, u32)>,
     openings: [u32; 21],
@@ -98,19 +98,17 @@ impl Good {
         good
     }
 
-    /// Takes all steps on both sides and holds the last answer to the one expected.
-    fn expect(&mut self, steps: &[Step; 7], expected: Answer) {
-        let answer = verdict(steps);
+    /// Takes all steps on both sides and holds the verdict to the one expected.
+    fn expect(&mut self, steps: &[Step; 8], expected: Answer) {
+        let answer = Pair::verdict(steps);
         assert_eq!(answer, expected, "the verdict, then the one expected");
         self.answers.add(&answer);
     }
 
     /// The verdict with one opening replaced.
     fn expect_opening(&mut self, opening: usize, word: u32) {
-        let mut openings = self.openings;
-        openings[opening] = word;
         let mut steps = self.steps.clone();
-        steps[6] = Step::Openings(openings);
+        steps[6..].iter_mut().for_each(|step| *step.words()[opening] = word);
         self.expect(&steps, fails(opening));
     }
 
@@ -250,7 +248,8 @@ fn false_sums_that_eta_saves() {
                 let (_, mut proof) = proved(case.clone());
                 proof.sections[3] = claimed.to_vec();
                 proof.openings[1] = plus(proof.openings[1], shift);
-                assert_eq!(verdict(&Step::of_proof(&case, &proof)), expected, "the verdict, then the one expected");
+                let answer = Pair::verdict(&Step::of_proof(&case, &proof));
+                assert_eq!(answer, expected, "the verdict, then the one expected");
             }
         }
     }

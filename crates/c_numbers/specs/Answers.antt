@@ -53,11 +53,14 @@ verdictNumber (Fails Row) = 2
 verdictNumber (Fails Line) = 3
 verdictNumber (Fails Matrix) = 4
 
--- the last step: the words of the next session with the verdict's number, or those before with no verdict; it never answers Taken
-abbrev pub lastWords : steps.Answer → List ℕ → List ℕ → Answered (List ℕ × ℕ)
-lastWords steps.Taken next before = told 0 0 (next, noVerdict)
-lastWords (steps.Judged v) next before = told 0 0 (next, verdictNumber v)
-lastWords (steps.Refused r) next before = told (r .number) (r .position) (before, noVerdict)
+-- asking: the verdict's number, or the refusal with no verdict; openings are never answered Taken
+abbrev pub verdictAnswered : steps.Answer → Answered ℕ
+verdictAnswered steps.Taken = told 0 0 noVerdict
+verdictAnswered (steps.Judged v) = told 0 0 (verdictNumber v)
+verdictAnswered (steps.Refused r) = told (r .number) (r .position) noVerdict
 
-abbrev pub lastAnswered : steps.Stepped → List ℕ → Answered (List ℕ × ℕ)
-lastAnswered s before = lastWords (s .answer) (sessionWords (s .session)) before
+-- committing: the verdict as in asking, and the session's words as in every step
+abbrev pub commitAnswered : steps.Stepped → List ℕ → Answered (List ℕ × ℕ)
+commitAnswered s before =
+    let asked : Answered ℕ = verdictAnswered (s .answer) in
+    told (asked .number) (asked .position) (stepAnswered s before .result, asked .result)

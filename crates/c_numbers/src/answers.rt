@@ -5,8 +5,8 @@ ghost use Rattle.shared.specs.Meanings.{verdictMeaning};
 ghost use Rattle.record.specs.Answers.{readingMeaning};
 ghost use Rattle.shared.specs.Answers.{placeMeaning};
 ghost use Rattle.varuna.specs.Answers.{wordMeaning, evaluatedMeaning, threeMeaning, filledMeaning, openingsMeaning};
-ghost use Rattle.verifier.specs.Session.{steppedMeaning, finishedMeaning};
-ghost use Rattle.c_numbers.specs.Answers.{told, answered, threeListed, sizesListed, stepAnswered, lastAnswered, verdictNumber};
+ghost use Rattle.verifier.specs.Session.{steppedMeaning, openingsAnswerMeaning, openingsSteppedMeaning};
+ghost use Rattle.c_numbers.specs.Answers.{told, answered, threeListed, sizesListed, stepAnswered, verdictAnswered, commitAnswered, verdictNumber};
 use varuna::answers::Check;
 use varuna::answers::Evaluated;
 use varuna::answers::Filled;
@@ -17,8 +17,8 @@ use varuna::answers::ThreeWords;
 use varuna::answers::Verdict;
 use varuna::answers::Word;
 use varuna::session::Answer;
-use varuna::session::Finished;
-use varuna::session::LastAnswer;
+use varuna::session::OpeningsAnswer;
+use varuna::session::OpeningsStepped;
 use varuna::session::SESSION_WORDS;
 use varuna::session::Stepped;
 
@@ -176,30 +176,42 @@ fn verdict_number(verdict: Verdict) -> u32
     }
 }
 
-// The last session and the verdict. A refused step has no verdict, and says so over whatever the caller's variable held.
-pub fn give_verdict(
-    next: Finished,
+// The verdict. Refused openings have none, and this is said over whatever the caller's variable held.
+pub fn give_verdict(answer: OpeningsAnswer, verdict: &mut u32, position: &mut usize) -> u32
+    ensures { λ n. ⌜ told n (now (position .exit)) (now (verdict .exit)) ≡ verdictAnswered (openingsAnswerMeaning answer) ⌝ }
+{
+    match answer {
+        OpeningsAnswer::Judged(v) => {
+            *verdict = verdict_number(v);
+            *position = 0;
+            0
+        }
+        OpeningsAnswer::Refused(number, at) => {
+            *verdict = NO_VERDICT;
+            *position = at;
+            number
+        }
+    }
+}
+
+// The closed session, and the verdict.
+pub fn give_commit(
+    next: OpeningsStepped,
     session: &mut [u32; SESSION_WORDS],
     verdict: &mut u32,
     position: &mut usize,
 ) -> u32
     ensures { λ n. ⌜ told n (now (position .exit)) (now (session .exit), now (verdict .exit))
-        ≡ lastAnswered (finishedMeaning next) (now (session .entry)) ⌝ }
+        ≡ commitAnswered (openingsSteppedMeaning next) (now (session .entry)) ⌝ }
 {
     let answer = next.answer;
     match answer {
-        LastAnswer::Judged(v) => {
+        OpeningsAnswer::Judged(_) => {
             let s = next.session;
             s.into_words(session);
-            *verdict = verdict_number(v);
-            *position = 0;
-            0
+            give_verdict(answer, verdict, position)
         }
-        LastAnswer::Refused(number, at) => {
-            *verdict = NO_VERDICT;
-            *position = at;
-            number
-        }
+        OpeningsAnswer::Refused(_, _) => give_verdict(answer, verdict, position),
     }
 }
 

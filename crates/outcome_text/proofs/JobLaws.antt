@@ -123,7 +123,7 @@ module _ (i : ProverInput) (d : Challenges) where
     last o = lastAnswer (sizesOf c) (lengths (sizesOf c)) (publicOf (sizesOf c) (i .z)) d (sumWords i (j .α)) (valueWords i (j .α) (j .β)) o
 
     -- the last answer of the session
-    last-same : (o : Openings ℕ) → o ≡ mapOpenings wordOf (trueOpenings babyBear j sent) → getD (honestConversation babyBear j) 6 Taken ≡ last o
+    last-same : (o : Openings ℕ) → o ≡ mapOpenings wordOf (trueOpenings babyBear j sent) → getD (honestConversation babyBear j) 7 Taken ≡ last o
     unfolding honestConversation conversationOn conversation proof messages sumWords valueWords afterSums afterValues answerAfter
     last-same o e = λ t.
         lastAnswer (sizesOf c) (lengths-due t) (public-same t) d (sumWords i (j .α)) (valueWords i (j .α) (j .β)) (sym e t)

@@ -5,14 +5,14 @@ ghost use Rattle.domain.specs.Size.{maxSize};
 ghost use Rattle.protocol.specs.Messages.{lengths};
 ghost use Rattle.shared.specs.Meanings.{three, sizes};
 ghost use Rattle.shared.specs.Meanings as meanings;
-ghost use Rattle.verifier.specs.Session.{sessionMeaning, lastMeaning};
+ghost use Rattle.verifier.specs.Session.{sessionMeaning, openingsAnswerMeaning};
 ghost use Rattle.report.specs.Stages.{afterSums, afterValues, answerAfter, lastAnswer};
 use report::Challenges;
 use shared::Opened;
 use shared::Sizes;
 use shared::Triple;
 use shared::lengths::message_lengths;
-use varuna::session::LastAnswer;
+use varuna::session::OpeningsAnswer;
 use varuna::session::Session;
 
 // The session after the σ and η.
@@ -51,22 +51,23 @@ fn after_values(before: Session, s: Sizes, beta: u32, values: Triple, delta: Tri
     third.delta(values, remainders, delta).session
 }
 
-// The answer to the openings.
+// The answer to the openings, which are asked about and then committed.
 fn answer_after(
     before: Session,
     s: Sizes,
     gamma: u32,
     o: Opened,
     index: [[u32; 4]; 3],
-) -> LastAnswer
-    ensures { λ r. ⌜ lastMeaning r ≡ answerAfter (sessionMeaning before) (lengths (sizes s)) gamma (meanings.openings o index) ⌝ }
+) -> OpeningsAnswer
+    ensures { λ r. ⌜ openingsAnswerMeaning r ≡ answerAfter (sessionMeaning before) (lengths (sizes s)) gamma (meanings.openings o index) ⌝ }
 {
     let due = message_lengths(s);
-    let last = before.gamma(due.joinedQuotient as u32, gamma).session;
-    last.openings(o, index).answer
+    let heard = before.gamma(due.joinedQuotient as u32, gamma).session;
+    let asked = heard.ask(o, index).session;
+    asked.commit(o, index).answer
 }
 
-// The last of the seven answers.
+// The last of the answers.
 pub fn last_answer(
     s: Sizes,
     x: &[u32],
@@ -75,9 +76,9 @@ pub fn last_answer(
     values: Triple,
     o: Opened,
     index: [[u32; 4]; 3],
-) -> LastAnswer
+) -> OpeningsAnswer
     requires { ⌜ s .c ≤ maxSize ⌝ }
-    ensures { λ r. ⌜ lastMeaning r
+    ensures { λ r. ⌜ openingsAnswerMeaning r
         ≡ lastAnswer (sizes s) (lengths (sizes s)) (now (x .entry)) drawn (three sums) (three values) (meanings.openings o index) ⌝ }
 {
     let summed = after_sums(s, x, drawn.alpha, sums, drawn.eta);

@@ -1,6 +1,6 @@
 -- Column 0 is the constant: the proofs of specs/ConstantColumn. Assumes nothing.
 use mathlib.Core.Path.{_≡_, refl, sym, _∙_, subst}
-use mathlib.Core.Logic.{_≢_}
+use mathlib.Core.Logic.{_≢_, inl, inr}
 use mathlib.Core.Bool.{Bool}
 use mathlib.Core.List.{List, [], _∷_, _++_, map, tail}
 use mathlib.Core.Option.{Option, none, some}
@@ -21,14 +21,16 @@ use Rattle.protocol.specs.Checks.{Transcript, Openings, Verdict, withα,
 use Rattle.protocol.specs.Refusals.{Refusal, first, beginsWithOne, sixSizeTests}
 use Rattle.protocol.specs.Refusals.{sizeRefusal, listRefusal, wordRefusal, maskRefusal, constantRefusal, assignmentRefusal}
 use Rattle.protocol.specs.Admission.{refusalsAfterCircuit, proverRefusal}
-use Rattle.protocol.specs.Session.{Session, Stepped, Answer, Taken, Judged, Refused, Step, Open, Alpha, Eta, Beta, Delta, Gamma, Last, unopened, unless, onward}
+use Rattle.protocol.specs.Session.{Session, Stepped, Answer, Taken, Judged, Refused, Step, Open, Alpha, Eta, Beta, Delta, Gamma, Ask, Commit, unopened, unless, onward}
 use Rattle.protocol.specs.Session.{openRefusals, openRefusal, alphaRefusal, etaRefusal, betaRefusal, deltaRefusal, gammaRefusal, openingsRefusal, verdictOf}
-use Rattle.protocol.specs.Session.{openStep, alphaStep, etaStep, betaStep, deltaStep, gammaStep, openingsStep, stepped, after}
+use Rattle.protocol.specs.Session.{openStep, alphaStep, etaStep, betaStep, deltaStep, gammaStep, commitStep, stepped, after}
+use Rattle.protocol.specs.Verdicts.{GetsVerdict}
 use Rattle.protocol.specs.ConstantColumn.{OpensWithoutOne, ConstantColumn}
 use Rattle.protocol.proofs.RefusalLaws.{first-none, none-first, words-below, past, past-circuit}
 use Rattle.protocol.proofs.AdmissionLaws.{rows-satisfied, satisfied-rows}
 use Rattle.protocol.proofs.UnrefusedSteps.{open-passes, openings-passes}
-use Rattle.protocol.proofs.FollowingSteps.{must-refuse, judged}
+use Rattle.protocol.proofs.FollowingSteps.{must-refuse}
+use Rattle.protocol.proofs.AskThenCommit.{ask-leaves, gets-verdict}
 use Rattle.protocol.proofs.Sessions.{left-by-steps}
 
 -- the first of zeros, or of no elements, is 0
@@ -61,12 +63,12 @@ module _ (q : Prime) where
   opening-refused s n x other =
       must-refuse q s (Open n x) (λ free. other (eqb-true (getD x 0 0) 1 (open-passes q n x .0 free .1 .x-begins)))
 
-  verdict-with-one : (s : Session) (o : Openings ℕ) (v : Verdict) → openingsStep q s o .answer ≡ Judged v → getD (s .x) 0 0 ≡ 1
+  verdict-with-one : (s : Session) (o : Openings ℕ) (v : Verdict) → GetsVerdict q s o v → getD (s .x) 0 0 ≡ 1
   verdict-with-one s o v e =
-      eqb-true (getD (s .x) 0 0) 1 (left-by-steps q s (openings-passes q s o .0 (judged q s (Last o) v e .0) .1) .public-begins)
+      eqb-true (getD (s .x) 0 0) 1 (left-by-steps q s (openings-passes q s o .0 (gets-verdict q s o v e .0) .1) .public-begins)
 
   step-quiet : (s : Session) (step : Step) → OpensWithoutOne step → WithoutOne s → Quiet (stepped q s step)
-  unfolding alphaStep etaStep betaStep deltaStep gammaStep openingsStep
+  unfolding alphaStep etaStep betaStep deltaStep gammaStep commitStep
   step-quiet s (Open n x) other without =
       let (r, same) = opening-refused s n x other in
       subst (λ (u : Stepped). Quiet u) (sym same) (refused-quiet s r without)
@@ -75,9 +77,13 @@ module _ (q : Prime) where
   step-quiet s (Beta g h β) other without = heard-quiet (betaRefusal q (s .stage) (s .sizes) g h β) s (withβ β (s .transcript)) without
   step-quiet s (Delta ω g δ) other without = heard-quiet (deltaRefusal q (s .stage) (s .sizes) ω g δ) s (withδ ω δ (s .transcript)) without
   step-quiet s (Gamma h γ) other without = heard-quiet (gammaRefusal q (s .stage) (s .sizes) h γ) s (withγ γ (s .transcript)) without
-  step-quiet s (Last o) other without = (
+  step-quiet s (Ask o) other without = (
+    subst (λ u. WithoutOne u) (sym (ask-leaves q s o)) without,
+    λ v e. without (verdict-with-one s o v (inl e)),
+  )
+  step-quiet s (Commit o) other without = (
     subst (λ x. getD x 0 0 ≢ 1) (sym (same-x (openingsRefusal q s o) s (s .transcript) (Judged (verdictOf q s o)))) without,
-    λ v e. without (verdict-with-one s o v e),
+    λ v e. without (verdict-with-one s o v (inr e)),
   )
 
   steps-quiet : (steps : List Step) (s : Session) → All OpensWithoutOne steps → WithoutOne s → WithoutOne (after q s steps)

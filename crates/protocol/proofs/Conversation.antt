@@ -1,5 +1,5 @@
--- The verifier's session on a job that is let through: messages within the lengths of the table are taken at every step, and the last
--- answer is the verdict on them and on the openings. Assumes nothing.
+-- The verifier's session on a job that is let through: messages within the lengths of the table are taken at every step, and asking
+-- and committing answer the verdict on them and on the openings. Assumes nothing.
 use mathlib.Core.Path.{_≡_, refl, sym, ap, ap₂, _∙_}
 use mathlib.Core.Bool.{true, _&&_}
 use mathlib.Core.List.{List, [], _∷_, _++_, map}
@@ -18,8 +18,8 @@ use Rattle.protocol.specs.Circuit.{Circuit, sizesOf, publicPart}
 use Rattle.protocol.specs.Checks.{Openings, mapOpenings, verdict}
 use Rattle.protocol.specs.Messages.{Messages, mapMessages, Short}
 use Rattle.protocol.specs.Refusals.{sizeTests, sixSizeTests}
-use Rattle.protocol.specs.Session.{Taken, Judged, unopened, answers}
-use Rattle.protocol.specs.Conversation.{Challenges, mapChallenges, steps, transcriptOf}
+use Rattle.protocol.specs.Session.{unopened, answers}
+use Rattle.protocol.specs.Conversation.{Challenges, mapChallenges, steps, transcriptOf, endingIn}
 use Rattle.protocol.specs.Job.{Job, challenges, challengeWords, publicWords, conversation, conversationOn}
 use Rattle.protocol.proofs.AdmissionLaws.{WellFormed, JobFits}
 use Rattle.protocol.proofs.IndexPolynomials.{K-size}
@@ -65,7 +65,7 @@ module _ (q : Prime) (j : Job) (F : JobFits q j) where
       }
 
   pub conversation-judged : (sent : Messages (Poly q) (Elem q)) → Short (sizesOf c) (mapMessages length (λ e. 1) sent) → (o : Openings (Elem q))
-      → conversationOn q j sent o ≡ Taken ∷ Taken ∷ Taken ∷ Taken ∷ Taken ∷ Taken ∷ Judged (verdict (sizesOf c) x (transcriptOf t sent) o) ∷ []
+      → conversationOn q j sent o ≡ endingIn (verdict (sizesOf c) x (transcriptOf t sent) o)
   unfolding conversationOn conversation publicWords publicPart sizesOf
   conversation-judged sent short o =
       ap (λ t. answers q unopened (steps (sizesOf c) (words x) t (mapMessages words wordOf sent) (mapOpenings wordOf o))) (sym drawn-words)

@@ -1,6 +1,6 @@
--- Demands 2 and 3, how many false proofs pass in all, what is known where a verdict is answered, that no divisor is 0, that column 0 is the
--- constant, what growing circuits are, what blinding does, that parts of a list end at its value, and that fast interpolation agrees with
--- the plain one, proved: for every prime that qualifies, and so for the module's prime. Assumes nothing.
+-- Demands 2 and 3, how many false proofs pass in all, what is known where a verdict is answered, what asking and committing do, that no
+-- divisor is 0, that column 0 is the constant, what growing circuits are, what blinding does, that parts of a list end at its value, and
+-- that fast interpolation agrees with the plain one, proved: for every prime that qualifies, and so for the module's prime. Assumes nothing.
 use Rattle.field.specs.Prime.{Prime}
 use Rattle.domain.specs.BabyBear.{babyBear}
 use Rattle.domain.specs.Qualifies.{Qualifies}
@@ -9,6 +9,7 @@ use Rattle.protocol.specs.Demand2.{Demand2, Demand2Holds}
 use Rattle.protocol.specs.Demand3.{Setting, Demand3, Demand3Holds}
 use Rattle.protocol.specs.FalseProofs.{FalseProofs, FalseProofsHold}
 use Rattle.protocol.specs.Verdicts.{Verdicts}
+use Rattle.protocol.specs.AskThenCommit.{AskThenCommit, AskThenCommitHolds}
 use Rattle.protocol.specs.Divisors.{Divisors}
 use Rattle.protocol.specs.ConstantColumn.{ConstantColumn}
 use Rattle.protocol.specs.Growing.{Growing}
@@ -16,6 +17,7 @@ use Rattle.protocol.specs.Blinding.{Blinding}
 use Rattle.protocol.specs.EvaluationInParts.{EvaluationInParts}
 use Rattle.protocol.specs.FastInterpolation.{FastInterpolation}
 use Rattle.protocol.proofs.AllowedTuples.{allowed-tuples, largest-multiple}
+use Rattle.protocol.proofs.AskThenCommit.{asking-leaves, asking-answers, commit-answers, commit-ends, refused-leaves, committed-closed}
 use Rattle.protocol.proofs.Blinding as proofs
 use Rattle.protocol.proofs.CallsProve.{calls-give-proof, calls-accepted}
 use Rattle.protocol.proofs.ConstantColumn.{constant-column}
@@ -25,7 +27,7 @@ use Rattle.protocol.proofs.FalseProofs.{without-witness}
 use Rattle.protocol.proofs.FastInterpolation.{fast-interpolation}
 use Rattle.protocol.proofs.ForbiddenChallenges.{allowed-judged, forbidden-refused}
 use Rattle.protocol.proofs.Growing.{growing}
-use Rattle.protocol.proofs.Honest.{rules-kept, honest-accepted}
+use Rattle.protocol.proofs.Honest.{rules-kept, honest-accepted, accepted-by-both}
 use Rattle.protocol.proofs.IndexDecoding.{index-gives-back}
 use Rattle.protocol.proofs.JoinedCheck.{values-caught}
 use Rattle.protocol.proofs.LineCheck.{line-means}
@@ -75,6 +77,19 @@ false-proofs q Q =
 pub verdicts : (q : Prime) → Verdicts q
 verdicts q = record { verdicts-allowed = verdicts-allowed q; steps-pass = steps-pass q; only-steps-pass = only-steps-pass q }
 
+-- asking leaves the session, and committing gives what asking gave and closes it
+pub ask-then-commit : AskThenCommitHolds
+ask-then-commit q Q =
+    record {
+      asking-leaves = asking-leaves q;
+      asking-answers = asking-answers q;
+      commit-answers = commit-answers q;
+      commit-ends = commit-ends q;
+      refused-leaves = refused-leaves q;
+      committed-closed = committed-closed q;
+      accepted-by-both = accepted-by-both q Q;
+    }
+
 -- blinding, with demand 3 for what it says of a blinded circuit
 pub blinding : (q : Prime) → Qualifies q → Blinding q
 blinding = proofs.blinding demand3
@@ -91,6 +106,9 @@ module-false-proofs = false-proofs babyBear babyBear-qualifies
 
 pub module-verdicts : Verdicts babyBear
 module-verdicts = verdicts babyBear
+
+pub module-ask-then-commit : AskThenCommit babyBear
+module-ask-then-commit = ask-then-commit babyBear babyBear-qualifies
 
 pub module-divisors : Divisors babyBear
 module-divisors = divisors babyBear babyBear-qualifies

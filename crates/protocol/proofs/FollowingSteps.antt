@@ -13,9 +13,9 @@ use Rattle.domain.specs.Size.{maxSize}
 use Rattle.protocol.specs.Checks.{Verdict, withα, withη, withβ, withδ, withγ}
 use Rattle.protocol.specs.Refusals.{Refusal}
 use Rattle.protocol.specs.Session.{Session, Answer, Stepped, Taken, Judged, Refused, blank, unless, onward}
-use Rattle.protocol.specs.Session.{Step, Open, Alpha, Eta, Beta, Delta, Gamma, Last, stepped, after, answers}
+use Rattle.protocol.specs.Session.{Step, Open, Alpha, Eta, Beta, Delta, Gamma, Ask, Commit, stepped, after, answers}
 use Rattle.protocol.specs.Session.{openRefusal, alphaRefusal, etaRefusal, betaRefusal, deltaRefusal, gammaRefusal, openingsRefusal, verdictOf}
-use Rattle.protocol.specs.Session.{openStep, alphaStep, etaStep, betaStep, deltaStep, gammaStep, openingsStep}
+use Rattle.protocol.specs.Session.{openStep, alphaStep, etaStep, betaStep, deltaStep, gammaStep, askStep, commitStep}
 
 module _ (q : Prime) where
   -- what refuses a step, and what the step leaves and answers where nothing does
@@ -26,7 +26,8 @@ module _ (q : Prime) where
   refusalOf u (Beta g h β) = betaRefusal q (u .stage) (u .sizes) g h β
   refusalOf u (Delta ω g δ) = deltaRefusal q (u .stage) (u .sizes) ω g δ
   refusalOf u (Gamma h γ) = gammaRefusal q (u .stage) (u .sizes) h γ
-  refusalOf u (Last o) = openingsRefusal q u o
+  refusalOf u (Ask o) = openingsRefusal q u o
+  refusalOf u (Commit o) = openingsRefusal q u o
 
   abbrev taken : Session → Step → Stepped
   taken u (Open n x) =
@@ -36,10 +37,11 @@ module _ (q : Prime) where
   taken u (Beta g h β) = onward u (withβ β (u .transcript)) Taken
   taken u (Delta ω g δ) = onward u (withδ ω δ (u .transcript)) Taken
   taken u (Gamma h γ) = onward u (withγ γ (u .transcript)) Taken
-  taken u (Last o) = onward u (u .transcript) (Judged (verdictOf q u o))
+  taken u (Ask o) = record { session = u; answer = Judged (verdictOf q u o) }
+  taken u (Commit o) = onward u (u .transcript) (Judged (verdictOf q u o))
 
   step-is : (u : Session) (step : Step) → stepped q u step ≡ unless (refusalOf u step) u (taken u step)
-  unfolding openStep alphaStep etaStep betaStep deltaStep gammaStep openingsStep
+  unfolding openStep alphaStep etaStep betaStep deltaStep gammaStep askStep commitStep
   step-is u = elim [
     | Open n x ↦ refl
     | Alpha w m h α ↦ refl
@@ -47,7 +49,8 @@ module _ (q : Prime) where
     | Beta g h β ↦ refl
     | Delta ω g δ ↦ refl
     | Gamma h γ ↦ refl
-    | Last o ↦ refl
+    | Ask o ↦ refl
+    | Commit o ↦ refl
   ]
 
   -- no step takes the stage up by more than 1
@@ -59,7 +62,8 @@ module _ (q : Prime) where
     | Beta g h β ↦ omega arith
     | Delta ω g δ ↦ omega arith
     | Gamma h γ ↦ omega arith
-    | Last o ↦ omega arith
+    | Ask o ↦ omega arith
+    | Commit o ↦ omega arith
   ]
 
   module _ (u : Session) (step : Step) where
@@ -101,7 +105,7 @@ module _ (q : Prime) where
   refusals u [] = []
   refusals u (step ∷ steps) = refusalOf u step ∷ refusals (taken u step .session) steps
 
-  free-taken : (u : Session) (step : Step) → refusalOf u step ≡ none → stepped q u step ≡ taken u step
+  pub free-taken : (u : Session) (step : Step) → refusalOf u step ≡ none → stepped q u step ≡ taken u step
   free-taken u step free = step-is u step ∙ ap (λ o. unless o u (taken u step)) free
 
   pub all-taken : (steps : List Step) (u : Session) → All (λ o. o ≡ none) (refusals u steps)

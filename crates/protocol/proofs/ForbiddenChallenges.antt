@@ -1,7 +1,7 @@
 -- Allowed and forbidden challenges (document 02, request 7): a conversation at allowed ones gets a verdict where all else is in order; a
--- forbidden one is refused when it is heard, and then the last step is out of turn. Assumes nothing.
+-- forbidden one is refused when it is heard, and then asking and committing are out of turn. Assumes nothing.
 use mathlib.Core.Path.{_≡_, refl, ap, _∙_, subst}
-use mathlib.Core.List.{List}
+use mathlib.Core.List.{List, [], _∷_}
 use mathlib.Core.Option.{none}
 use Prim.Native.Nat.{ℕ}
 use lib.ListN.{length, getD, take}
@@ -16,48 +16,52 @@ use Rattle.protocol.specs.Checks.{Openings, mapOpenings, Verdict, verdic
 use Rattle.protocol.specs.Messages.{mapMessages, Short}
 use Rattle.protocol.specs.Refusals.{Refusal, turnRefusal}
 use Rattle.protocol.specs.Admission.{Admitted}
-use Rattle.protocol.specs.Session.{Session, Stepped, Step, Alpha, Beta, Gamma, Taken, Judged, Refused, unopened, inTurn}
-use Rattle.protocol.specs.Session.{stepped, after, openingsRefusal, openingsStep}
+use Rattle.protocol.specs.Session.{Session, Stepped, Step, Alpha, Beta, Gamma, Taken, Judged, Refused, outOfTurn, unopened, inTurn}
+use Rattle.protocol.specs.Session.{stepped, after, openingsRefusal, askStep, commitStep}
 use Rattle.protocol.specs.Conversation.{Challenges, mapChallenges, steps, transcriptOf}
 use Rattle.protocol.specs.FalseProofs.{Strategy, messagesOf, Allowed, opened, answer, RefusedAt}
 use Rattle.protocol.proofs.AdmissionLaws.{admitted-well-formed}
 use Rattle.protocol.proofs.UnrefusedSteps.{InTurn, in-turn, alpha-passes, beta-passes, gamma-passes}
 use Rattle.protocol.proofs.FollowingSteps.{refusalOf, must-refuse, afterTaken, in-step}
+use Rattle.protocol.proofs.AskThenCommit.{commit-answers}
 use Rattle.protocol.proofs.JudgedSessions.{judged-session, heard-session}
 use Rattle.protocol.proofs.Conversation.{six-sizes}
 
 pub allowed-judged :
     {q : Prime} (c : Circuit) → Admitted q c → (x : List (Elem q)) → length x ≡ c .|X| → BeginsWithOne x → (P : Strategy q) (t : Challenges (Elem q))
-    → Short (sizesOf c) (mapMessages length (λ e. 1) (messagesOf P t)) → Allowed c t → (v : Verdict) × (answer c x P t 6 ≡ Judged v)
+    → Short (sizesOf c) (mapMessages length (λ e. 1) (messagesOf P t)) → Allowed c t
+    → (v : Verdict) × (answer c x P t 6 ≡ Judged v) × (answer c x P t 7 ≡ Judged v)
 unfolding sizesOf
 allowed-judged {q} c admitted x x-length begins P t short (α, β, γ) =
-    let v : Verdict = verdict (sizesOf c) x (transcriptOf t (messagesOf P t)) (opened c x P t) in (
-      v,
-      ap (λ l. getD l 6 Taken)
-          (judged-session (sizesOf c) x t (messagesOf P t) (opened c x P t) v
-          (record {
-            sizes-allowed = six-sizes q c (admitted-well-formed q c admitted);
-            x-length = x-length;
-            x-begins = begins;
-            short = short;
-            α-outside = α;
-            β-outside = β;
-            γ-outside = γ;
-            verdict-is = refl;
-          })),
-    )
+    let v : Verdict = verdict (sizesOf c) x (transcriptOf t (messagesOf P t)) (opened c x P t) in
+    let all =
+    judged-session (sizesOf c) x t (messagesOf P t) (opened c x P t) v
+    (record {
+      sizes-allowed = six-sizes q c (admitted-well-formed q c admitted);
+      x-length = x-length;
+      x-begins = begins;
+      short = short;
+      α-outside = α;
+      β-outside = β;
+      γ-outside = γ;
+      verdict-is = refl;
+    }) in
+    (v, ap (λ l. getD l 6 Taken) all, ap (λ l. getD l 7 Taken) all)
 
--- a last step out of turn is refused by 1
-out-of-turn : (q : Prime) (u : Session) (o : Openings ℕ) → ¬ InTurn 6 (u .stage) (u .sizes)
-    → openingsStep q u o .answer ≡ Refused (record { number = 1; position = 0 })
-unfolding openingsStep openingsRefusal turnRefusal
-out-of-turn q u o out = rw (test-fails (inTurn 6 (u .stage) (u .sizes)) (λ turn. out (in-turn 6 (u .stage) (u .sizes) turn)))
+-- out of turn, asking and committing are refused by 1
+module _ (q : Prime) (u : Session) (o : Openings ℕ) (out : ¬ InTurn 6 (u .stage) (u .sizes)) where
+  ask-out-of-turn : askStep q u o .answer ≡ outOfTurn
+  unfolding askStep openingsRefusal turnRefusal
+  ask-out-of-turn = rw (test-fails (inTurn 6 (u .stage) (u .sizes)) (λ turn. out (in-turn 6 (u .stage) (u .sizes) turn)))
+
+  both-out-of-turn : (askStep q u o .answer ≡ outOfTurn) × (commitStep q (askStep q u o .session) o .answer ≡ outOfTurn)
+  both-out-of-turn = (ask-out-of-turn, commit-answers q u (o ∷ []) o ∙ ask-out-of-turn)
 
 module _ {q : Prime} (c : Circuit) (x : List (Elem q)) (P : Strategy q) (t : Challenges (Elem q)) where
   abbrev s : Sizes
   s = sizesOf c
 
-  -- the first n of the seven steps
+  -- the first n of the steps
   abbrev earlier : ℕ → List Step
   earlier n = take n (steps s (words x) (mapChallenges wordOf t) (mapMessages words wordOf (messagesOf P t)) (mapOpenings wordOf (opened c x P t)))
 
@@ -78,7 +82,7 @@ module _ {q : Prime} (c : Circuit) (x : List (Elem q)) (P : Strategy q) (t : Cha
       (¬ Outside (c .|R|) (t .α) → RefusedAt c x P t 1)
       × (¬ Outside (c .|C|) (t .β) → RefusedAt c x P t 3)
       × (¬ Outside (largest (sizesOf c .|K|)) (t .γ) → RefusedAt c x P t 5)
-      × (¬ Allowed c t → answer c x P t 6 ≡ Refused (record { number = 1; position = 0 }))
+      × (¬ Allowed c t → (answer c x P t 6 ≡ outOfTurn) × (answer c x P t 7 ≡ outOfTurn))
   unfolding sizesOf
   forbidden-refused = (
     forbidden 1 (Alpha _ _ _ _) (λ n. n .|R|) (t .α) refl refl
@@ -87,7 +91,7 @@ module _ {q : Prime} (c : Circuit) (x : List (Elem q)) (P : Strategy q) (t : Cha
         (λ free. let heard = beta-passes q _ _ _ _ _ .0 free in (heard .turn .stage-is, heard .outside)),
     forbidden 5 (Gamma _ _) (λ n. largest (n .|K|)) (t .γ) refl refl
         (λ free. let heard = gamma-passes q _ _ _ _ .0 free in (heard .turn .stage-is, heard .outside)),
-    λ out. out-of-turn q (after q unopened (earlier 6)) _ (λ turn.
+    λ out. both-out-of-turn q (after q unopened (earlier 6)) _ (λ turn.
         let J = heard-session s x t (messagesOf P t) (opened c x P t) (turn .stage-is) in
         out (J .α-outside, J .β-outside, J .γ-outside)),
   )

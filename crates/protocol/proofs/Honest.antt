@@ -1,13 +1,13 @@
 -- The honest messages of a job that is let through keep the rules of the table of messages, and the verifier's session accepts
 -- them at all allowed challenges. Assumes nothing.
 use mathlib.Core.Path.{_≡_, refl, sym, ap, ap₂, _∙_, subst}
-use mathlib.Core.List.{List, [], _∷_, map}
-use Prim.Native.Nat.{suc}
-use lib.ListN.{length, length-map}
+use mathlib.Core.List.{List, map}
+use Prim.Native.Nat.{ℕ, suc}
+use lib.ListN.{length, getD, length-map}
 use native.Mathlib.Nat.{le-of-eq}
 use Rattle.algebra.proofs.RingLaws.{zero-add}
 use Rattle.field.specs.Prime.{Prime}
-use Rattle.field.specs.Element.{Elem, of, _⊕_}
+use Rattle.field.specs.Element.{Elem, of, wordOf, words, _⊕_}
 use Rattle.field.proofs.ElementLaws.{primeRing}
 use Rattle.domain.specs.Domain.{sumOver}
 use Rattle.domain.specs.Polynomial.{Poly, eval, valuesOn}
@@ -16,13 +16,15 @@ use Rattle.domain.proofs.SizeLaws.{size-positive}
 use Rattle.protocol.specs.Three.{A, B, C, Three, mapThree}
 use Rattle.protocol.specs.Circuit.{Circuit, sizesOf, Satisfied, publicPart, extension}
 use Rattle.protocol.specs.Index.{indexAt, index}
-use Rattle.protocol.specs.Checks.{Accept, weighted, lineLeft, matrixLeft, joinedLeft, joinedRight, verdict}
+use Rattle.protocol.specs.Checks.{Openings, mapOpenings, Accept, weighted, lineLeft, matrixLeft, joinedLeft, joinedRight, verdict}
 use Rattle.protocol.specs.Messages.{Short, Messages, mapMessages, lengths, witness, assignment, image, sums, values, line, matrixRemainder, matrixQuotient, messages, openings}
-use Rattle.protocol.specs.Session.{Taken, Judged}
-use Rattle.protocol.specs.Conversation.{transcriptOf}
-use Rattle.protocol.specs.Job.{Job, proof, trueOpenings, honestConversation}
+use Rattle.protocol.specs.Session.{Session, Ask, Taken, Judged, unopened, askStep, commitStep, after}
+use Rattle.protocol.specs.Conversation.{transcriptOf, hearingMessages, endingIn}
+use Rattle.protocol.specs.Job.{Job, challenges, publicWords, proof, trueOpenings, conversation, conversationOn, honestConversation}
+use Rattle.protocol.specs.AskThenCommit.{AcceptedByBoth}
 use Rattle.protocol.specs.Demand2.{KeepsRules, RulesKept, HonestAccepted}
 use Rattle.protocol.proofs.AdmissionLaws.{WellFormed, JobFits, job-fits}
+use Rattle.protocol.proofs.AskThenCommit.{asking-leaves, commit-answer}
 use Rattle.protocol.proofs.Conversation.{drawn, conversation-judged}
 use Rattle.protocol.proofs.JoinedRule.{length-joinedQuotient, eval-joinedQuotient, joined-rule}
 use Rattle.protocol.proofs.LineCheck.{line-rule, length-lineRemainder, length-lineQuotient}
@@ -156,4 +158,14 @@ unfolding honestConversation
 honest-accepted q Q j free =
     let F : JobFits q j = job-fits q j free in
     conversation-judged q j F (proof q j) (short Q j F) (trueOpenings q j (proof q j))
-    ∙ ap (λ v. Taken ∷ Taken ∷ Taken ∷ Taken ∷ Taken ∷ Taken ∷ Judged v ∷ []) (honest-verdict Q j F)
+    ∙ ap endingIn (honest-verdict Q j F)
+
+pub accepted-by-both : (q : Prime) → Qualifies q → AcceptedByBoth q
+unfolding honestConversation conversationOn conversation
+accepted-by-both q Q j free asked =
+    let sent : Messages (List ℕ) ℕ = mapMessages words wordOf (proof q j) in
+    let o : Openings ℕ = mapOpenings wordOf (trueOpenings q j (proof q j)) in
+    let u : Session = after q unopened (hearingMessages (sizesOf (j .circuit)) (publicWords q j) (challenges j) sent) in
+    let same : after q u (map Ask asked) ≡ u = asking-leaves q u asked in
+    let accepts : askStep q u o .answer ≡ Judged Accept = ap (λ l. getD l 6 Taken) (honest-accepted q Q j free) in
+    (ap (λ u. askStep q u o .answer) same ∙ accepts, ap (λ u. commitStep q u o .answer) same ∙ commit-answer q u o ∙ accepts)

@@ -1,6 +1,7 @@
 -- Conversations that end in a verdict: the verifier hears the words of elements, and gives the verdict on these elements exactly where
 -- nothing refuses a step. Assumes nothing.
 use mathlib.Core.Path.{_≡_, refl, sym, ap, ap₂, _∙_, subst}
+use mathlib.Core.Logic.{inr}
 use mathlib.Core.Bool.{true}
 use mathlib.Core.List.{List, [], _∷_, _++_, map}
 use Prim.Native.Nat.{ℕ, _<_}
@@ -19,12 +20,12 @@ use Rattle.protocol.specs.Index.{Index, mapIndex}
 use Rattle.protocol.specs.Checks.{Transcript, Openings, mapTranscript, mapOpenings, listOpenings, Verdict, verdict}
 use Rattle.protocol.specs.Messages.{Messages, mapMessages, Short}
 use Rattle.protocol.specs.Refusals.{sixSizeTests}
-use Rattle.protocol.specs.Session.{Session, Answer, Taken, Judged, Last, unopened, after, answers, verdictOf}
-use Rattle.protocol.specs.Conversation.{Challenges, mapChallenges, transcriptOf, steps}
+use Rattle.protocol.specs.Session.{Session, Answer, Taken, Judged, unopened, after, answers, commitStep, verdictOf}
+use Rattle.protocol.specs.Conversation.{Challenges, mapChallenges, transcriptOf, hearing, steps, endingIn}
 use Rattle.protocol.proofs.FirstWord.{first-element, first-word}
 use Rattle.protocol.proofs.UnrefusedSteps.{openings-passes}
-use Rattle.protocol.proofs.FollowingSteps.{judged}
-use Rattle.protocol.proofs.TakenSteps.{hearing, heardAll, Fitting, hearing-taken, all-judged, risen-fitting}
+use Rattle.protocol.proofs.AskThenCommit.{ask-leaves, gets-verdict}
+use Rattle.protocol.proofs.TakenSteps.{heardAll, Fitting, hearing-taken, all-judged, risen-fitting}
 
 -- words of elements
 module _ {q : Prime} where
@@ -148,21 +149,20 @@ module _ {q : Prime} (s : Sizes) (x : List (Elem q)) (t : Challenges (Elem q)) (
         ∙ ap (λ x. verdict s x (mapTranscript of heardWords) (mapOpenings of last)) (of-words x)
         ∙ ap₂ (λ t o. verdict s x t o) (transcript-back (transcriptOf t sent)) (openings-back o)
 
-    -- the verifier's seven answers
+    -- the verifier's answers
     abbrev answered : List Answer
     answered = answers q unopened (steps s (words x) (mapChallenges wordOf t) (mapMessages words wordOf sent) last)
 
     module _ (v : Verdict) where
-      pub judged-session : JudgedSession o v → answered ≡ Taken ∷ Taken ∷ Taken ∷ Taken ∷ Taken ∷ Taken ∷ Judged v ∷ []
+      pub judged-session : JudgedSession o v → answered ≡ endingIn v
       judged-session J =
           all-judged q s (words x) heardWords declared (fitting J) last (words-below (listOpenings o))
-          ∙ ap (λ v. Taken ∷ Taken ∷ Taken ∷ Taken ∷ Taken ∷ Taken ∷ Judged v ∷ []) (verdict-back (J .x-length) ∙ J .verdict-is)
+          ∙ ap endingIn (verdict-back (J .x-length) ∙ J .verdict-is)
 
-      pub session-judged : getD answered 6 Taken ≡ Judged v → JudgedSession o v
+      pub session-judged : getD answered 7 Taken ≡ Judged v → JudgedSession o v
       session-judged e =
           let u : Session = after q unopened (hearing s (words x) heardWords declared) in
-          let (free, judgement) = judged q u (Last last) v e in
+          let (free, v-is) = gets-verdict q u last v (inr (ap (λ u. commitStep q u last .answer) (sym (ask-leaves q u last)) ∙ e)) in
           let J = heard-session (openings-passes q u last .0 free .0 .stage-is) in
           let same : u ≡ heardAll s (words x) heardWords = hearing-taken q s (words x) heardWords declared (fitting J) in
-          let v-is : verdictOf q u last ≡ v = cc in
-          subst (λ v. JudgedSession o v) (sym (ap (λ u. verdictOf q u last) same ∙ verdict-back (J .x-length)) ∙ v-is) J
+          subst (λ v. JudgedSession o v) (sym (v-is ∙ ap (λ u. verdictOf q u last) same ∙ verdict-back (J .x-length))) J

@@ -22,6 +22,7 @@ pub mod Sums
 pub mod Witness
 pub mod UnrefusedSteps
 pub mod FollowingSteps
+pub mod AskThenCommit
 pub mod TakenSteps
 pub mod Sessions
 pub mod JudgedSessions

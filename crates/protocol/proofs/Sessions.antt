@@ -21,19 +21,20 @@ use Rattle.protocol.specs.Circuit.{Sizes, largest}
 use Rattle.protocol.specs.Checks.{Openings, listTranscript, listOpenings}
 use Rattle.protocol.specs.Messages.{Messages, Short}
 use Rattle.protocol.specs.Refusals.{Refusal, beginsWithOne, sizeTests, sixSizeTests}
-use Rattle.protocol.specs.Session.{Session, Stepped, Step, Open, Alpha, Eta, Beta, Delta, Gamma, Last, unopened, unless, all}
+use Rattle.protocol.specs.Session.{Session, Stepped, Step, Open, Alpha, Eta, Beta, Delta, Gamma, Ask, Commit, unopened, unless, all}
 use Rattle.protocol.specs.Session.{allBelow, publicFits, transcriptFits, leftBySteps, stepped, after}
 use Rattle.protocol.specs.Session.{openRefusal, alphaRefusal, etaRefusal, betaRefusal, deltaRefusal, gammaRefusal, openingsRefusal}
-use Rattle.protocol.specs.Session.{openStep, alphaStep, etaStep, betaStep, deltaStep, gammaStep, openingsStep}
+use Rattle.protocol.specs.Session.{openStep, alphaStep, etaStep, betaStep, deltaStep, gammaStep, askStep, commitStep}
+use Rattle.protocol.specs.Conversation.{hearing}
 use Rattle.protocol.specs.Verdicts.{VerdictsAllowed, StepsPass, OnlyStepsPass}
 use Rattle.protocol.proofs.RefusalLaws.{and-true, true-all}
 use Rattle.protocol.proofs.FirstWord.{first-element, begins-part}
 use Rattle.protocol.proofs.UnrefusedSteps.{InTurn, in-turn, PublicWords}
 use Rattle.protocol.proofs.UnrefusedSteps.{open-passes, alpha-passes, eta-passes, beta-passes, delta-passes, gamma-passes, openings-passes}
-use Rattle.protocol.proofs.FollowingSteps.{judged}
-use Rattle.protocol.proofs.TakenSteps.{all-below, Heard, heard-below, transcript-fits, public-fits, hearing, Fitting, hearing-taken}
+use Rattle.protocol.proofs.AskThenCommit.{gets-verdict}
+use Rattle.protocol.proofs.TakenSteps.{all-below, Heard, heard-below, transcript-fits, public-fits, Fitting, hearing-taken}
 
--- what the last step's test says of a session
+-- what the openings' test says of a session
 pub record LeftBySteps (q : Prime) (s : Session) : Type 0 where
   pub public-begins : beginsWithOne (s .x) ≡ true
   pub public-below : All (λ w. w < q .p) (take (s .sizes .|X|) (s .x))
@@ -73,7 +74,7 @@ left-public q s x-length sized left =
 
 pub verdicts-allowed : (q : Prime) → VerdictsAllowed q
 verdicts-allowed q s o v x-length e =
-    let (free, answer) = judged q s (Last o) v e in
+    let (free, verdict) = gets-verdict q s o v e in
     let (turn, passed, below) = openings-passes q s o .0 free in
     let left = left-by-steps q s passed in
     let public = left-public q s x-length (turn .sizes-allowed) left in
@@ -88,7 +89,7 @@ verdicts-allowed q s o v x-length e =
       α-outside = left .heard .α-outside;
       β-outside = left .heard .β-outside;
       γ-outside = left .heard .γ-outside;
-      verdict-is = cc;
+      verdict-is = verdict;
     }
 
 -- what steps keep: each part of a session is as its step left it, from that step on
@@ -205,10 +206,14 @@ module _ (q : Prime) where
           γ-heard = λ l. (heard .below, heard .outside);
         })
 
-    -- the last step changes the stage alone
-    kept-last : (o : Openings ℕ) → Kept q (openingsStep q s o .session)
-    unfolding openingsStep
-    kept-last o =
+    -- asking changes nothing, and committing the stage alone
+    kept-ask : (o : Openings ℕ) → Kept q (askStep q s o .session)
+    unfolding askStep
+    kept-ask o = kept-unless (openingsRefusal q s o) s _ K (λ free. K)
+
+    kept-commit : (o : Openings ℕ) → Kept q (commitStep q s o .session)
+    unfolding commitStep
+    kept-commit o =
         kept-unless (openingsRefusal q s o) s _ K (λ free.
         let turn = openings-passes q s o .0 free .0 in
         record {
@@ -227,7 +232,8 @@ module _ (q : Prime) where
   kept-step s (Beta g h β) K = kept-beta s K g h β
   kept-step s (Delta ω g δ) K = kept-delta s K ω g δ
   kept-step s (Gamma h γ) K = kept-gamma s K h γ
-  kept-step s (Last o) K = kept-last s K o
+  kept-step s (Ask o) K = kept-ask s K o
+  kept-step s (Commit o) K = kept-commit s K o
 
   kept-steps : (steps : List Step) (s : Session) → Kept q s → Kept q (after q s steps)
   kept-steps [] s K = K

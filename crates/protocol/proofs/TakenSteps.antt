@@ -1,10 +1,11 @@
 -- The steps of a conversation, in words: nothing refuses those before the openings exactly where sizes are allowed, words are field words,
--- challenges are outside their domains and declared lengths within the table; and then the last answer is the verdict. Assumes nothing.
+-- challenges are outside their domains and declared lengths within the table; and then asking and committing answer the verdict. Assumes
+-- nothing.
 use mathlib.Core.Path.{_≡_, refl, ap, ap₂, _∙_}
 use mathlib.Core.Logic.{_↔_}
 use mathlib.Core.Bool.{Bool, true, not, _&&_}
 use mathlib.Core.List.{List, [], _∷_, _++_, map}
-use mathlib.Core.Option.{none}
+use mathlib.Core.Option.{Option, none}
 use Prim.Native.Nat.{ℕ, zero, suc, _-_, _<_}
 use lib.Dec.{eqb, ltb}
 use lib.ListN.{length, replicate}
@@ -20,9 +21,10 @@ use Rattle.protocol.specs.Three.{A, B, C, listed}
 use Rattle.protocol.specs.Circuit.{Sizes, largest}
 use Rattle.protocol.specs.Checks.{Transcript, Openings, listTranscript, listOpenings}
 use Rattle.protocol.specs.Messages.{Messages, Short}
-use Rattle.protocol.specs.Refusals.{pairs, sixSizeTests}
-use Rattle.protocol.specs.Session.{Session, Step, Open, Alpha, Eta, Beta, Delta, Gamma, Last, Taken, Judged, unopened, all, after, answers}
+use Rattle.protocol.specs.Refusals.{Refusal, pairs, sixSizeTests}
+use Rattle.protocol.specs.Session.{Session, Ask, Commit, unopened, all, after, answers}
 use Rattle.protocol.specs.Session.{allBelow, publicFits, transcriptFits, leftBySteps, openingsRefusal, verdictOf}
+use Rattle.protocol.specs.Conversation.{hearing, endingIn}
 use Rattle.protocol.proofs.RefusalLaws.{all-true, true-all, and-true, words-below, below-words}
 use Rattle.protocol.proofs.FirstWord.{begins-front}
 use Rattle.protocol.proofs.UnrefusedSteps.{InTurn, PublicWords}
@@ -100,17 +102,7 @@ public-fits q s x public =
     (ap (λ l. all (map (λ w. eqb w 0) l)) (drop-at x zeros (s .|X|) (public .x-length))
     ∙ all-true (map (λ w. eqb w 0) zeros) (zeros-pass (maxSize - length x))))
 
--- the six steps before the openings, and the session that they leave where nothing refuses them
-abbrev pub hearing : Sizes → List ℕ → Transcript ℕ → Messages ℕ ℕ → List Step
-hearing s x t declared =
-    Open s x
-    ∷ Alpha (declared .witness) (declared .mask) (declared .rowQuotient) (t .α)
-    ∷ Eta (t .sums) (t .η)
-    ∷ Beta (declared .lineRemainder) (declared .lineQuotient) (t .β)
-    ∷ Delta (t .values) (declared .matrixRemainders) (t .δ)
-    ∷ Gamma (declared .joinedQuotient) (t .γ)
-    ∷ []
-
+-- the session that the six steps before the openings leave where nothing refuses them
 abbrev pub heardAll : Sizes → List ℕ → Transcript ℕ → Session
 heardAll s x t = record { stage = 6; sizes = s; x = x ++ replicate (maxSize - length x) 0; transcript = t }
 
@@ -205,12 +197,12 @@ module _ (q : Prime) (s : Sizes) (x : List ℕ) (t : Transcript ℕ) (declared :
     left = ap₂ _&&_ (public-fits q s x (fits .public)) (transcript-fits q s t .1 (fits .heard))
 
     pub all-judged : (o : Openings ℕ) → All (λ w. w < q .p) (listOpenings o)
-        → answers q unopened (hearing s x t declared ++ (Last o ∷ []))
-        ≡ Taken ∷ Taken ∷ Taken ∷ Taken ∷ Taken ∷ Taken ∷ Judged (verdictOf q (heardAll s x t) o) ∷ []
+        → answers q unopened (hearing s x t declared ++ (Ask o ∷ Commit o ∷ [])) ≡ endingIn (verdictOf q (heardAll s x t) o)
     all-judged o below =
-        all-taken q (hearing s x t declared ++ (Last o ∷ [])) unopened
-        (all-append (λ r. r ≡ none) (refusals q unopened (hearing s x t declared)) (openingsRefusal q (heardAll s x t) o ∷ []) fitting-free
-        (openings-passes q (heardAll s x t) o .1 (turn 6, left, below), tt)) .1
+        let refusal : Option Refusal = openingsRefusal q (heardAll s x t) o in
+        let free : refusal ≡ none = openings-passes q (heardAll s x t) o .1 (turn 6, left, below) in
+        all-taken q (hearing s x t declared ++ (Ask o ∷ Commit o ∷ [])) unopened
+        (all-append (λ r. r ≡ none) (refusals q unopened (hearing s x t declared)) (refusal ∷ refusal ∷ []) fitting-free (free, (free, tt))) .1
 
   -- six steps take the stage to 6 only where nothing refuses one
   pub risen-fitting : after q unopened (hearing s x t declared) .stage ≡ 6 → Fitting q s x t declared

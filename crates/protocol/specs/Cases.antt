@@ -10,10 +10,11 @@ use Rattle.domain.specs.Polynomial.{Poly}
 use Rattle.domain.specs.BabyBear.{babyBear}
 use Rattle.protocol.specs.Three.{Three, listed, mapThree}
 use Rattle.protocol.specs.Circuit.{Entry}
-use Rattle.protocol.specs.Checks.{Openings, Row, Line, Matrix, Verdict, Accept, Fails}
+use Rattle.protocol.specs.Checks.{Openings, Row, Line, Matrix, Accept, Fails}
 use Rattle.protocol.specs.Messages.{Messages}
 use Rattle.protocol.specs.Refusals.{Refusal}
-use Rattle.protocol.specs.Session.{Answer, Taken, Judged}
+use Rattle.protocol.specs.Session.{Answer}
+use Rattle.protocol.specs.Conversation.{endingIn}
 use Rattle.protocol.specs.Job.{Job, jobRefusal, proof, trueOpenings, conversationOn, honestConversation}
 use Rattle.protocol.specs.Computes.{protocol-computes}
 
@@ -80,9 +81,6 @@ misread v =
       matrixRemainders = opened .matrixRemainders;
       index = record { a = record { row = i .a .row; col = i .a .col; rowcol = i .a .rowcol; rowcolval = v }; b = i .b; c = i .c };
     }
-
-abbrev endingIn : Verdict → List Answer
-endingIn v = Taken ∷ Taken ∷ Taken ∷ Taken ∷ Taken ∷ Taken ∷ Judged v ∷ []
 
 pub data Value : Type 0 where
   lists : List (List ℕ) → Value

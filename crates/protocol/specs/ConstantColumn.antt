@@ -17,7 +17,8 @@ use Rattle.protocol.specs.Circuit.{Circuit, Sizes, Satisfied}
 use Rattle.protocol.specs.Checks.{Openings, Verdict}
 use Rattle.protocol.specs.Refusals.{Refusal, first, constantRefusal, assignmentRefusal}
 use Rattle.protocol.specs.Admission.{proverRefusal}
-use Rattle.protocol.specs.Session.{Session, Step, Open, Alpha, Eta, Beta, Delta, Gamma, Last, Judged, Refused, unopened, openRefusal, openStep, openingsStep, stepped, after}
+use Rattle.protocol.specs.Session.{Session, Step, Open, Alpha, Eta, Beta, Delta, Gamma, Ask, Commit, Judged, Refused, unopened, openRefusal, openStep, stepped, after}
+use Rattle.protocol.specs.Verdicts.{GetsVerdict}
 
 -- a step that does not open a session with an x that begins with 1
 abbrev pub OpensWithoutOne : Step → Type 0
@@ -27,7 +28,8 @@ OpensWithoutOne (Eta sums η) = Unit {0}
 OpensWithoutOne (Beta lineRemainder lineQuotient β) = Unit {0}
 OpensWithoutOne (Delta values matrixRemainders δ) = Unit {0}
 OpensWithoutOne (Gamma joinedQuotient γ) = Unit {0}
-OpensWithoutOne (Last o) = Unit {0}
+OpensWithoutOne (Ask o) = Unit {0}
+OpensWithoutOne (Commit o) = Unit {0}
 
 -- for every prime
 pub record ConstantColumn (q : Prime) : Type 0 where
@@ -46,7 +48,7 @@ pub record ConstantColumn (q : Prime) : Type 0 where
       (steps : List Step) → All OpensWithoutOne steps → (step : Step) → OpensWithoutOne step → (v : Verdict)
       → stepped q (after q unopened steps) step .answer ≢ Judged v
   -- and a session, whoever made it, answers a verdict only where its x begins with 1
-  pub verdict-with-one : (s : Session) (o : Openings ℕ) (v : Verdict) → openingsStep q s o .answer ≡ Judged v → getD (s .x) 0 0 ≡ 1
+  pub verdict-with-one : (s : Session) (o : Openings ℕ) (v : Verdict) → GetsVerdict q s o v → getD (s .x) 0 0 ≡ 1
   -- "just before the assignment check": 9 is answered only where z begins with 1, and 13 only where the mask adds to 0
   pub rows-after-constant :
       (c : Circuit) (lists : List Bool) (z : List ℕ) (r : ℕ) (m challenges points : List ℕ) (f : Refusal)

@@ -2,7 +2,7 @@
 -- was written, honest proofs are accepted, and the verdict is what the equations say. Statements only; the proofs are in
 -- proofs/. Assumes nothing.
 use mathlib.Core.Path.{_≡_}
-use mathlib.Core.List.{List, [], _∷_, _++_, map, foldr}
+use mathlib.Core.List.{List, [], _++_, map, foldr}
 use mathlib.Core.Option.{none}
 use Prim.Native.Nat.{ℕ, _-_, _<_}
 use lib.ListN.{length}
@@ -21,7 +21,8 @@ use Rattle.protocol.specs.Checks.{weighted, rowLeft, rowRight, lineLeft,
 use Rattle.protocol.specs.Messages.{Messages, mapMessages, lengths, publicPoly, assignment, image, sums, values}
 use Rattle.protocol.specs.Refusals.{Done, sixSizeTests, sizeRefusal, wordRefusal}
 use Rattle.protocol.specs.Admission.{Admitted}
-use Rattle.protocol.specs.Session.{Answer, Taken, Judged}
+use Rattle.protocol.specs.Session.{Answer}
+use Rattle.protocol.specs.Conversation.{endingIn}
 use Rattle.protocol.specs.Record.{Contents, sectionLengths, bytesOf, wordsIn, writeRecord, readRecord}
 use Rattle.protocol.specs.Calls.{ProverInput, circuitOf, firstRoundCall, secondRoundCall, thirdRoundCall, fourthRoundCall, fifthRoundCall, openingsCall}
 use Rattle.protocol.specs.Job.{Job, jobRefusal, proof, trueOpenings, conversation, honestConversation}
@@ -132,9 +133,9 @@ module _ (q : Prime) where
       (bytes : List ℕ) (found : Contents) → All (λ b. b < 256) bytes → readRecord bytes q ≡ Done found
       → writeRecord (found .sizes) (map wordsIn (found .parts)) ≡ bytes
 
-  -- every step is taken, and the verdict is Accept
+  -- every step is taken, and the verdict is Accept when it is asked for and when the openings are committed
   abbrev pub accepted : List Answer
-  accepted = Taken ∷ Taken ∷ Taken ∷ Taken ∷ Taken ∷ Taken ∷ Judged Accept ∷ []
+  accepted = endingIn Accept
 
   -- "An honest proof of a satisfied circuit is accepted at all allowed challenges": no step is refused
   abbrev pub HonestAccepted : Type 0

@@ -20,7 +20,8 @@ use Rattle.protocol.specs.Checks.{Openings, Verdict}
 use Rattle.protocol.specs.Messages.{denominator}
 use Rattle.protocol.specs.Refusals.{Done, Refused, sixSizeTests, sizeRefusal}
 use Rattle.protocol.specs.Admission.{Admitted}
-use Rattle.protocol.specs.Session.{Session, Judged, openingsStep}
+use Rattle.protocol.specs.Session.{Session}
+use Rattle.protocol.specs.Verdicts.{GetsVerdict}
 use Rattle.protocol.specs.Calls.{inverseCall}
 
 module _ {q : Prime} where
@@ -78,7 +79,7 @@ pub record Divisors (q : Prime) : Type 0 where
       (s : Sizes) → sizeRefusal (sixSizeTests s) ≡ none → (β γ : Elem q) → Outside (s .|C|) β → Outside (largest (s .|K|)) γ → VerifierDivisors s β γ
   -- and so wherever a session answers a verdict, whoever made it
   pub judged :
-      (s : Session) (o : Openings ℕ) (v : Verdict) → length (s .x) ≡ maxSize → openingsStep q s o .answer ≡ Judged v
+      (s : Session) (o : Openings ℕ) (v : Verdict) → length (s .x) ≡ maxSize → GetsVerdict q s o v
       → VerifierDivisors {q = q} (s .sizes) (of (s .transcript .β)) (of (s .transcript .γ))
   pub prover : (c : Circuit) → Admitted q c → (α β : Elem q) → Outside (c .|R|) α → Outside (c .|C|) β → ProverDivisors c α β
   pub indexer : (c : Circuit) → Admitted q c → IndexDivisors q c

@@ -17,7 +17,7 @@ use Rattle.protocol.specs.Checks.{Transcript, Openings, mapOpenings, Ver
 use Rattle.protocol.specs.Messages.{Messages, mapMessages, Short, assignment, sums, values, openings}
 use Rattle.protocol.specs.Refusals.{Refusal}
 use Rattle.protocol.specs.Admission.{Admitted}
-use Rattle.protocol.specs.Session.{Answer, Taken, Judged, Refused, unopened, answers}
+use Rattle.protocol.specs.Session.{Answer, Taken, Judged, Refused, outOfTurn, unopened, answers}
 use Rattle.protocol.specs.Conversation.{Challenges, mapChallenges, transcriptOf, steps}
 use Rattle.protocol.specs.Demand3.{LineClaim, SomePasses}
 
@@ -65,7 +65,8 @@ module _ {q : Prime} (c : Circuit) where
       abbrev pub opened : Openings (Elem q)
       opened = openings (messagesOf P t) (each (index c)) (t .α) (t .β) (t .γ)
 
-      -- "Let a session be opened with a circuit's own sizes and x": the verifier's answer to step i of the seven, the opening being step 0
+      -- "Let a session be opened with a circuit's own sizes and x": the verifier's answer to step i, the opening being step 0,
+      -- asking step 6 and committing step 7
       abbrev pub answer : ℕ → Answer
       answer i =
           getD
@@ -75,7 +76,7 @@ module _ {q : Prime} (c : Circuit) where
 
       -- the tuples "that end in Accept"
       abbrev pub EndsInAccept : Type 0
-      EndsInAccept = answer 6 ≡ Judged Accept
+      EndsInAccept = answer 7 ≡ Judged Accept
 
       abbrev pub RefusedAt : ℕ → Type 0
       RefusedAt i = (r : Refusal) × (answer i ≡ Refused r)
@@ -171,14 +172,15 @@ pub record FalseProofs (q : Prime) : Type 0 where
   -- these get a verdict where x begins with 1 and the messages are "within the lengths"
   pub allowed-judged :
       (c : Circuit) → Admitted q c → (x : List (Elem q)) → length x ≡ c .|X| → BeginsWithOne x → (P : Strategy q) (t : Challenges (Elem q))
-      → Short (sizesOf c) (mapMessages length (λ e. 1) (messagesOf P t)) → Allowed c t → (v : Verdict) × (answer c x P t 6 ≡ Judged v)
-  -- the others never do: the step that hears a forbidden challenge is refused, and so the last one is out of turn
+      → Short (sizesOf c) (mapMessages length (λ e. 1) (messagesOf P t)) → Allowed c t
+      → (v : Verdict) × (answer c x P t 6 ≡ Judged v) × (answer c x P t 7 ≡ Judged v)
+  -- the others never do: the step that hears a forbidden challenge is refused, and so asking and committing are out of turn
   pub forbidden-refused :
       (c : Circuit) (x : List (Elem q)) (P : Strategy q) (t : Challenges (Elem q))
       → (¬ Outside (c .|R|) (t .α) → RefusedAt c x P t 1)
       × (¬ Outside (c .|C|) (t .β) → RefusedAt c x P t 3)
       × (¬ Outside (largest (sizesOf c .|K|)) (t .γ) → RefusedAt c x P t 5)
-      × (¬ Allowed c t → answer c x P t 6 ≡ Refused (record { number = 1; position = 0 }))
+      × (¬ Allowed c t → (answer c x P t 6 ≡ outOfTurn) × (answer c x P t 7 ≡ outOfTurn))
   -- whatever the prover does, where no witness satisfies the circuit with x
   pub without-witness : (c : Circuit) → Admitted q c → (x : List (Elem q)) → Unsatisfiable c x → (P : Strategy q) → FewAccepted q c x P
   -- `oneIn` is the largest k with k times the sum of the five counts at most N, and is at most p

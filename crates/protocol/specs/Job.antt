@@ -57,7 +57,7 @@ module _ (q : Prime) (j : Job) where
   unfoldable pub publicWords : List ℕ
   publicWords = words (publicPart {q = q} (j .circuit) (map of (j .z)))
 
-  -- the verifier's seven answers to messages in words, their lengths and openings
+  -- the verifier's answers to messages in words, their lengths and openings
   unfoldable pub conversation : Messages (List ℕ) ℕ → Openings ℕ → List Answer
   conversation sent o =
       answers q unopened (steps (sizesOf (j .circuit)) publicWords (challenges j) sent o)

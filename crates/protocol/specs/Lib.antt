@@ -25,3 +25,4 @@ pub mod Blinding
 pub mod EvaluationInParts
 pub mod FastInterpolation
 pub mod FalseProofs
+pub mod AskThenCommit

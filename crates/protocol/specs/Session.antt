@@ -1,5 +1,6 @@
--- The verifier's session: seven steps (document 01, "Session and verdict"). Words at the border are numbers; every definition is
--- total, for sessions that no step made too. Assumes nothing.
+-- The verifier's session: its steps (document 01, "Session and verdict"), of which the last splits into asking for the verdict and
+-- committing (document 02, request 9). Words at the border are numbers; every definition is total, for sessions that no step made too.
+-- Assumes nothing.
 use mathlib.Core.Bool.{Bool, true, not, _&&_}
 use mathlib.Core.List.{List, [], _∷_, _++_, map}
 use mathlib.Core.Option.{Option, none, some}
@@ -16,7 +17,8 @@ use Rattle.protocol.specs.Checks.{Transcript, Openings, mapTranscript, m
 use Rattle.protocol.specs.Messages.{Messages, lengths}
 use Rattle.protocol.specs.Refusals.{Refusal, first, pairs, sixSizeTests, beginsWithOne, turnRefusal, sizeRefusal, listRefusal, wordRefusal, constantRefusal, challengeRefusal, lengthRefusal}
 
--- stage: how many of the seven steps were taken; x: the public words, and zeros after them up to 1,024 words
+-- stage: how many steps were taken, asking not counted, so 7 after the commit; x: the public words, and zeros after them up to 1,024
+-- words
 pub record Session : Type 0 where
   pub stage : ℕ
   pub sizes : Sizes
@@ -27,6 +29,10 @@ pub data Answer : Type 0 where
   Taken : Answer
   Judged : Verdict → Answer
   Refused : Refusal → Answer
+
+-- the answer to a step that is not in turn
+abbrev pub outOfTurn : Answer
+outOfTurn = Refused (record { number = 1; position = 0 })
 
 -- "Each step takes the session and gives back the next one"
 pub record Stepped : Type 0 where
@@ -138,7 +144,7 @@ module _ (q : Prime) (s : Session) where
   abbrev t : Transcript ℕ
   t = s .transcript
 
-  -- the verdict is given only on what steps leave
+  -- what refuses openings, asked about or committed: the verdict is given only on what steps leave
   unfoldable pub openingsRefusal : Openings ℕ → Option Refusal
   openingsRefusal o = first (turnRefusal (inTurn 6 (s .stage) (s .sizes) && leftBySteps q s) ∷ wordRefusal q (listOpenings o) ∷ [])
 
@@ -175,9 +181,13 @@ module _ (q : Prime) (s : Session) where
   unfoldable pub verdictOf : Openings ℕ → Verdict
   verdictOf o = verdict (s .sizes) (map (of {q = q}) (take (s .sizes .|X|) (s .x))) (mapTranscript of t) (mapOpenings of o)
 
-  -- "openings", and the verdict; "After the verdict every step is out of turn"
-  unfoldable pub openingsStep : Openings ℕ → Stepped
-  openingsStep o = unless (openingsRefusal o) s (onward s t (Judged (verdictOf o)))
+  -- document 02, request 9: "asking takes the openings and answers the verdict with the session unchanged"
+  unfoldable pub askStep : Openings ℕ → Stepped
+  askStep o = unless (openingsRefusal o) s (record { session = s; answer = Judged (verdictOf o) })
+
+  -- and: "Committing takes openings and ends the session with the verdict that asking would have given for them"
+  unfoldable pub commitStep : Openings ℕ → Stepped
+  commitStep o = unless (openingsRefusal o) s (onward s t (Judged (verdictOf o)))
 
 -- a step with its inputs, and the session after steps that follow each other, refused ones among them
 pub data Step : Type 0 where
@@ -187,7 +197,8 @@ pub data Step : Type 0 where
   Beta : ℕ → ℕ → ℕ → Step
   Delta : Three ℕ → Three ℕ → Three ℕ → Step
   Gamma : ℕ → ℕ → Step
-  Last : Openings ℕ → Step
+  Ask : Openings ℕ → Step
+  Commit : Openings ℕ → Step
 
 module _ (q : Prime) where
   abbrev pub stepped : Session → Step → Stepped
@@ -197,7 +208,8 @@ module _ (q : Prime) where
   stepped s (Beta lineRemainder lineQuotient β) = betaStep q s lineRemainder lineQuotient β
   stepped s (Delta values matrixRemainders δ) = deltaStep q s values matrixRemainders δ
   stepped s (Gamma joinedQuotient γ) = gammaStep q s joinedQuotient γ
-  stepped s (Last o) = openingsStep q s o
+  stepped s (Ask o) = askStep q s o
+  stepped s (Commit o) = commitStep q s o
 
   abbrev pub after : Session → List Step → Session
   after s [] = s

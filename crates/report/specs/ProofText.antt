@@ -43,7 +43,7 @@ verdictName (Fails Row) = ascii "fails row"
 verdictName (Fails Line) = ascii "fails line"
 verdictName (Fails Matrix) = ascii "fails matrix"
 
--- the last line: "verdict" and the session's last answer, or its refusal
+-- the last line: "verdict" and the answer to the commit, or its refusal
 unfoldable pub answerText : Answer → List ℕ
 answerText Taken = []
 answerText (Judged v) = ascii "verdict " ++ (verdictName v ++ (newline ∷ []))
@@ -57,7 +57,7 @@ unlessRefused (some r) text = refusedText r
 module _ (q : Prime) where
   -- the eleven sections and the verdict
   unfoldable pub proofText : Job → List ℕ
-  proofText j = lines sectionNames (map words (sections (proof q j))) ++ answerText (getD (honestConversation q j) 6 Taken)
+  proofText j = lines sectionNames (map words (sections (proof q j))) ++ answerText (getD (honestConversation q j) 7 Taken)
 
   -- what is printed for a job: its refusal, or its proof and verdict
   abbrev pub outcomeText : Job → List ℕ

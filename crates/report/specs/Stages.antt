@@ -13,7 +13,7 @@ use Rattle.protocol.specs.Circuit.{Circuit, Sizes, sizesOf}
 use Rattle.protocol.specs.Checks.{Openings}
 use Rattle.protocol.specs.Messages.{Messages, lengths, rowQuotient, sums, values, lineRemainder, lineQuotient, matrixRemainder, joinedQuotient}
 use Rattle.protocol.specs.Refusals.{Outcome, Done, Refused}
-use Rattle.protocol.specs.Session.{Answer, Session, Stepped, unopened, openStep, alphaStep, etaStep, betaStep, deltaStep, gammaStep, openingsStep}
+use Rattle.protocol.specs.Session.{Answer, Session, Stepped, unopened, openStep, alphaStep, etaStep, betaStep, deltaStep, gammaStep, askStep, commitStep}
 use Rattle.protocol.specs.Calls.{ProverInput, roundRefusal}
 use Rattle.protocol.specs.Job.{Job, challengeWords, challengePoints}
 use Rattle.protocol.specs.Demand2.{inputJob}
@@ -108,11 +108,13 @@ afterValues before l β ω δ =
     let afterβ : Stepped = betaStep babyBear before (l .lineRemainder) (l .lineQuotient) β in
     deltaStep babyBear (afterβ .session) ω (l .matrixRemainders) δ .session
 
--- the answer to the openings
+-- the answer to the openings, which are asked about and then committed
 unfoldable pub answerAfter : Session → Messages ℕ ℕ → ℕ → Openings ℕ → Answer
-answerAfter before l γ o = openingsStep babyBear (gammaStep babyBear before (l .joinedQuotient) γ .session) o .answer
+answerAfter before l γ o =
+    let afterγ : Stepped = gammaStep babyBear before (l .joinedQuotient) γ in
+    commitStep babyBear (askStep babyBear (afterγ .session) o .session) o .answer
 
--- the last of the seven answers
+-- the last of the answers
 abbrev pub lastAnswer : Sizes → Messages ℕ ℕ → List ℕ → Challenges → Three ℕ → Three ℕ → Openings ℕ → Answer
 lastAnswer s l x d σ ω o =
     answerAfter (afterValues (afterSums s l x (d .alpha) σ (three (d .eta))) l (d .beta) ω (three (d .delta))) l (d .gamma) o

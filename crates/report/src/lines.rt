@@ -6,7 +6,7 @@ ghost use lib.ListN.{length};
 ghost use Rattle.protocol.specs.Three.{listed};
 ghost use Rattle.shared.specs.Meanings.{three, verdictMeaning};
 ghost use Rattle.protocol.specs.Session.{Judged};
-ghost use Rattle.verifier.specs.Session.{lastMeaning};
+ghost use Rattle.verifier.specs.Session.{openingsAnswerMeaning};
 ghost use Rattle.text.specs.Written.{Written};
 ghost use Rattle.text.specs.Decimal.{decimal};
 ghost use Rattle.report.specs.ProofText.{line, refusedText, answerText};
@@ -17,7 +17,7 @@ use shared::Verdict;
 use text::put_byte;
 use text::put_bytes;
 use text::put_decimal;
-use varuna::session::LastAnswer;
+use varuna::session::OpeningsAnswer;
 
 pub fn wide(w: u32) -> usize
     ensures { λ r. ⌜ (r ≡ w) × (r < 2 ^ 32) ⌝ }
@@ -93,13 +93,13 @@ fn put_verdict(verdict: Verdict, out: &mut [u8], at: usize) -> usize
     }
 }
 
-// The last line: the verdict, or the refusal of the last step.
-pub fn put_answer(answer: LastAnswer, out: &mut [u8], at: usize) -> usize
+// The last line: the verdict, or the refusal of the openings.
+pub fn put_answer(answer: OpeningsAnswer, out: &mut [u8], at: usize) -> usize
     requires { ⌜ at + 40 ≤ length (now out) ⌝ }
-    ensures { λ r. ⌜ Printed (now (out .entry)) at (answerText (lastMeaning answer)) 40 r (now (out .exit)) ⌝ }
+    ensures { λ r. ⌜ Printed (now (out .entry)) at (answerText (openingsAnswerMeaning answer)) 40 r (now (out .exit)) ⌝ }
 {
     match answer {
-        LastAnswer::Judged(verdict) => put_verdict(verdict, out, at),
-        LastAnswer::Refused(number, position) => put_refused(number, position, out, at),
+        OpeningsAnswer::Judged(verdict) => put_verdict(verdict, out, at),
+        OpeningsAnswer::Refused(number, position) => put_refused(number, position, out, at),
     }
 }

@@ -59,14 +59,14 @@ module _ {S : Type 0} where
   fillsThree (Done result) before = filling (Done (result .0)) (result .1)
   fillsThree (Refused r) before = filling (Refused r) before
 
--- the openings of the index polynomials in order, and as the session's last step takes them
+-- the openings of the index polynomials in order, and as the session takes them
 abbrev pub indexesList : IndexesOpened → List ℕ
 indexesList i = indexList (i .a) ++ (indexList (i .b) ++ indexList (i .c))
 
 abbrev pub indexArrays : IndexesOpened → List (List ℕ)
 indexArrays i = indexList (i .a) ∷ indexList (i .b) ∷ indexList (i .c) ∷ []
 
--- the 21 openings that a call answers are those that the last step hears, when it is given the answer
+-- the 21 openings that a call answers are those that the session hears, when it is given the answer
 pub handed-over : (o : Opened) (i : IndexesOpened) → listOpenings (meanings.openings o (indexArrays i)) ≡ messageList o ++ indexesList i
 handed-over o i = refl
 

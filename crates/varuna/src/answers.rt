@@ -44,7 +44,7 @@ pub struct IndexesOpened {
 }
 
 impl IndexesOpened {
-    // row, col, rowcol, rowcolval of A, then B, then C, as the session's last step takes them.
+    // row, col, rowcol, rowcolval of A, then B, then C, as the session takes them.
     pub fn arrays(self) -> [[u32; 4]; 3]
         ensures { λ r. ⌜ r ≡ indexArrays self ⌝ }
     {

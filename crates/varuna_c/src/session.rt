@@ -1,10 +1,11 @@
 // The verifier's session, kept by the caller as 1,046 words.
 ghost use mathlib.Core.Path.{_≡_};
 ghost use Rattle.domain.specs.BabyBear.{babyBear};
-ghost use Rattle.protocol.specs.Session.{unopened, openStep, alphaStep, etaStep, betaStep, deltaStep, gammaStep, openingsStep};
+ghost use Rattle.protocol.specs.Session.{unopened, openStep, alphaStep, etaStep, betaStep, deltaStep, gammaStep, askStep, commitStep};
 ghost use Rattle.verifier.specs.Session.{threeAt, sessionOf, sessionWords};
-ghost use Rattle.c_numbers.specs.Answers.{told, stepAnswered, lastAnswered};
+ghost use Rattle.c_numbers.specs.Answers.{told, stepAnswered, verdictAnswered, commitAnswered};
 ghost use Rattle.c_numbers.specs.Inputs.{sizesIn, openingsIn};
+use c_numbers::answers::give_commit;
 use c_numbers::answers::give_step;
 use c_numbers::answers::give_verdict;
 use c_numbers::inputs::indexes_in;
@@ -128,21 +129,37 @@ pub extern "C" fn varuna_session_gamma(
     give_step(s.gamma(quotient, gamma), session, position)
 }
 
-// The 21 openings, and the verdict, which is 0 where the step is refused. Refusals 1, 6.
+// Asks for the verdict on the 21 openings, which is 0 where they are refused, and leaves the session. Refusals 1, 6.
 #[no_mangle]
-pub extern "C" fn varuna_session_openings(
+pub extern "C" fn varuna_session_ask(
+    session: &[u32; SESSION_WORDS],
+    openings: &[u32; 21],
+    verdict: &mut u32,
+    position: &mut usize,
+) -> u32
+    ensures { λ number. ⌜ told number (now (position .exit)) (now (verdict .exit))
+        ≡ verdictAnswered (askStep babyBear (sessionOf (now (session .entry))) (openingsIn (now (openings .entry))) .answer) ⌝ }
+{
+    let s = Session::from_words(session);
+    let answer = s.ask(messages_in(openings), indexes_in(openings)).answer;
+    give_verdict(answer, verdict, position)
+}
+
+// Commits the 21 openings: the verdict that asking gives for them, and the session closed. Refusals 1, 6.
+#[no_mangle]
+pub extern "C" fn varuna_session_commit(
     session: &mut [u32; SESSION_WORDS],
     openings: &[u32; 21],
     verdict: &mut u32,
     position: &mut usize,
 ) -> u32
     ensures { λ number. ⌜ told number (now (position .exit)) (now (session .exit), now (verdict .exit))
-        ≡ lastAnswered (openingsStep babyBear (sessionOf (now (session .entry))) (openingsIn (now (openings .entry))))
+        ≡ commitAnswered (commitStep babyBear (sessionOf (now (session .entry))) (openingsIn (now (openings .entry))))
         (now (session .entry)) ⌝ }
 {
     let s = Session::from_words(session);
-    give_verdict(
-        s.openings(messages_in(openings), indexes_in(openings)),
+    give_commit(
+        s.commit(messages_in(openings), indexes_in(openings)),
         session,
         verdict,
         position,

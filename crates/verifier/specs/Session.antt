@@ -11,10 +11,10 @@ use Rattle.shared.specs.Meanings.{sizes, transcript, verdictMeaning}
 use Rattle.verifier.specs.declared.session.Session.{Session}
 use Rattle.verifier.specs.declared.session.Answer as declared-answer
 use Rattle.verifier.specs.declared.session.Answer.the-variants as answer
-use Rattle.verifier.specs.declared.session.LastAnswer.{LastAnswer}
-use Rattle.verifier.specs.declared.session.LastAnswer.the-variants as last
+use Rattle.verifier.specs.declared.session.OpeningsAnswer.{OpeningsAnswer}
+use Rattle.verifier.specs.declared.session.OpeningsAnswer.the-variants as openings-answer
 use Rattle.verifier.specs.declared.session.Stepped.{Stepped}
-use Rattle.verifier.specs.declared.session.Finished.{Finished}
+use Rattle.verifier.specs.declared.session.OpeningsStepped.{OpeningsStepped}
 
 abbrev pub sessionMeaning : Session → steps.Session
 sessionMeaning s = record { stage = s .stage; sizes = sizes (s .sizes); x = s .x; transcript = transcript (s .transcript) }
@@ -23,15 +23,15 @@ abbrev pub answerMeaning : declared-answer.Answer → steps.Answer
 answerMeaning answer.Taken = Taken
 answerMeaning (answer.Refused number position) = Refused (record { number = number; position = position })
 
-abbrev pub lastMeaning : LastAnswer → steps.Answer
-lastMeaning (last.Judged v) = Judged (verdictMeaning v)
-lastMeaning (last.Refused number position) = Refused (record { number = number; position = position })
+abbrev pub openingsAnswerMeaning : OpeningsAnswer → steps.Answer
+openingsAnswerMeaning (openings-answer.Judged v) = Judged (verdictMeaning v)
+openingsAnswerMeaning (openings-answer.Refused number position) = Refused (record { number = number; position = position })
 
 abbrev pub steppedMeaning : Stepped → steps.Stepped
 steppedMeaning r = record { session = sessionMeaning (r .session); answer = answerMeaning (r .answer) }
 
-abbrev pub finishedMeaning : Finished → steps.Stepped
-finishedMeaning r = record { session = sessionMeaning (r .session); answer = lastMeaning (r .answer) }
+abbrev pub openingsSteppedMeaning : OpeningsStepped → steps.Stepped
+openingsSteppedMeaning r = record { session = sessionMeaning (r .session); answer = openingsAnswerMeaning (r .answer) }
 
 -- A session as 1,046 words: the stage and the six sizes, the 1,024 words of x, and the transcript.
 unfoldable pub openingWords : steps.Session → List ℕ

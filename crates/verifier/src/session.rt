@@ -1,5 +1,6 @@
-// The verifier's session. Each of the seven steps takes the session and gives back the next one with its answer, or the same one where
-// the step is refused. After the verdict every step but opening is out of turn.
+// The verifier's session. Each step takes the session and gives back the next one with its answer, or the same one where the step is
+// refused. The openings may be asked about as often as wished, which leaves the session as it is; committing them closes it, and then
+// every step but opening is out of turn.
 ghost use mathlib.Core.Path.{_≡_};
 ghost use mathlib.Core.List.{_++_};
 ghost use Prim.Native.Nat.{suc, _+_, _-_, _≤_};
@@ -7,11 +8,11 @@ ghost use lib.ListN.{length, replicate};
 ghost use lib.Seq.{paste};
 ghost use Rattle.domain.specs.Size.{maxSize};
 ghost use Rattle.domain.specs.BabyBear.{babyBear};
-ghost use Rattle.protocol.specs.Session.{unopened, blank, onward, openStep, alphaStep, etaStep, betaStep, deltaStep, gammaStep, openingsStep};
+ghost use Rattle.protocol.specs.Session.{unopened, blank, onward, openStep, alphaStep, etaStep, betaStep, deltaStep, gammaStep, askStep, commitStep};
 ghost use Rattle.protocol.specs.Session as steps;
 ghost use Rattle.shared.specs.Meanings.{three, sizes, transcript};
 ghost use Rattle.shared.specs.Meanings as meanings;
-ghost use Rattle.verifier.specs.Session.{sessionMeaning, steppedMeaning, finishedMeaning, sessionOf, sessionWords, transcriptOf, threeAt};
+ghost use Rattle.verifier.specs.Session.{sessionMeaning, steppedMeaning, openingsAnswerMeaning, openingsSteppedMeaning, sessionOf, sessionWords, transcriptOf, threeAt};
 use field::MODULE_PRIME;
 use shared::Fault;
 use shared::Opened;
@@ -35,7 +36,8 @@ pub enum Answer {
     Refused(u32, usize),
 }
 
-pub enum LastAnswer {
+// The answer to openings, asked about or committed.
+pub enum OpeningsAnswer {
     Judged(Verdict),
     Refused(u32, usize),
 }
@@ -45,9 +47,9 @@ pub struct Stepped {
     pub answer: Answer,
 }
 
-pub struct Finished {
+pub struct OpeningsStepped {
     pub session: Session,
-    pub answer: LastAnswer,
+    pub answer: OpeningsAnswer,
 }
 
 // A session as words: the stage, the six sizes, the words of x, and the transcript.
@@ -316,9 +318,25 @@ impl Session {
         }
     }
 
-    // The 21 openings, and the verdict; after it every step but opening is out of turn.
-    pub fn openings(self, o: Opened, index: [[u32; 4]; 3]) -> Finished
-        ensures { λ r. ⌜ finishedMeaning r ≡ openingsStep babyBear (sessionMeaning self) (meanings.openings o index) ⌝ }
+    // The session at a stage, and the answer to openings.
+    fn answered(self, stage: u32, answer: OpeningsAnswer) -> OpeningsStepped
+        ensures { λ r. ⌜ openingsSteppedMeaning r
+            ≡ record {
+              session = record { stage = stage; sizes = sizes (self .sizes); x = self .x; transcript = transcript (self .transcript) };
+              answer = openingsAnswerMeaning answer;
+            } ⌝ }
+    {
+        let mut after = self;
+        after.stage = stage;
+        OpeningsStepped {
+            session: after,
+            answer: answer,
+        }
+    }
+
+    // The answer to the 21 openings.
+    fn judgement(self, o: Opened, index: [[u32; 4]; 3]) -> OpeningsAnswer
+        ensures { λ r. ⌜ openingsAnswerMeaning r ≡ askStep babyBear (sessionMeaning self) (meanings.openings o index) .answer ⌝ }
     {
         let x = self.x;
         match refusals::judge_openings(
@@ -330,10 +348,7 @@ impl Session {
             o,
             index,
         ) {
-            Fault::Refused(number, position) => Finished {
-                session: self,
-                answer: LastAnswer::Refused(number, position),
-            },
+            Fault::Refused(number, position) => OpeningsAnswer::Refused(number, position),
             Fault::Fine => {
                 let n = self.sizes.x as usize;
                 let verdict = verdict::verdict(
@@ -344,13 +359,26 @@ impl Session {
                     o,
                     index,
                 );
-                let mut closed = self;
-                closed.stage = 7;
-                Finished {
-                    session: closed,
-                    answer: LastAnswer::Judged(verdict),
-                }
+                OpeningsAnswer::Judged(verdict)
             }
+        }
+    }
+
+    // Asks for the verdict on the 21 openings. Refusals: 1, then 6.
+    pub fn ask(self, o: Opened, index: [[u32; 4]; 3]) -> OpeningsStepped
+        ensures { λ r. ⌜ openingsSteppedMeaning r ≡ askStep babyBear (sessionMeaning self) (meanings.openings o index) ⌝ }
+    {
+        self.answered(self.stage, self.judgement(o, index))
+    }
+
+    // Commits the 21 openings: the answer is the one that asking gives for them, and a verdict closes the session. Refusals: 1, then 6.
+    pub fn commit(self, o: Opened, index: [[u32; 4]; 3]) -> OpeningsStepped
+        ensures { λ r. ⌜ openingsSteppedMeaning r ≡ commitStep babyBear (sessionMeaning self) (meanings.openings o index) ⌝ }
+    {
+        let answer = self.judgement(o, index);
+        match answer {
+            OpeningsAnswer::Judged(_) => self.answered(7, answer),
+            OpeningsAnswer::Refused(_, _) => self.answered(self.stage, answer),
         }
     }
 }

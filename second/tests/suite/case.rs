@@ -52,6 +52,21 @@ pub fn lend<const N: usize, Answer>(
     answer.map(|answer| (lent, answer))
 }
 
+/// The answer to openings, which is the same for asking and for committing. Asking must leave every word, a commit every word but
+/// the stage, which is 7 after a verdict.
+pub fn judged(session: &Session, openings: [u32; 21]) -> Result<Verdict, Refusal> {
+    let mut words = session.words();
+    let asked = session.ask(openings);
+    assert!(session.words() == words, "asking has changed the session");
+    let (next, committed) = session.clone().commit(openings);
+    assert_eq!(committed, asked, "the answer to committing, then to asking");
+    if committed.is_ok() {
+        words[0] = 7;
+    }
+    assert!(next.words() == words, "a commit has left other words");
+    asked
+}
+
 impl Case {
     pub fn lists(&self) -> [&[u32]; 3] {
         self.entries.each_ref().map(Vec::as_slice)
@@ -174,7 +189,7 @@ impl Case {
     }
 
     pub fn verdict(&self, proof: &Proof) -> Result<Verdict, Refusal> {
-        self.session(proof)?.openings(proof.openings).1
+        judged(&self.session(proof)?, proof.openings)
     }
 
     pub fn record(&self, proof: &Proof) -> Vec<u8> {

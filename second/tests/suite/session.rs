@@ -1,7 +1,7 @@
-//! The verifier session: turns, and the refusals of each step at their boundaries.
+//! The verifier session: turns, the refusals of each step at their boundaries, and what asking and committing do.
 
-use crate::case::{refusal, square};
-use second::{Refusal, Session, Verdict};
+use crate::case::{judged, refusal, square};
+use second::{Check, Refusal, Session, Verdict};
 
 const P: u32 = second::MODULUS;
 const SIZES: [u32; 6] = [4, 8, 2, 1, 2, 4];
@@ -17,7 +17,7 @@ fn refused<Answer>(
     refusal(answer)
 }
 
-/// The sessions of a good run with the sizes above, after 1 to 7 steps.
+/// The sessions of a good run with the sizes above, after 1 to 7 steps; asking is none of them.
 fn run() -> Vec<Session> {
     run_from(second::open(SIZES, &[1, 2]).unwrap())
 }
@@ -34,7 +34,7 @@ fn run_from(first: Session) -> Vec<Session> {
     take(&|session| session.beta([7, 8], 3).0);
     take(&|session| session.delta([P - 1; 3], [0, 1, 3], [P - 1; 3]).0);
     take(&|session| session.gamma(3, 3).0);
-    take(&|session| session.openings([P - 1; 21]).0);
+    take(&|session| session.commit([P - 1; 21]).0);
     sessions
 }
 
@@ -47,9 +47,10 @@ fn turns() {
             refused(session, |session| session.beta([0; 2], 0)),
             refused(session, |session| session.delta([0; 3], [0; 3], [0; 3])),
             refused(session, |session| session.gamma(0, 0)),
-            refused(session, |session| session.openings([0; 21])),
+            refusal(session.ask([0; 21])),
+            refused(session, |session| session.commit([0; 21])),
         ];
-        let expected = [0, 1, 2, 3, 4, 5].map(|step| (step != turn).then_some((1, 0)));
+        let expected = [0, 1, 2, 3, 4, 5, 5].map(|step| (step != turn).then_some((1, 0)));
         assert_eq!(refusals, expected);
     }
 }
@@ -63,7 +64,10 @@ fn turn_comes_first() {
     assert_eq!(refused(opened, |session| session.beta([u32::MAX; 2], P)), Some((1, 0)));
     assert_eq!(refused(opened, |session| session.delta([P; 3], [9; 3], [P; 3])), Some((1, 0)));
     assert_eq!(refused(opened, |session| session.gamma(u32::MAX, P)), Some((1, 0)));
-    assert_eq!(refused(opened, |session| session.openings([P; 21])), Some((1, 0)));
+    for session in [opened, ended] {
+        assert_eq!(refusal(session.ask([P; 21])), Some((1, 0)));
+        assert_eq!(refused(session, |session| session.commit([P; 21])), Some((1, 0)));
+    }
 }
 
 #[test]
@@ -122,7 +126,7 @@ fn eta_and_openings() {
     }
     for bad in 0..21 {
         let openings = std::array::from_fn(|place| if place >= bad { P } else { 0 });
-        assert_eq!(refused(&sessions[5], |session| session.openings(openings)), Some((6, bad)));
+        assert_eq!(refusal(judged(&sessions[5], openings)), Some((6, bad)));
     }
 }
 
@@ -172,18 +176,64 @@ fn gamma() {
     assert_eq!(gamma(0, second::power(31, (P - 1) / 8).unwrap()), None);
 }
 
-#[test]
-fn refused_step_may_be_tried_again() {
+/// Openings, and what a session answers to them.
+type Answered = ([u32; 21], Result<Verdict, Refusal>);
+
+/// The square case's session before its openings, with the true ones, some that fail each check, and some that are refused.
+fn square_openings() -> (Session, [Answered; 5]) {
     let case = square();
     let proof = case.proof().unwrap();
-    let session = case.session(&proof).unwrap();
-    let mut bad = proof.openings;
-    bad[20] = P;
-    let (session, answer) = session.openings(bad);
-    assert_eq!(refusal(answer), Some((6, 20)));
-    let (session, answer) = session.openings(proof.openings);
-    assert_eq!(answer, Ok(Verdict::Accept));
-    assert_eq!(refusal(session.openings(proof.openings).1), Some((1, 0)));
+    let with = |place: usize, word: u32| {
+        let mut openings = proof.openings;
+        openings[place] = word;
+        openings
+    };
+    let openings = [
+        (proof.openings, Ok(Verdict::Accept)),
+        (with(4, 1), Ok(Verdict::Fails(Check::Row))),
+        (with(1, 1), Ok(Verdict::Fails(Check::Line))),
+        (with(5, 1), Ok(Verdict::Fails(Check::Matrix))),
+        (with(20, P), Err(Refusal { number: 6, position: 20 })),
+    ];
+    (case.session(&proof).unwrap(), openings)
+}
+
+/// Whatever is asked, and however often, leaves every word, and each answer is that to its own openings.
+#[test]
+fn asking_leaves_the_session() {
+    let (session, openings) = square_openings();
+    let words = session.words();
+    for (one, one_answer) in openings {
+        for (other, other_answer) in openings {
+            let answers = [one, other, other, one].map(|openings| session.ask(openings));
+            assert_eq!(answers, [one_answer, other_answer, other_answer, one_answer]);
+            assert!(session.words() == words, "asking has changed the session");
+        }
+    }
+}
+
+/// A commit answers to its own openings, whatever was asked before it, and where nothing was.
+#[test]
+fn commit_answers_to_its_own_openings() {
+    let (session, openings) = square_openings();
+    for (committed, answer) in openings {
+        assert_eq!(session.clone().commit(committed).1, answer);
+        for (asked, asked_answer) in openings {
+            let session = session.clone();
+            assert_eq!(session.ask(asked), asked_answer);
+            assert_eq!(session.commit(committed).1, answer);
+        }
+    }
+}
+
+#[test]
+fn refused_commit_may_be_tried_again() {
+    let (session, [(good, good_answer), .., (bad, bad_answer)]) = square_openings();
+    let (session, answer) = session.commit(bad);
+    assert_eq!(answer, bad_answer);
+    let (session, answer) = session.commit(good);
+    assert_eq!(answer, good_answer);
+    assert_eq!(refusal(judged(&session, good)), Some((1, 0)));
 }
 
 #[test]
@@ -200,13 +250,16 @@ fn words() {
     }
 }
 
-/// The last step's refusal of a session that could be given a verdict, but for one word.
+/// The refusal of openings by a session that could be given a verdict, but for one word. Openings of p get the same one,
+/// and 6 where there is none.
 fn forged(place: usize, word: u32) -> Option<(u32, usize)> {
     let mut words = run()[5].words();
     words[place] = word;
     let session = Session::from_words(&words);
     assert_eq!(session.words(), words);
-    refused(&session, |session| session.openings([P - 1; 21]))
+    let answer = refusal(judged(&session, [P - 1; 21]));
+    assert_eq!(refusal(judged(&session, [P; 21])), answer.or(Some((6, 0))));
+    answer
 }
 
 /// A verdict is given only on what steps can leave.
@@ -243,7 +296,7 @@ fn forged_sessions() {
     }
 }
 
-/// Only the last step looks at x: the others take a session whose x does not begin with 1.
+/// Only asking and committing look at x: the other steps take a session whose x does not begin with 1.
 #[test]
 fn x_without_the_constant() {
     for first in [0, 2, P - 1] {
@@ -252,6 +305,7 @@ fn x_without_the_constant() {
         let sessions = run_from(Session::from_words(&words));
         let stages: Vec<u32> = sessions.iter().map(|session| session.words()[0]).collect();
         assert_eq!(stages, [1, 2, 3, 4, 5, 6, 6]);
+        assert_eq!(refusal(sessions[5].ask([P - 1; 21])), Some((1, 0)));
     }
 }
 

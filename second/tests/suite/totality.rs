@@ -125,20 +125,29 @@ fn transforms() {
     assert!(done > 1000, "{done}");
 }
 
-/// A random step with any words; the session must be the same where it is refused.
-fn any_step(random: &mut Random, session: Session) -> (Session, bool) {
+/// How often each step was taken and not refused: α, η, β, δ, γ, asking, committing.
+type Taken = [u64; 7];
+/// The place of asking among them.
+const ASKING: usize = 5;
+
+/// A random step with any words; the session must be the same where it asks or is refused.
+fn any_step(random: &mut Random, session: Session, taken: &mut Taken) -> Session {
     let (a, b, c) = (three(random), three(random), three(random));
     let [x, y] = [tame_word(random), tame_word(random)];
-    let (next, refused) = match random.below(6) {
+    let openings = std::array::from_fn(|_| tame_word(random));
+    let step = random.below(7) as usize;
+    let (next, refused) = match step {
         0 => session.clone().alpha(a, x).map_refused(),
         1 => session.clone().eta(a, b).map_refused(),
         2 => session.clone().beta([x, y], a[0]).map_refused(),
         3 => session.clone().delta(a, b, c).map_refused(),
         4 => session.clone().gamma(x, y).map_refused(),
-        _ => session.clone().openings(std::array::from_fn(|_| tame_word(random))).map_refused(),
+        ASKING => (session.clone(), session.ask(openings)).map_refused(),
+        _ => session.clone().commit(openings).map_refused(),
     };
-    assert_eq!(refused, next == session);
-    (next, refused)
+    assert_eq!(next == session, refused || step == ASKING);
+    taken[step] += u64::from(!refused);
+    next
 }
 
 /// A session of any words; stage and sizes are mostly those of a session.
@@ -167,7 +176,7 @@ impl<Answer> MapRefused for (Session, Result<Answer, Refusal>) {
 #[test]
 fn sessions() {
     let mut random = Random::new(21);
-    let mut steps = 0;
+    let mut taken = Taken::default();
     for _ in 0..count(3000) {
         let sizes = [(); 6].map(|()| if random.below(10) == 0 { any_word(&mut random) } else { 1 << random.below(4) });
         let length = sizes[2].min(1100) as usize + usize::from(random.below(10) == 0);
@@ -178,28 +187,24 @@ fn sessions() {
         let Ok(mut session) = second::open(sizes, &public) else {
             continue;
         };
-        for _ in 0..60 {
-            let (next, refused) = any_step(&mut random, session);
-            session = next;
-            steps += usize::from(!refused);
+        for _ in 0..70 {
+            session = any_step(&mut random, session, &mut taken);
         }
     }
-    assert!(steps > 5000, "{steps}");
+    assert!(taken.iter().all(|&times| times > 500), "{taken:?}");
 }
 
 #[test]
 fn sessions_of_any_words() {
     let mut random = Random::new(23);
-    let mut steps = 0;
+    let mut taken = Taken::default();
     for _ in 0..count(5000) {
         let mut session = any_session(&mut random);
         for _ in 0..10 {
-            let (next, refused) = any_step(&mut random, session);
-            session = next;
-            steps += usize::from(!refused);
+            session = any_step(&mut random, session, &mut taken);
         }
     }
-    assert!(steps > 1000, "{steps}");
+    assert!(taken.iter().sum::<u64>() > 1000, "{taken:?}");
 }
 
 #[test]

@@ -5,7 +5,7 @@ use native.Mathlib.Omega.{arith}
 use Rattle.domain.specs.BabyBear.{babyBear}
 use Rattle.protocol.specs.Circuit.{largest}
 use Rattle.protocol.specs.Messages.{Messages, lengths}
-use Rattle.protocol.specs.Session.{Stepped, gammaStep, openingsStep}
+use Rattle.protocol.specs.Session.{Stepped, gammaStep, askStep, commitStep}
 use Rattle.shared.specs.Meanings.{openings}
 use Rattle.verifier.specs.Session.{sessionMeaning}
 use Rattle.report.specs.Stages.{answerAfter}
@@ -25,21 +25,27 @@ cast-gamma c =
 gamma-requires : tie.Need-gamma-requires
 gamma-requires c κs = search needs
 
-openings-requires : tie.Need-openings-requires
-openings-requires c κs = search needs
+ask-requires : tie.Need-ask-requires
+ask-requires c κs = search needs
+
+commit-requires : tie.Need-commit-requires
+commit-requires c κs = search needs
 
 returns : tie.Need-returns
 unfolding answerAfter
 returns c =
-    let at-gamma = c .before .before in
+    let at-ask = c .before .before in
+    let at-gamma = at-ask .before .before in
     let n = at-gamma .before .before in
     let a = n .before .args in
-    let last = ap (λ (s : Stepped). s .session)
+    let o = openings (a .o) (a .index) in
+    let heard = ap (λ (s : Stepped). s .session)
     (at-gamma .gamma .ensures
     ∙ ap (λ (l : Messages ℕ ℕ). gammaStep babyBear (sessionMeaning (a .before)) (l .joinedQuotient) (a .gamma)) (n .message-lengths .ensures)) in
-    ap (λ (s : Stepped). s .answer) (c .openings .ensures ∙ ap (λ s. openingsStep babyBear s (openings (a .o) (a .index))) last)
+    let asked = ap (λ (s : Stepped). s .session) (at-ask .ask .ensures ∙ ap (λ s. askStep babyBear s o) heard) in
+    ap (λ (s : Stepped). s .answer) (c .commit .ensures ∙ ap (λ s. commitStep babyBear s o) asked)
 
 pub answer-after-spec : {M : Type 1} → statement M
 answer-after-spec =
     tie.close
-    (tie.spec message-lengths-requires cast-gamma gamma-requires openings-requires returns)
+    (tie.spec message-lengths-requires cast-gamma gamma-requires ask-requires commit-requires returns)

@@ -1,6 +1,6 @@
 -- `report::lines::put_answer` meets its contract. Assumes nothing.
 use mathlib.Core.Path.{sym, ap}
-use Rattle.verifier.specs.Session.{lastMeaning}
+use Rattle.verifier.specs.Session.{openingsAnswerMeaning}
 use Rattle.report.specs.ProofText.{answerText}
 use Rattle.report.proofs.PrintedLaws.{printed-as}
 use borrow.Author.Needs.{needs}
@@ -25,7 +25,7 @@ same-length c = search needs
 returns : tie.Need-returns
 returns c =
     let at-answer = c .before .before .before .before .before in
-    printed-as (sym (ap (λ a. answerText (lastMeaning a)) (at-answer .answer .given .1))) (c .before .before .put-verdict .ensures)
+    printed-as (sym (ap (λ a. answerText (openingsAnswerMeaning a)) (at-answer .answer .given .1))) (c .before .before .put-verdict .ensures)
 
 same-length-2 : tie.Need-same-length-2
 same-length-2 c = search needs
@@ -34,7 +34,7 @@ returns-2 : tie.Need-returns-2
 unfolding answerText
 returns-2 c =
     let at-answer2 = c .before .before .before .before .before in
-    printed-as (sym (ap (λ a. answerText (lastMeaning a)) (at-answer2 .answer2 .given .1))) (c .before .before .put-refused .ensures)
+    printed-as (sym (ap (λ a. answerText (openingsAnswerMeaning a)) (at-answer2 .answer2 .given .1))) (c .before .before .put-refused .ensures)
 
 pub put-answer-spec : {M : Type 1} → statement M
 put-answer-spec =

@@ -1,14 +1,12 @@
--- `verifier::session::Session::openings` meets its contract. Assumes nothing.
-use Prim.Native.Nat.{ℕ, suc, _≤_}
+-- `verifier::session::Session::judgement` meets its contract. Assumes nothing.
+use Prim.Native.Nat.{_≤_}
 use Rattle.domain.proofs.Qualification.{babyBear-qualifies, babyBear-known}
 use Rattle.domain.proofs.SizeLaws.{size-bound}
 use Rattle.domain.specs.BabyBear.{babyBear}
 use Rattle.domain.specs.Size.{maxSize}
-use Rattle.protocol.specs.Checks.{Verdict}
-use Rattle.shared.specs.Meanings.{faultRefusal, sizes, transcript, openings}
+use Rattle.shared.specs.Meanings.{faultRefusal, sizes, openings}
 use Rattle.protocol.specs.Refusals.{sixSizeTests}
-use Rattle.protocol.specs.Session as steps
-use Rattle.protocol.specs.Session.{Judged, openingsRefusal, openingsStep, verdictOf}
+use Rattle.protocol.specs.Session.{Judged, openingsRefusal, askStep, verdictOf}
 use Rattle.protocol.proofs.UnrefusedSteps.{InTurn, openings-passes}
 use Rattle.protocol.proofs.Sessions.{LeftBySteps, left-by-steps}
 use Rattle.protocol.proofs.RefusalLaws.{all-true}
@@ -18,10 +16,10 @@ use borrow.Author.Needs.{needs}
 use lib.Dec.{lit<}
 use lib.ListN.{length, length-map}
 use lib.Seq.{length-take-le}
-use mathlib.Core.Path.{_≡_, refl, sym, ap, ap₂, _∙_}
+use mathlib.Core.Path.{_≡_, refl, sym, ap, _∙_}
 use native.Mathlib.Omega.{arith}
-use Rattle.verifier.proofs.session.Session.openings.Statement.{statement}
-use Rattle.verifier.proofs.session.Session.openings.Tie as tie
+use Rattle.verifier.proofs.session.Session.judgement.Statement.{statement}
+use Rattle.verifier.proofs.session.Session.judgement.Tie as tie
 
 judged : (c : tie.After-judge-openings) → let a = c .before .before .before .args in
     openingsRefusal babyBear (sessionMeaning (a .self)) (openings (a .o) (a .index)) ≡ faultRefusal (c .judge-openings .result)
@@ -87,22 +85,18 @@ verdict-requires c κs =
     )
 
 returns : tie.Need-returns
-unfolding openingsStep
+unfolding askStep
 returns c = rw (judged (c .before .before .before) ∙ ap faultRefusal (c .before .number .given .1))
 
 returns-2 : tie.Need-returns-2
-unfolding openingsStep verdictOf
+unfolding askStep verdictOf
 returns-2 c =
     let t = c .before .before .before in
-    let s = t .before .before .before .before .before .args .self in
-    let next : 7 ≡ suc (s .stage) = omega (arith, passed t .0 .stage-is) in
-    let judging : ℕ → Verdict → steps.Stepped = λ n v.
-    record { session = record { stage = n; sizes = sizes (s .sizes); x = s .x; transcript = transcript (s .transcript) }; answer = Judged v } in
     rw (judged (t .before .before) ∙ ap faultRefusal (t .enum-told .given .1))
-    (ap₂ judging next (c .verdict .ensures babyBear (babyBear-known .known) babyBear-qualifies))
+    (ap Judged (c .verdict .ensures babyBear (babyBear-known .known) babyBear-qualifies))
 
-pub openings-spec : {M : Type 1} → statement M
-openings-spec =
+pub judgement-spec : {M : Type 1} → statement M
+judgement-spec =
     tie.close
     (tie.spec
     slice-aggregate-judge-openings
