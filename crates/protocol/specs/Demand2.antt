@@ -10,6 +10,7 @@ use Rattle.algebra.specs.Counting.{All}
 use Rattle.field.specs.Prime.{Prime}
 use Rattle.field.specs.Element.{Elem, of, wordOf, words, 𝟘, _⊕_, _⊗_, _⊖_}
 use Rattle.field.specs.Power.{_⊘_}
+use Rattle.domain.specs.Size.{maxSize}
 use Rattle.domain.specs.Domain.{vanishing, sumOver}
 use Rattle.domain.specs.Polynomial.{Poly, eval, interpolate, valuesOn}
 use Rattle.domain.specs.Qualifies.{Qualifies}
@@ -26,6 +27,8 @@ use Rattle.protocol.specs.Conversation.{endingIn}
 use Rattle.protocol.specs.Record.{Contents, sectionLengths, bytesOf, wordsIn, writeRecord, readRecord}
 use Rattle.protocol.specs.Calls.{ProverInput, circuitOf, firstRoundCall, secondRoundCall, thirdRoundCall, fourthRoundCall, fifthRoundCall, openingsCall}
 use Rattle.protocol.specs.Job.{Job, jobRefusal, proof, trueOpenings, conversation, honestConversation}
+use Rattle.protocol.specs.Table.{Hold}
+use Rattle.protocol.specs.Rows.{entryLists, Fits}
 
 module _ (q : Prime) where
   module _ (c : Circuit) (z : List (Elem q)) (r : Elem q) (m : Poly q) (α : Elem q) (η : Three (Elem q)) (β : Elem q) (δ : Three (Elem q))
@@ -114,6 +117,14 @@ module _ (q : Prime) where
       → let j : Job = inputJob i α η β δ γ in
       (jobRefusal q j ≡ none) × (sent ≡ mapMessages words wordOf (proof q j)) × (o ≡ mapOpenings wordOf (trueOpenings q j (proof q j)))
 
+  -- the converse: for a job that fits, with whole entry lists and lent slices as long as the messages, each of the six calls is done
+  abbrev pub FittingCallsDone : Type 0
+  FittingCallsDone =
+      (i : ProverInput) (α : ℕ) (η : Three ℕ) (β : ℕ) (δ : Three ℕ) (γ : ℕ)
+      → let j : Job = inputJob i α η β δ γ in
+      Hold (entryLists maxSize (i .circuit)) → Fits q j
+      → CallsDone i α η β δ γ (mapMessages words wordOf (proof q j)) (mapOpenings wordOf (trueOpenings q j (proof q j)))
+
   -- "The index polynomials give back the matrices"
   abbrev pub IndexGivesBack : Type 0
   IndexGivesBack = (c : Circuit) → Admitted q c → (M : MatrixName) → decode (sizesOf c) M (index {q = q} c M) ≡ at (c .matrices) M
@@ -137,9 +148,9 @@ module _ (q : Prime) where
   abbrev pub accepted : List Answer
   accepted = endingIn Accept
 
-  -- "An honest proof of a satisfied circuit is accepted at all allowed challenges": no step is refused
+  -- "An honest proof of a satisfied circuit is accepted at all allowed challenges": for every job that fits, and no step is refused
   abbrev pub HonestAccepted : Type 0
-  HonestAccepted = (j : Job) → jobRefusal q j ≡ none → honestConversation q j ≡ accepted
+  HonestAccepted = (j : Job) → Fits q j → honestConversation q j ≡ accepted
 
   -- the same said of what the prover's calls return
   abbrev pub CallsAccepted : Type 0
@@ -163,6 +174,7 @@ module _ (q : Prime) where
 pub record Demand2 (q : Prime) : Type 0 where
   pub rules-kept : RulesKept q
   pub calls-give-proof : CallsGiveProof q
+  pub fitting-calls-done : FittingCallsDone q
   pub index-gives-back : IndexGivesBack q
   pub read-written : ReadWritten q
   pub written-read : WrittenRead q
