@@ -14,7 +14,7 @@ use Rattle.domain.specs.Size.{maxSize}
 use Rattle.domain.specs.Domain.{vanishing, sumOver}
 use Rattle.domain.specs.Polynomial.{Poly, eval, interpolate, valuesOn}
 use Rattle.domain.specs.Qualifies.{Qualifies}
-use Rattle.protocol.specs.Three.{MatrixName, Three, at, mapThree, sumMatrices}
+use Rattle.protocol.specs.Three.{MatrixName, Three, at, listed, mapThree, sumMatrices}
 use Rattle.protocol.specs.Circuit.{Circuit, Sizes, sizesOf, largest, publicPart, extension}
 use Rattle.protocol.specs.Index.{indexAt, index, decode}
 use Rattle.protocol.specs.Checks.{Transcript, Openings, mapOpenings, listOpenings, Row, Line, Matrix, Verdict, Accept, Fails, Holds, verdict}
@@ -24,7 +24,7 @@ use Rattle.protocol.specs.Refusals.{Done, sixSizeTests, sizeRefusal, wor
 use Rattle.protocol.specs.Admission.{Admitted}
 use Rattle.protocol.specs.Session.{Answer}
 use Rattle.protocol.specs.Conversation.{endingIn}
-use Rattle.protocol.specs.Record.{Contents, sectionLengths, bytesOf, wordsIn, writeRecord, readRecord}
+use Rattle.protocol.specs.Record.{Contents, Section, sections, sectionLengths, bytesOf, wordsIn, writeRecord, readRecord}
 use Rattle.protocol.specs.Calls.{ProverInput, circuitOf, firstRoundCall, secondRoundCall, thirdRoundCall, fourthRoundCall, fifthRoundCall, openingsCall}
 use Rattle.protocol.specs.Job.{Job, jobRefusal, proof, trueOpenings, conversation, honestConversation}
 use Rattle.protocol.specs.Table.{Hold}
@@ -138,6 +138,29 @@ module _ (q : Prime) where
       → wordRefusal q (foldr _++_ [] parts) ≡ none
       → (readRecord (writeRecord s parts) q ≡ Done (record { sizes = s; parts = map bytesOf parts })) × (map wordsIn (map bytesOf parts) ≡ parts)
 
+  -- the record of these messages reads, and each of them is in its own section, which has just its length: "Sections in order w, m, h0, s
+  -- (the σ), g1, h1, o (the ω), ga, gb, gc, h2"
+  pub record Recorded (n : Sizes) (sent : Messages (List ℕ) ℕ) : Type 0 where
+    pub found : Contents
+    pub read : readRecord (writeRecord n (sections sent)) q ≡ Done found
+    pub sizes : found .sizes ≡ n
+    pub eleven : length (found .parts) ≡ 11
+    pub w : Section found 0 (sent .witness)
+    pub m : Section found 1 (sent .mask)
+    pub h0 : Section found 2 (sent .rowQuotient)
+    pub s : Section found 3 (listed (sent .sums))
+    pub g1 : Section found 4 (sent .lineRemainder)
+    pub h1 : Section found 5 (sent .lineQuotient)
+    pub o : Section found 6 (listed (sent .values))
+    pub ga : Section found 7 (sent .matrixRemainders .a)
+    pub gb : Section found 8 (sent .matrixRemainders .b)
+    pub gc : Section found 9 (sent .matrixRemainders .c)
+    pub h2 : Section found 10 (sent .joinedQuotient)
+
+  -- so it is with every honest proof
+  abbrev pub ProofRecorded : Type 0
+  ProofRecorded = (j : Job) → jobRefusal q j ≡ none → Recorded (sizesOf (j .circuit)) (mapMessages words wordOf (proof q j))
+
   -- no record that reads is written otherwise: writing what was read gives the same bytes
   abbrev pub WrittenRead : Type 0
   WrittenRead =
@@ -177,6 +200,7 @@ pub record Demand2 (q : Prime) : Type 0 where
   pub fitting-calls-done : FittingCallsDone q
   pub index-gives-back : IndexGivesBack q
   pub read-written : ReadWritten q
+  pub proof-recorded : ProofRecorded q
   pub written-read : WrittenRead q
   pub honest-accepted : HonestAccepted q
   pub calls-accepted : CallsAccepted q
