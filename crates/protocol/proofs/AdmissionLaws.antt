@@ -24,6 +24,7 @@ use Rattle.protocol.specs.Circuit.{Entry, Circuit, sizesOf, largest, row
 use Rattle.protocol.specs.Refusals.{pairs, beginsWithOne, sizeTests, sizeRefusal, listRefusal, rises, fits, entryTestsAfter, entryTests, entryRefusal, maskRefusal, constantRefusal, assignmentRefusal, challengeRefusal}
 use Rattle.protocol.specs.Admission.{Admitted, entryValues, countTests, assignmentTests, circuitRefusals, refusalsAfterCircuit, proverRefusal}
 use Rattle.protocol.specs.Job.{Job, challengeWords, challengePoints, jobRefusal}
+pub use Rattle.protocol.specs.Rows.{Before}
 use Rattle.protocol.proofs.RefusalLaws.{first-none, refuse-none, none-refuse, and-true, wordRefusal-none, constantRefusal-none, none-constantRefusal}
 use Rattle.protocol.proofs.FirstWord.{first-element, first-word}
 
@@ -33,10 +34,6 @@ pub record EntryFits (p : ℕ) (c : Circuit) (e : Entry) : Type 0 where
   pub column-below : e .column < c .|C|
   pub value-positive : 0 < e .value
   pub value-below : e .value < p
-
--- d stands before e: in an earlier row, or in the same row and an earlier column
-abbrev pub Before : Entry → Entry → Type 0
-Before d e = (d .row < e .row) ⊎ ((d .row ≡ e .row) × (d .column < e .column))
 
 -- each entry stands before the next
 abbrev pub Rising : List Entry → Type 0

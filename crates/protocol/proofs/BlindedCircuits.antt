@@ -28,6 +28,7 @@ use Rattle.protocol.specs.Circuit.{Entry, Circuit, rowSum, Satisfied, pu
 use Rattle.protocol.specs.Admission.{Admitted}
 use Rattle.protocol.specs.Blinded.{reservedRow, reservedColumns, blindingEntry, blindedCircuit, blindedAssignment}
 use Rattle.protocol.specs.Blinding.{Public, Satisfiable}
+use Rattle.protocol.specs.FalseProofs.{Unsatisfiable}
 use Rattle.protocol.proofs.AdmissionLaws.{EntryFits, Rising, WellFormed}
 use Rattle.protocol.proofs.AdmittedCircuits.{well-formed-admitted}
 use Rattle.protocol.proofs.BlindableCircuits.{Blinds}
@@ -231,3 +232,6 @@ module _ {q : Prime} (c : Circuit) (F : Blinds (q .p) c) where
             blindedAssignment c z none,
             (length-blinded c z none ∙ z-length, (public-kept z none ∙ public, blinded-satisfied z z-length none .1 S (mul-zero R 𝟘))),
           )
+
+  pub still-unsatisfiable : (x : List (Elem q)) → Unsatisfiable c x → Unsatisfiable (blindedCircuit c) x
+  still-unsatisfiable x unsatisfiable z is-witness = let (y, original) = same-public-words x .0 (z, is-witness) in unsatisfiable y original

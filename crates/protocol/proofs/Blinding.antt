@@ -12,6 +12,7 @@ use Rattle.protocol.proofs.BlindCalls as calls
 use Rattle.protocol.proofs.BlindedCircuits as circuits
 use Rattle.protocol.proofs.BlindedJobs as jobs
 use Rattle.protocol.proofs.BlindedSums as sums
+use Rattle.protocol.proofs.FalseProofs.{without-witness}
 use Rattle.protocol.proofs.PrivateColumns as columns
 
 pub blinding : Demand3Holds → (q : Prime) → Qualifies q → Blinding q
@@ -38,6 +39,9 @@ blinding demand3 q Q =
       blinded-job = λ j ρ free b. jobs.blinded-job q Q j ρ free (blinds (j .circuit) b);
       index-gives-back = λ c b. jobs.blinded-index-gives-back q Q c (blinds c b);
       demand3-covers = λ c b. jobs.demand3-covers q (demand3 q Q) c (blinds c b);
+      blinded-false-proofs = λ c b x unsatisfiable.
+          without-witness Q (blindedCircuit c) (circuits.blinded-admitted q c (blinds c b)) demand3 x
+          (circuits.still-unsatisfiable c (blinds c b) x unsatisfiable);
       sums-moved = λ c b. sums.sums-moved Q c (blinds c b) (blinded c b);
       one-to-one = λ c b. sums.one-to-one Q c (blinds c b) (blinded c b);
       pairs-hide = λ c b. sums.pairs-hide Q c (blinds c b) (blinded c b);

@@ -12,14 +12,14 @@ use Rattle.field.specs.Element.{Elem, of, wordOf, words}
 use Rattle.field.proofs.ElementLaws.{of-word}
 use Rattle.domain.specs.Domain.{Outside}
 use Rattle.protocol.specs.Circuit.{Circuit, Sizes, sizesOf, largest, BeginsWithOne}
-use Rattle.protocol.specs.Checks.{Openings, mapOpenings, Verdict, verdict}
+use Rattle.protocol.specs.Checks.{Openings, mapOpenings}
 use Rattle.protocol.specs.Messages.{mapMessages, Short}
 use Rattle.protocol.specs.Refusals.{Refusal, turnRefusal}
 use Rattle.protocol.specs.Admission.{Admitted}
 use Rattle.protocol.specs.Session.{Session, Stepped, Step, Alpha, Beta, Gamma, Taken, Judged, Refused, outOfTurn, unopened, inTurn}
 use Rattle.protocol.specs.Session.{stepped, after, openingsRefusal, askStep, commitStep}
-use Rattle.protocol.specs.Conversation.{Challenges, mapChallenges, steps, transcriptOf}
-use Rattle.protocol.specs.FalseProofs.{Strategy, messagesOf, Allowed, opened, answer, RefusedAt}
+use Rattle.protocol.specs.Conversation.{Challenges, mapChallenges, steps}
+use Rattle.protocol.specs.FalseProofs.{Strategy, messagesOf, Allowed, opened, answer, RefusedAt, judgement}
 use Rattle.protocol.proofs.AdmissionLaws.{admitted-well-formed}
 use Rattle.protocol.proofs.UnrefusedSteps.{InTurn, in-turn, alpha-passes, beta-passes, gamma-passes}
 use Rattle.protocol.proofs.FollowingSteps.{refusalOf, must-refuse, afterTaken, in-step}
@@ -30,12 +30,11 @@ use Rattle.protocol.proofs.Conversation.{six-sizes}
 pub allowed-judged :
     {q : Prime} (c : Circuit) → Admitted q c → (x : List (Elem q)) → length x ≡ c .|X| → BeginsWithOne x → (P : Strategy q) (t : Challenges (Elem q))
     → Short (sizesOf c) (mapMessages length (λ e. 1) (messagesOf P t)) → Allowed c t
-    → (v : Verdict) × (answer c x P t 6 ≡ Judged v) × (answer c x P t 7 ≡ Judged v)
+    → (answer c x P t 6 ≡ Judged (judgement c x P t)) × (answer c x P t 7 ≡ Judged (judgement c x P t))
 unfolding sizesOf
 allowed-judged {q} c admitted x x-length begins P t short (α, β, γ) =
-    let v : Verdict = verdict (sizesOf c) x (transcriptOf t (messagesOf P t)) (opened c x P t) in
     let all =
-    judged-session (sizesOf c) x t (messagesOf P t) (opened c x P t) v
+    judged-session (sizesOf c) x t (messagesOf P t) (opened c x P t) (judgement c x P t)
     (record {
       sizes-allowed = six-sizes q c (admitted-well-formed q c admitted);
       x-length = x-length;
@@ -46,7 +45,7 @@ allowed-judged {q} c admitted x x-length begins P t short (α, β, γ) =
       γ-outside = γ;
       verdict-is = refl;
     }) in
-    (v, ap (λ l. getD l 6 Taken) all, ap (λ l. getD l 7 Taken) all)
+    (ap (λ l. getD l 6 Taken) all, ap (λ l. getD l 7 Taken) all)
 
 -- out of turn, asking and committing are refused by 1
 module _ (q : Prime) (u : Session) (o : Openings ℕ) (out : ¬ InTurn 6 (u .stage) (u .sizes)) where

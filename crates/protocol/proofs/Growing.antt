@@ -13,9 +13,9 @@ use Rattle.domain.specs.Size.{maxSize}
 use Rattle.domain.proofs.SizeLaws.{size-bound}
 use Rattle.protocol.specs.Three.{MatrixName, at}
 use Rattle.protocol.specs.Circuit.{Entry, Circuit}
-use Rattle.protocol.specs.Refusals.{Outcome, Done, Refused, judged, first, refuse, sizeTests, sizeRefusal}
-use Rattle.protocol.specs.Admission.{Admitted, circuitRefusals}
-use Rattle.protocol.specs.Calls.{CircuitWords, wordsOfEntries, circuitOf, entryListTests, indexCall}
+use Rattle.protocol.specs.Refusals.{Outcome, Done, Refused, judged, refuse}
+use Rattle.protocol.specs.Admission.{Admitted}
+use Rattle.protocol.specs.Calls.{CircuitWords, wordsOfEntries, circuitOf, indexCall}
 use Rattle.protocol.specs.Grown.{rowEntries, stored, totalPlace, countsPlace, entriesPlace, rowStart, rowLength, grownLists, grownCircuit, hasRow, emptyCircuit, beginCall, beginFromCall, addEntryCall, removeEntryCall, findRowCall, rowCall, grownIndexCall}
 use Rattle.protocol.specs.Growing.{number, changed, standsAt, entriesWith, Correct, Beginning, Empty, From, begun, Change, Add, Remove, change, left, afterChanges, addAll, entriesIn, Growing}
 use Rattle.protocol.proofs.AdmissionLaws.{WellFormed, admitted-well-formed}
@@ -48,7 +48,7 @@ module _ (q : Prime) (k : Circuit) (admitted : Admitted q k) (M : MatrixName) (i
   row-stored = rw (row-found, rowCall) (row-words k (admitted-well-formed q k admitted) M i row-small)
 
 module _ (q : Prime) where
-  -- memory is correct where it holds a circuit that is let through, as this is stored
+  -- memory that holds a circuit that is let through, as this is stored: it is correct, and the circuit in it is this one
   correct-stored : (k : Circuit) → Admitted q k → Correct q (stored k)
   correct-stored k admitted =
       let same : k ≡ grownCircuit (stored k) = sym (circuit-stored k (few-admitted q k admitted)) in
@@ -57,15 +57,21 @@ module _ (q : Prime) where
   correct-is : (w : List ℕ) (k : Circuit) → w ≡ stored k → Admitted q k → Correct q w
   correct-is w k same admitted = subst (Correct q) (sym same) (correct-stored k admitted)
 
-  -- from the beginnings on
+  circuit-is : (w : List ℕ) (k : Circuit) → w ≡ stored k → Admitted q k → grownCircuit w ≡ k
+  circuit-is w k same admitted = ap grownCircuit same ∙ circuit-stored k (few-admitted q k admitted)
+
+  -- the beginnings: what they store, and that it is let through
+  begun-empty : (r c x : ℕ) (w : List ℕ) → beginCall r c x ≡ Done w → (w ≡ stored (emptyCircuit r c x)) × Admitted q (emptyCircuit r c x)
+  unfolding beginCall
+  begun-empty r c x w done = let (free, same) = judged-done _ _ done in (sym same, empty-admitted q r c x free)
+
+  begun-from : (c : CircuitWords) (w : List ℕ) → beginFromCall q c ≡ Done w → (w ≡ stored (circuitOf c)) × Admitted q (circuitOf c)
+  unfolding beginFromCall
+  begun-from c w done = let (free, same) = judged-done _ _ done in (sym same, lists-admitted q c free)
+
   begun-correct : (b : Beginning) (w : List ℕ) → begun q b ≡ Done w → Correct q w
-  unfolding beginCall beginFromCall
-  begun-correct (Empty r c x) w done =
-      let (free, same) = judged-done (sizeRefusal (sizeTests r c x [])) (stored (emptyCircuit r c x)) done in
-      correct-is w (emptyCircuit r c x) (sym same) (empty-admitted q r c x free)
-  begun-correct (From c) w done =
-      let (free, same) = judged-done (first (circuitRefusals q (circuitOf c) (entryListTests c) [])) (stored (circuitOf c)) done in
-      correct-is w (circuitOf c) (sym same) (lists-admitted q c free)
+  begun-correct (Empty r c x) w done = let (same, admitted) = begun-empty r c x w done in correct-is w (emptyCircuit r c x) same admitted
+  begun-correct (From c) w done = let (same, admitted) = begun-from c w done in correct-is w (circuitOf c) same admitted
 
   -- after one change, refused or not, and after all
   stored-changed : (k : Circuit) → Admitted q k → (c : Change) → Correct q (left (stored k) (change q (stored k) c))
@@ -133,6 +139,8 @@ pub growing : (q : Prime) → Growing q
 unfolding grownIndexCall
 growing q =
     record {
+      begins-empty = λ r c x w done. let (same, admitted) = begun-empty q r c x w done in circuit-is q w (emptyCircuit r c x) same admitted;
+      begins-from = λ c w done. let (same, admitted) = begun-from q c w done in circuit-is q w (circuitOf c) same admitted;
       always-correct = λ b w done cs. all-correct q cs w (begun-correct q b w done);
       total-counted = λ w correct M.
           ap (λ (v : List ℕ). getD v (totalPlace (number M)) 0) (correct .held)

@@ -2,6 +2,7 @@
 -- them at all allowed challenges. Assumes nothing.
 use mathlib.Core.Path.{_≡_, refl, sym, ap, ap₂, _∙_, subst}
 use mathlib.Core.List.{List, map}
+use mathlib.Core.Option.{none}
 use Prim.Native.Nat.{ℕ, suc}
 use lib.ListN.{length, getD, length-map}
 use native.Mathlib.Nat.{le-of-eq}
@@ -20,9 +21,9 @@ use Rattle.protocol.specs.Checks.{Openings, mapOpenings, Accept, weighte
 use Rattle.protocol.specs.Messages.{Short, Messages, mapMessages, lengths, witness, assignment, image, sums, values, line, matrixRemainder, matrixQuotient, messages, openings}
 use Rattle.protocol.specs.Session.{Session, Ask, Taken, Judged, unopened, askStep, commitStep, after}
 use Rattle.protocol.specs.Conversation.{transcriptOf, hearingMessages, endingIn}
-use Rattle.protocol.specs.Job.{Job, challenges, publicWords, proof, trueOpenings, conversation, conversationOn, honestConversation}
+use Rattle.protocol.specs.Job.{Job, challenges, publicWords, jobRefusal, proof, trueOpenings, conversation, conversationOn, honestConversation}
 use Rattle.protocol.specs.AskThenCommit.{AcceptedByBoth}
-use Rattle.protocol.specs.Demand2.{KeepsRules, RulesKept, HonestAccepted}
+use Rattle.protocol.specs.Demand2.{KeepsRules, RulesKept, accepted}
 use Rattle.protocol.proofs.AdmissionLaws.{WellFormed, JobFits, job-fits}
 use Rattle.protocol.proofs.AskThenCommit.{asking-leaves, commit-answer}
 use Rattle.protocol.proofs.Conversation.{drawn, conversation-judged}
@@ -153,7 +154,7 @@ module _ {q : Prime} (Q : Qualifies q) (j : Job) (F : JobFits q j) where
 pub rules-kept : (q : Prime) → Qualifies q → RulesKept q
 rules-kept q Q j free = keeps-rules Q j (job-fits q j free)
 
-pub honest-accepted : (q : Prime) → Qualifies q → HonestAccepted q
+pub honest-accepted : (q : Prime) → Qualifies q → (j : Job) → jobRefusal q j ≡ none → honestConversation q j ≡ accepted q
 unfolding honestConversation
 honest-accepted q Q j free =
     let F : JobFits q j = job-fits q j free in

@@ -29,7 +29,7 @@ use Rattle.protocol.proofs.TakenSteps.{heardAll, Fitting, hearing-taken
 
 -- words of elements
 module _ {q : Prime} where
-  words-below : (l : List (Elem q)) → All (λ w. w < q .p) (words l)
+  pub words-below : (l : List (Elem q)) → All (λ w. w < q .p) (words l)
   words-below [] = tt
   words-below (a ∷ l) = (word-below a, words-below l)
 

@@ -82,9 +82,8 @@ module _ {q : Prime} (Q : Qualifies q) (c : Circuit) (W : WellFormed (q .p) c) (
             ∙ ap (λ v. eval h0 (element (c .|R|) i) ⊗ v) (vanishing-on Q (c .|R|) (W .R-size) i l) ∙ mul-zero (primeRing q) _);
       }
 
-pub row-means :
-    {q : Prime} → Qualifies q → (S : Setting q) → BeginsWithOne (S .x) → (t : Transcript (Elem q)) (o : Openings (Elem q)) → RowMeans q S t o
-row-means {q} Q S x-begins t o =
+pub row-means : {q : Prime} → Qualifies q → (S : Setting q) (t : Transcript (Elem q)) (o : Openings (Elem q)) → RowMeans q S t o
+row-means {q} Q S t o x-begins =
     record {
       complete = λ satisfied. (
         rowQuotient c ẑ,

@@ -10,10 +10,11 @@ use Rattle.algebra.specs.Counting.{All}
 use Rattle.field.specs.Prime.{Prime}
 use Rattle.field.specs.Element.{Elem, of, wordOf, words, 𝟘, _⊕_, _⊗_, _⊖_}
 use Rattle.field.specs.Power.{_⊘_}
+use Rattle.domain.specs.Size.{maxSize}
 use Rattle.domain.specs.Domain.{vanishing, sumOver}
 use Rattle.domain.specs.Polynomial.{Poly, eval, interpolate, valuesOn}
 use Rattle.domain.specs.Qualifies.{Qualifies}
-use Rattle.protocol.specs.Three.{MatrixName, Three, at, mapThree, sumMatrices}
+use Rattle.protocol.specs.Three.{MatrixName, Three, at, listed, mapThree, sumMatrices}
 use Rattle.protocol.specs.Circuit.{Circuit, Sizes, sizesOf, largest, publicPart, extension}
 use Rattle.protocol.specs.Index.{indexAt, index, decode}
 use Rattle.protocol.specs.Checks.{Transcript, Openings, mapOpenings, listOpenings, Row, Line, Matrix, Verdict, Accept, Fails, Holds, verdict}
@@ -23,9 +24,11 @@ use Rattle.protocol.specs.Refusals.{Done, sixSizeTests, sizeRefusal, wor
 use Rattle.protocol.specs.Admission.{Admitted}
 use Rattle.protocol.specs.Session.{Answer}
 use Rattle.protocol.specs.Conversation.{endingIn}
-use Rattle.protocol.specs.Record.{Contents, sectionLengths, bytesOf, wordsIn, writeRecord, readRecord}
+use Rattle.protocol.specs.Record.{Contents, Section, sections, sectionLengths, bytesOf, wordsIn, writeRecord, readRecord}
 use Rattle.protocol.specs.Calls.{ProverInput, circuitOf, firstRoundCall, secondRoundCall, thirdRoundCall, fourthRoundCall, fifthRoundCall, openingsCall}
 use Rattle.protocol.specs.Job.{Job, jobRefusal, proof, trueOpenings, conversation, honestConversation}
+use Rattle.protocol.specs.Table.{Hold}
+use Rattle.protocol.specs.Rows.{entryLists, Fits}
 
 module _ (q : Prime) where
   module _ (c : Circuit) (z : List (Elem q)) (r : Elem q) (m : Poly q) (α : Elem q) (η : Three (Elem q)) (β : Elem q) (δ : Three (Elem q))
@@ -114,6 +117,14 @@ module _ (q : Prime) where
       → let j : Job = inputJob i α η β δ γ in
       (jobRefusal q j ≡ none) × (sent ≡ mapMessages words wordOf (proof q j)) × (o ≡ mapOpenings wordOf (trueOpenings q j (proof q j)))
 
+  -- the converse: for a job that fits, with whole entry lists and lent slices as long as the messages, each of the six calls is done
+  abbrev pub FittingCallsDone : Type 0
+  FittingCallsDone =
+      (i : ProverInput) (α : ℕ) (η : Three ℕ) (β : ℕ) (δ : Three ℕ) (γ : ℕ)
+      → let j : Job = inputJob i α η β δ γ in
+      Hold (entryLists maxSize (i .circuit)) → Fits q j
+      → CallsDone i α η β δ γ (mapMessages words wordOf (proof q j)) (mapOpenings wordOf (trueOpenings q j (proof q j)))
+
   -- "The index polynomials give back the matrices"
   abbrev pub IndexGivesBack : Type 0
   IndexGivesBack = (c : Circuit) → Admitted q c → (M : MatrixName) → decode (sizesOf c) M (index {q = q} c M) ≡ at (c .matrices) M
@@ -127,6 +138,29 @@ module _ (q : Prime) where
       → wordRefusal q (foldr _++_ [] parts) ≡ none
       → (readRecord (writeRecord s parts) q ≡ Done (record { sizes = s; parts = map bytesOf parts })) × (map wordsIn (map bytesOf parts) ≡ parts)
 
+  -- the record of these messages reads, and each of them is in its own section, which has just its length: "Sections in order w, m, h0, s
+  -- (the σ), g1, h1, o (the ω), ga, gb, gc, h2"
+  pub record Recorded (n : Sizes) (sent : Messages (List ℕ) ℕ) : Type 0 where
+    pub found : Contents
+    pub read : readRecord (writeRecord n (sections sent)) q ≡ Done found
+    pub sizes : found .sizes ≡ n
+    pub eleven : length (found .parts) ≡ 11
+    pub w : Section found 0 (sent .witness)
+    pub m : Section found 1 (sent .mask)
+    pub h0 : Section found 2 (sent .rowQuotient)
+    pub s : Section found 3 (listed (sent .sums))
+    pub g1 : Section found 4 (sent .lineRemainder)
+    pub h1 : Section found 5 (sent .lineQuotient)
+    pub o : Section found 6 (listed (sent .values))
+    pub ga : Section found 7 (sent .matrixRemainders .a)
+    pub gb : Section found 8 (sent .matrixRemainders .b)
+    pub gc : Section found 9 (sent .matrixRemainders .c)
+    pub h2 : Section found 10 (sent .joinedQuotient)
+
+  -- so it is with every honest proof
+  abbrev pub ProofRecorded : Type 0
+  ProofRecorded = (j : Job) → jobRefusal q j ≡ none → Recorded (sizesOf (j .circuit)) (mapMessages words wordOf (proof q j))
+
   -- no record that reads is written otherwise: writing what was read gives the same bytes
   abbrev pub WrittenRead : Type 0
   WrittenRead =
@@ -137,9 +171,9 @@ module _ (q : Prime) where
   abbrev pub accepted : List Answer
   accepted = endingIn Accept
 
-  -- "An honest proof of a satisfied circuit is accepted at all allowed challenges": no step is refused
+  -- "An honest proof of a satisfied circuit is accepted at all allowed challenges": for every job that fits, and no step is refused
   abbrev pub HonestAccepted : Type 0
-  HonestAccepted = (j : Job) → jobRefusal q j ≡ none → honestConversation q j ≡ accepted
+  HonestAccepted = (j : Job) → Fits q j → honestConversation q j ≡ accepted
 
   -- the same said of what the prover's calls return
   abbrev pub CallsAccepted : Type 0
@@ -163,8 +197,10 @@ module _ (q : Prime) where
 pub record Demand2 (q : Prime) : Type 0 where
   pub rules-kept : RulesKept q
   pub calls-give-proof : CallsGiveProof q
+  pub fitting-calls-done : FittingCallsDone q
   pub index-gives-back : IndexGivesBack q
   pub read-written : ReadWritten q
+  pub proof-recorded : ProofRecorded q
   pub written-read : WrittenRead q
   pub honest-accepted : HonestAccepted q
   pub calls-accepted : CallsAccepted q

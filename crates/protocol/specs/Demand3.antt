@@ -57,10 +57,12 @@ module _ (q : Prime) where
     abbrev ẑ : Poly q
     ẑ = assignment c (S .x) (S .w)
 
-    -- Row: "with σ_M read as ẑ_M(α), that ẑ's values on C satisfy every row", and that column 0 holds 1; sought: h0
+    -- Row: "with σ_M read as ẑ_M(α), that ẑ's values on C satisfy every row", and that column 0 holds 1; sought: h0. "the row claim is about
+    -- an x that begins with 1" (document 02, request 2)
     abbrev pub RowMeans : Transcript (Elem q) → Openings (Elem q) → Type 0
     RowMeans t o =
-        CheckMeans {q = q} {Choice = Poly q}
+        BeginsWithOne (S .x)
+        → CheckMeans {q = q} {Choice = Poly q}
         (Satisfied c (valuesOn (c .|C|) ẑ))
         (λ h0. length h0 ≡ lengths s .rowQuotient)
         (λ h0 α. Holds s (S .x) (withα α (withη (sums c ẑ α) (t .η) t)) (openedRow (eval h0 α) o) Row)
@@ -114,8 +116,7 @@ module _ (q : Prime) where
     -- all of it: for "all other messages of the lengths above, honest or not (m need not add to 0), every α outside R and β
     -- outside C, and any η and δ": t has the σ, the ω and the challenges, o the openings that the check does not read
     pub record Demand3 : Type 0 where
-      -- "the row claim is about an x that begins with 1" (document 02, request 2)
-      pub row : BeginsWithOne (S .x) → (t : Transcript (Elem q)) (o : Openings (Elem q)) → RowMeans t o
+      pub row : (t : Transcript (Elem q)) (o : Openings (Elem q)) → RowMeans t o
       pub line :
           (m : Poly q) → length m ≡ lengths s .mask → (t : Transcript (Elem q)) → Outside (c .|R|) (t .α) → (o : Openings (Elem q)) → LineMeans m t o
       pub matrix : (M : MatrixName) (t : Transcript (Elem q)) → Outside (c .|R|) (t .α) → Outside (c .|C|) (t .β) → MatrixMeans M t

@@ -14,8 +14,8 @@ use Rattle.protocol.specs.Circuit.{Entry, Circuit}
 use Rattle.protocol.specs.Index.{Index}
 use Rattle.protocol.specs.Refusals.{Outcome, Done, Refused, mapOutcome, onwards, judged, first, refuse, listRefusal, wordRefusal, rises, fits}
 use Rattle.protocol.specs.Admission.{Admitted}
-use Rattle.protocol.specs.Calls.{CircuitWords, wordsOfEntries, indexCall}
-use Rattle.protocol.specs.Grown.{rowEntries, stored, totalPlace, countsPlace, grownCircuit, beginCall, beginFromCall, addEntryCall, removeEntryCall, findRowCall, rowCall, grownIndexCall}
+use Rattle.protocol.specs.Calls.{CircuitWords, wordsOfEntries, circuitOf, indexCall}
+use Rattle.protocol.specs.Grown.{rowEntries, stored, totalPlace, countsPlace, grownCircuit, emptyCircuit, beginCall, beginFromCall, addEntryCall, removeEntryCall, findRowCall, rowCall, grownIndexCall}
 
 -- the number by which calls name a matrix
 abbrev pub number : MatrixName → ℕ
@@ -111,6 +111,10 @@ entriesIn w M = at (grownCircuit w .matrices) M
 
 -- for every prime
 pub record Growing (q : Prime) : Type 0 where
+  -- "A circuit in memory, begun empty or from accepted lists": memory then holds the circuit without entries, or the circuit of the lists;
+  -- with `always-correct`, before any change, that is every word of it
+  pub begins-empty : (r c x : ℕ) (w : List ℕ) → beginCall r c x ≡ Done w → grownCircuit w ≡ emptyCircuit r c x
+  pub begins-from : (c : CircuitWords) (w : List ℕ) → beginFromCall q c ≡ Done w → grownCircuit w ≡ circuitOf c
   -- "correct after every addition and removal": from either beginning, after every sequence of changes, refused ones too, memory holds a
   -- circuit as it is stored, and the table of refusals lets this through
   pub always-correct : (b : Beginning) (w : List ℕ) → begun q b ≡ Done w → (cs : List Change) → Correct q (afterChanges q w cs)

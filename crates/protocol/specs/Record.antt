@@ -1,4 +1,5 @@
 -- The proof record (document 01, "Proof record"). Assumes nothing.
+use mathlib.Core.Path.{_≡_}
 use mathlib.Core.List.{List, [], _∷_, _++_, foldr}
 use mathlib.Core.Option.{Option}
 use Prim.Native.Nat.{ℕ, _+_, _-_, _*_, _/_, _%_}
@@ -65,6 +66,10 @@ partsOf bytes (n ∷ l) = take (4 * n) bytes ∷ partsOf (drop (4 * n) bytes) l
 pub record Contents : Type 0 where
   pub sizes : Sizes
   pub parts : List (List ℕ)
+
+-- section k of them, counted from 0, holds these words: as many as the sizes give it, and its bytes spell them
+abbrev pub Section : Contents → ℕ → List ℕ → Type 0
+Section found k ws = (length ws ≡ getD (sectionLengths (found .sizes)) k 0) × (wordsIn (getD (found .parts) k []) ≡ ws)
 
 -- "Reading begins at the last word and goes back"
 module _ (bytes : List ℕ) where
