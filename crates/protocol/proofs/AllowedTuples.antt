@@ -53,7 +53,7 @@ module _ {q : Prime} (Q : Qualifies q) (c : Circuit) (admitted : Admitted q c) w
   outside-positive : (n : ℕ) → isSize n ≡ true → 0 < q .p - n
   outside-positive n size = omega (arith, large-enough q Q, size-bound n size)
 
-  sum-positive : 0 < fiveCounts q (sizesOf c)
+  pub sum-positive : 0 < fiveCounts q (sizesOf c)
   unfolding fiveCounts savedByη sizesOf
   sum-positive =
       let p : 0 < q .p = omega (arith, q .above-two) in
