@@ -1,6 +1,5 @@
 -- The transform by halves gives the values of a polynomial of length 2^k at the 2^k powers of w, where w^(2^(k-1)) = -1: so where w has
--- order 2^k and the ring has no zero divisors. Also the even and the odd
--- positions of a list, and what it gives for two and for four coefficients. Assumes nothing.
+-- order 2^k and the ring has no zero divisors. Also the even and the odd positions of a list. Assumes nothing.
 use mathlib.Core.Path.{_≡_, refl, sym, ap, ap₂, _∙_}
 use mathlib.Core.Logic.{_≢_}
 use mathlib.Core.List.{List, [], _∷_, _++_}
@@ -13,7 +12,7 @@ use Rattle.algebra.specs.Lists.{tabulate}
 use Rattle.algebra.specs.Ring.{CommRing, pow, Order}
 use Rattle.algebra.specs.Polynomial.{eval}
 use Rattle.algebra.specs.Halving.{evens, odds, join, transform}
-use Rattle.algebra.proofs.RingLaws.{one-mul, sub-zero→eq, pow-add, mul-pow}
+use Rattle.algebra.proofs.RingLaws.{sub-zero→eq, pow-add, mul-pow}
 use Rattle.algebra.proofs.Solver.{_:+_, _:-_, _:*_, :-_, :0, :1, _:=_, _⊙_, _from_, ring, ring-by}
 use Rattle.algebra.proofs.PolynomialLaws.{getD-tabulate}
 use Rattle.algebra.proofs.ListLaws.{tabulate-ext, tabulate-append}
@@ -55,7 +54,7 @@ module _ {A : Type 0} where
       ∙ tabulate-ext n _ _ (λ i l. let e : suc (suc (i + i + 1)) ≡ suc i + suc i + 1 = omega arith in ap f e))
 
 module _ {A : Type 0} (R : CommRing A) where
-  open CommRing R using (𝟘, 𝟙, _⊕_, _⊗_, neg, mul-one)
+  open CommRing R using (𝟘, 𝟙, _⊕_, _⊗_, neg)
 
   infixl 75 _⊕_
   infixl 80 _⊗_
@@ -146,16 +145,3 @@ module _ {A : Type 0} (R : CommRing A) where
       (transform-values k (w ⊗ w) (half-turn-square k w h) (evens f) (length-evens (2 ^ k) f halves))
       (transform-values k (w ⊗ w) (half-turn-square k w h) (odds f) (length-odds (2 ^ k) f halves))
       ∙ values-joined (2 ^ k) w h f ∙ ap (λ n. tabulate n (λ i. eval R f (pow R w i))) (sym (twice k))
-
-  pub transform-two : (w a b : A) → transform R 1 w (a ∷ (b ∷ [])) ≡ a ⊕ b ∷ (a ⊕ neg b ∷ [])
-  unfolding transform join
-  transform-two w a b = ap (λ (x : A). a ⊕ x ∷ (a ⊕ neg x ∷ [])) (one-mul R b)
-
-  pub transform-four : (w a b c d : A)
-      → transform R 2 w (a ∷ (b ∷ (c ∷ (d ∷ []))))
-      ≡ (a ⊕ c ⊕ (b ⊕ d)) ∷ ((a ⊕ neg c ⊕ w ⊗ (b ⊕ neg d)) ∷ ((a ⊕ c ⊕ neg (b ⊕ d)) ∷ ((a ⊕ neg c ⊕ neg (w ⊗ (b ⊕ neg d))) ∷ [])))
-  unfolding transform join
-  transform-four w a b c d =
-      ap₂ (join R 2 w) (transform-two (w ⊗ w) a c) (transform-two (w ⊗ w) b d)
-      ∙ ap₂ (λ (x y : A). (a ⊕ c ⊕ x) ∷ ((a ⊕ neg c ⊕ y) ∷ ((a ⊕ c ⊕ neg x) ∷ ((a ⊕ neg c ⊕ neg y) ∷ []))))
-      (one-mul R (b ⊕ d)) (ap (λ (v : A). v ⊗ (b ⊕ neg d)) (mul-one w))

@@ -45,22 +45,10 @@ halved n from step m s many within = let (k, l, e) = size-is-power n s in go k l
           room = omega arith;
         }
 
--- the exponents of 1, of 2, of 4 and of 8, and of the half of any size but 1
+-- the exponents of 1, and of the half of any size but 1
 pub exponent-none : (k : ℕ) → 2 ^ k ≡ 1 → k ≡ 0
 exponent-none zero e = refl
 exponent-none (suc k) e = absurd (omega (arith, twice k, pow-pos k))
-
-pub exponent-one : (k : ℕ) → 2 ^ k ≡ 2 → k ≡ 1
-exponent-one zero e = absurd (omega arith)
-exponent-one (suc k) e = ap suc (exponent-none k (omega (arith, twice k)))
-
-pub exponent-two : (k : ℕ) → 2 ^ k ≡ 4 → k ≡ 2
-exponent-two zero e = absurd (omega arith)
-exponent-two (suc k) e = ap suc (exponent-one k (omega (arith, twice k)))
-
-pub exponent-three : (k : ℕ) → 2 ^ k ≡ 8 → k ≡ 3
-exponent-three zero e = absurd (omega arith)
-exponent-three (suc k) e = ap suc (exponent-two k (omega (arith, twice k)))
 
 pub exponent-less : (n k : ℕ) → n ≡ 2 ^ k → n ≢ 1 → (suc (k - 1) ≡ k) × (n / 2 ≡ 2 ^ (k - 1))
 exponent-less n zero e many = absurd (many e)
@@ -73,16 +61,6 @@ pub one-set : (d : List ℕ) (v : ℕ) → length d ≡ 1 → set d 0 v ≡ v �
 one-set [] v h = absurd (omega arith)
 one-set (x ∷ []) v h = refl
 one-set (x ∷ (y ∷ d)) v h = absurd (omega arith)
-
--- stores into all entries of a list of two, and of four
-pub two-set : (d : List ℕ) (a b : ℕ) → length d ≡ 2 → set (set d 0 a) 1 b ≡ a ∷ (b ∷ [])
-two-set [] a b h = absurd (omega arith)
-two-set (x ∷ d) a b h = ap (λ (l : List ℕ). a ∷ l) (one-set d b (omega arith))
-
-pub four-set : (d : List ℕ) (a b c e : ℕ) → length d ≡ 4 → set (set (set (set d 0 a) 1 b) 2 c) 3 e ≡ a ∷ (b ∷ (c ∷ (e ∷ [])))
-four-set [] a b c e h = absurd (omega arith)
-four-set (x ∷ []) a b c e h = absurd (omega arith)
-four-set (x ∷ (y ∷ d)) a b c e h = ap (λ (l : List ℕ). a ∷ (b ∷ l)) (two-set d c e (omega arith))
 
 -- the slice d, once its first half has become e
 module _ (h : ℕ) (d e : List ℕ) (two : length d ≡ h + h) (first : length e ≡ h) where

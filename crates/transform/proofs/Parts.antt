@@ -1,5 +1,5 @@
 -- What the code's transform gives for the words of a list at places a step apart, and that it is joined from what it gives for every
--- second of these places, also where two halves of a slice hold these; and what it gives for one, two and four words. Assumes nothing.
+-- second of these places, also where two halves of a slice hold these; and what it gives for one word. Assumes nothing.
 use mathlib.Core.Path.{_≡_, sym, ap, ap₂, _∙_, subst⁻¹}
 use mathlib.Core.List.{List, [], _∷_, _++_, map}
 use Prim.Native.Nat.{ℕ, suc, _+_, _*_, _/_, _^_}
@@ -10,9 +10,9 @@ use Rattle.algebra.specs.Lists.{tabulate}
 use Rattle.algebra.proofs.ListLaws.{tabulate-ext}
 use Rattle.algebra.proofs.PolynomialLaws.{length-tabulate, getD-tabulate, length-scale}
 use Rattle.algebra.specs.Halving.{evens, odds, join, transform}
-use Rattle.algebra.proofs.HalvingLaws.{twice, evens-tabulate, odds-tabulate, transform-two, transform-four}
+use Rattle.algebra.proofs.HalvingLaws.{twice, evens-tabulate, odds-tabulate}
 use Rattle.field.specs.Prime.{Prime}
-use Rattle.field.specs.Element.{Elem, of, 𝟘, _⊕_, _⊗_, _⊖_, words}
+use Rattle.field.specs.Element.{Elem, of, 𝟘, _⊗_, words}
 use Rattle.field.proofs.ElementLaws.{primeRing}
 use Rattle.domain.specs.Polynomial.{_·_}
 use Rattle.domain.proofs.Fill.{length-words}
@@ -49,36 +49,6 @@ module _ {q : Prime} (factor : ℕ) (input : List ℕ) where
   part-single w from step =
       let e : from + step * 0 ≡ from = omega (arith, mul-zero step) in
       ap (λ n. (of factor ⊗ of (getD input n 0)) ∷ []) e
-
-  -- the word at a place, times the factor
-  abbrev pub word-at-place : ℕ → Elem q
-  word-at-place n = of factor ⊗ of (getD input n 0)
-
-  pub part-two : (w : Elem q) (from step : ℕ)
-      → transform (primeRing q) 1 w (spread factor input from step 2)
-      ≡ word-at-place from ⊕ word-at-place (from + step) ∷ (word-at-place from ⊖ word-at-place (from + step) ∷ [])
-  part-two w from step =
-      let first : from + step * 0 ≡ from = omega (arith, mul-zero step) in
-      let second : from + step * 1 ≡ from + step = omega arith in
-      transform-two (primeRing q) w (taken from step 0) (taken from step 1)
-      ∙ ap₂ (λ (m n : ℕ). word-at-place m ⊕ word-at-place n ∷ (word-at-place m ⊖ word-at-place n ∷ [])) first second
-
-  -- what the transform gives for four words
-  abbrev four : Elem q → Elem q → Elem q → Elem q → Elem q → List (Elem q)
-  four w a b c d = (a ⊕ c ⊕ (b ⊕ d)) ∷ ((a ⊖ c ⊕ w ⊗ (b ⊖ d)) ∷ ((a ⊕ c ⊖ (b ⊕ d)) ∷ ((a ⊖ c ⊖ w ⊗ (b ⊖ d)) ∷ [])))
-
-  pub part-four : (w : Elem q) (from step : ℕ)
-      → transform (primeRing q) 2 w (spread factor input from step 4)
-      ≡ four w (word-at-place from) (word-at-place (from + step)) (word-at-place (from + step + step))
-      (word-at-place (from + step + step + step))
-  part-four w from step =
-      let at-0 : from + step * 0 ≡ from = omega (arith, mul-zero step) in
-      let at-1 : from + step * 1 ≡ from + step = omega arith in
-      let at-2 : from + step * 2 ≡ from + step + step = omega arith in
-      let at-3 : from + step * 3 ≡ from + step + step + step = omega arith in
-      transform-four (primeRing q) w (taken from step 0) (taken from step 1) (taken from step 2) (taken from step 3)
-      ∙ ap₂ (λ (k l : ℕ). four w (word-at-place k) (word-at-place l) (taken from step 2) (taken from step 3)) at-0 at-1
-      ∙ ap₂ (λ (m n : ℕ). four w (word-at-place from) (word-at-place (from + step)) (word-at-place m) (word-at-place n)) at-2 at-3
 
   part-joined : (k : ℕ) (w : Elem q) (from step : ℕ)
       → join (primeRing q) (2 ^ k) w (part k (w ⊗ w) from (step + step)) (part k (w ⊗ w) (from + step) (step + step)) ≡ part (suc k) w

@@ -1,7 +1,7 @@
-// The transform by halves between the coefficients of a polynomial and its values on a domain, on words. The modulus p and the root g
-// are parameters; input words of p or more stand for their remainders. Results are field words. The powers that halves are joined with come
-// in a table by levels: the h words from place h on are the powers of a root of order 2h. A second table has the quotients that prepare
-// products by them.
+// The transform by halves between the coefficients of a polynomial and its values on a domain, on words: it calls itself on half sizes, the
+// size falling, down to one element. The modulus p and the root g are parameters; input words of p or more stand for their remainders.
+// Results are field words. The powers that halves are joined with come in a table by levels: the h words from place h on are the powers of
+// a root of order 2h. A second table has the quotients that prepare products by them.
 ghost use mathlib.Core.Path.{_≡_};
 ghost use mathlib.Core.Bool.{true};
 ghost use mathlib.Core.List.{List, _++_, map};
@@ -71,8 +71,9 @@ pub fn fill_inverse_tables(p: u32, g: u32, powers: &mut [u32], quotients: &mut [
 }
 
 // The two halves of the slice are joined in place: each i-th word of the second is multiplied by the i-th power of its level, then added to
-// the i-th word of the first, and subtracted from it.
+// the i-th word of the first, and subtracted from it. The first power is 1 and takes no product, so that two words take none at all.
 fn join(p: u32, powers: &[u32], quotients: &[u32], out: &mut [u32])
+    requires { ⌜ 1 < length (now out) ⌝ }
     requires { ⌜ (length (now out) ≤ length (now powers)) × (length (now out) ≤ length (now quotients)) ⌝ }
     ensures { λ _. ⌜ ((q : Prime) → q .p ≡ p → p < 2 ^ 31 → (w : Elem q) → LevelOf (length (now (out .entry)) / 2) w (now (powers .entry))
         → Prepared p (now (powers .entry)) (now (quotients .entry))
@@ -81,7 +82,11 @@ fn join(p: u32, powers: &[u32], quotients: &[u32], out: &mut [u32])
         → now (out .exit) ≡ words (joining (primeRing q) (length (now (out .entry)) / 2) w e o)) ⌝ }
 {
     let half = out.len() / 2;
-    let mut i = 0;
+    let first = out[0];
+    let second = out[half];
+    out[0] = field::add_reduced(p, first, second);
+    out[half] = field::subtract_reduced(p, first, second);
+    let mut i = 1;
     while i < half {
         let j = half + i;
         let even = out[i];
@@ -92,108 +97,9 @@ fn join(p: u32, powers: &[u32], quotients: &[u32], out: &mut [u32])
     }
 }
 
-// The transform of two words of the input, each times the factor.
-fn transform_two(p: u32, factor: u32, input: &[u32], from: usize, step: usize, out: &mut [u32])
-    requires { ⌜ 0 < p ⌝ }
-    requires { ⌜ length (now out) ≡ 2 ⌝ }
-    requires { ⌜ from + step < length (now input) ⌝ }
-    ensures { λ _. ⌜ ((q : Prime) → q .p ≡ p → (w : Elem q)
-        → now (out .exit) ≡ words (transforming (primeRing q) 1 w (spread factor (now (input .entry)) from step 2))) ⌝ }
-{
-    let second = from + step;
-    let a = field::multiply(p, factor, input[from]);
-    let b = field::multiply(p, factor, input[second]);
-    out[0] = field::add_reduced(p, a, b);
-    out[1] = field::subtract_reduced(p, a, b);
-}
-
-// The transform of four words of the input, each times the factor: the sum and the difference of the even ones, and of the odd ones.
-fn transform_four(
-    p: u32,
-    factor: u32,
-    powers: &[u32],
-    quotients: &[u32],
-    input: &[u32],
-    from: usize,
-    step: usize,
-    out: &mut [u32],
-)
-    requires { ⌜ 0 < p ⌝ }
-    requires { ⌜ length (now out) ≡ 4 ⌝ }
-    requires { ⌜ from + step + step + step < length (now input) ⌝ }
-    requires { ⌜ (4 ≤ length (now powers)) × (4 ≤ length (now quotients)) ⌝ }
-    ensures { λ _. ⌜ ((q : Prime) → q .p ≡ p → p < 2 ^ 31 → (w : Elem q) → LevelOf 2 w (now (powers .entry))
-        → Prepared p (now (powers .entry)) (now (quotients .entry))
-        → now (out .exit) ≡ words (transforming (primeRing q) 2 w (spread factor (now (input .entry)) from step 4))) ⌝ }
-{
-    let second = from + step;
-    let third = second + step;
-    let fourth = third + step;
-    let a = field::multiply(p, factor, input[from]);
-    let b = field::multiply(p, factor, input[second]);
-    let c = field::multiply(p, factor, input[third]);
-    let d = field::multiply(p, factor, input[fourth]);
-    let even = field::add_reduced(p, a, c);
-    let odd = field::add_reduced(p, b, d);
-    let turned = field::multiply_prepared(
-        p,
-        powers[3],
-        quotients[3],
-        field::subtract_reduced(p, b, d),
-    );
-    let rest = field::subtract_reduced(p, a, c);
-    out[0] = field::add_reduced(p, even, odd);
-    out[1] = field::add_reduced(p, rest, turned);
-    out[2] = field::subtract_reduced(p, even, odd);
-    out[3] = field::subtract_reduced(p, rest, turned);
-}
-
-// The transform of eight words of the input, each times the factor: the even four and the odd four, joined.
-fn transform_eight(
-    p: u32,
-    factor: u32,
-    powers: &[u32],
-    quotients: &[u32],
-    input: &[u32],
-    from: usize,
-    step: usize,
-    out: &mut [u32],
-)
-    requires { ⌜ 0 < p ⌝ }
-    requires { ⌜ length (now out) ≡ 8 ⌝ }
-    requires { ⌜ from + step * 7 < length (now input) ⌝ }
-    requires { ⌜ (8 ≤ length (now powers)) × (8 ≤ length (now quotients)) ⌝ }
-    ensures { λ _. ⌜ ((q : Prime) → q .p ≡ p → p < 2 ^ 31 → (w : Elem q) → Levels 3 w (now (powers .entry))
-        → Prepared p (now (powers .entry)) (now (quotients .entry))
-        → now (out .exit) ≡ words (transforming (primeRing q) 3 w (spread factor (now (input .entry)) from step 8))) ⌝ }
-{
-    let twice = step + step;
-    let second = from + step;
-    transform_four(
-        p,
-        factor,
-        powers,
-        quotients,
-        input,
-        from,
-        twice,
-        &mut out[..4],
-    );
-    transform_four(
-        p,
-        factor,
-        powers,
-        quotients,
-        input,
-        second,
-        twice,
-        &mut out[4..],
-    );
-    join(p, powers, quotients, out);
-}
-
-// The words of the input at the places from, from + step, .., each times the factor, transformed into the slice. Two, four and eight
-// words are done at once, which is what the halvings would do.
+// The words of the input at the places from, from + step, .., each times the factor, transformed into the slice. It calls itself on half
+// sizes, down to one element: the even ones of these words go into the first half of the slice, the odd ones into the second. Then it
+// joins the halves.
 fn transform(
     p: u32,
     factor: u32,
@@ -214,18 +120,6 @@ fn transform(
 {
     if out.len() == 1 {
         out[0] = field::multiply(p, factor, input[from]);
-        return;
-    }
-    if out.len() == 2 {
-        transform_two(p, factor, input, from, step, out);
-        return;
-    }
-    if out.len() == 4 {
-        transform_four(p, factor, powers, quotients, input, from, step, out);
-        return;
-    }
-    if out.len() == 8 {
-        transform_eight(p, factor, powers, quotients, input, from, step, out);
         return;
     }
     let half = out.len() / 2;

@@ -14,13 +14,9 @@ use Rattle.field.specs.Element.{Elem, _⊗_, words}
 use Rattle.field.proofs.multiply.Reads as multiply-reads
 use Rattle.domain.specs.Size.{isSize}
 use Rattle.transform.specs.Reading.{Levels}
-use Rattle.transform.proofs.Halves.{Halved, halved, exponent-none, exponent-one, exponent-two, exponent-three, exponent-less}
-use Rattle.transform.proofs.Halves.{one-set, second-length, both-halves}
+use Rattle.transform.proofs.Halves.{Halved, halved, exponent-none, exponent-less, one-set, second-length, both-halves}
 use Rattle.transform.proofs.Parts.{part, part-single, halves-joined}
 use Rattle.transform.proofs.join.Reads as join-reads
-use Rattle.transform.proofs.transform_two.Reads as two-reads
-use Rattle.transform.proofs.transform_four.Reads as four-reads
-use Rattle.transform.proofs.transform_eight.Reads as eight-reads
 use Rattle.transform.proofs.transform.Reads as transform
 use Rattle.transform.proofs.transform.Kinds as transform-kinds
 use Rattle.transform.proofs.+transform.Lts-transform as lts
@@ -40,12 +36,6 @@ abbrev claims : ℕ → lts.Claims
 claims t = (
   multiply-reads.Asked,
   multiply-reads.Learnt,
-  two-reads.Asked,
-  two-reads.Learnt,
-  four-reads.Asked,
-  four-reads.Learnt,
-  eight-reads.Asked,
-  eight-reads.Learnt,
   below t,
   transform.Post,
   join-reads.Asked,
@@ -69,33 +59,14 @@ asked t p from step m powers quotients h n whole e less fewer positive size with
 
 module _ (t : ℕ) where
   -- the way back from a place in the code to an earlier one
-  abbrev start-from-else4 : lts.Else4 (claims t) (at t) transform.Post → lts.Start (claims t) (at t) transform.Post
-  start-from-else4 c = c .before .before .before .before .before .before .before .before
+  abbrev start-from-else1 : lts.Else1 (claims t) (at t) transform.Post → lts.Start (claims t) (at t) transform.Post
+  start-from-else1 c = c .before .before .before .before .before
 
   abbrev start-from-then1 : lts.Then1 (claims t) (at t) transform.Post → lts.Start (claims t) (at t) transform.Post
   start-from-then1 c = c .before .before .before .before .before
 
-  abbrev start-from-then2 : lts.Then2 (claims t) (at t) transform.Post → lts.Start (claims t) (at t) transform.Post
-  start-from-then2 c = c .before .before .before .before .before .before
-
-  abbrev start-from-transform-two : lts.After-transform-two (claims t) (at t) transform.Post → lts.Start (claims t) (at t) transform.Post
-  start-from-transform-two c = c .before .before .before .before .before .before .before .before
-
-  abbrev start-from-then3 : lts.Then3 (claims t) (at t) transform.Post → lts.Start (claims t) (at t) transform.Post
-  start-from-then3 c = c .before .before .before .before .before .before .before
-
-  abbrev start-from-transform-four : lts.After-transform-four (claims t) (at t) transform.Post → lts.Start (claims t) (at t) transform.Post
-  start-from-transform-four c = start-from-then3 (c .before .before)
-
-  abbrev start-from-then4 : lts.Then4 (claims t) (at t) transform.Post → lts.Start (claims t) (at t) transform.Post
-  start-from-then4 c = c .before .before .before .before .before .before .before .before
-
-  abbrev start-from-transform-eight : lts.After-transform-eight (claims t) (at t) transform.Post
-      → lts.Start (claims t) (at t) transform.Post
-  start-from-transform-eight c = start-from-then4 (c .before .before)
-
   abbrev start-from-transform : lts.After-transform (claims t) (at t) transform.Post → lts.Start (claims t) (at t) transform.Post
-  start-from-transform c = start-from-else4 (c .before .before)
+  start-from-transform c = start-from-else1 (c .before .before)
 
   abbrev start-from-transform2 : lts.After-transform2 (claims t) (at t) transform.Post → lts.Start (claims t) (at t) transform.Post
   start-from-transform2 c = start-from-transform (c .before .before .before .before)
@@ -106,29 +77,23 @@ module _ (t : ℕ) where
   abbrev transform-from-join : lts.After-join (claims t) (at t) transform.Post → lts.After-transform (claims t) (at t) transform.Post
   transform-from-join c = c .before .before .before .before .before .before .before .before
 
-  abbrev else4-from-transform2 : lts.After-transform2 (claims t) (at t) transform.Post → lts.Else4 (claims t) (at t) transform.Post
-  else4-from-transform2 c = c .before .before .before .before .before .before
-
-  abbrev else4-from-join : lts.After-join (claims t) (at t) transform.Post → lts.Else4 (claims t) (at t) transform.Post
-  else4-from-join c = else4-from-transform2 (c .before .before .before .before)
-
-  abbrev start-from-join : lts.After-join (claims t) (at t) transform.Post → lts.Start (claims t) (at t) transform.Post
-  start-from-join c = start-from-transform2 (c .before .before .before .before)
-
   abbrev else1-from-transform2 : lts.After-transform2 (claims t) (at t) transform.Post → lts.Else1 (claims t) (at t) transform.Post
-  else1-from-transform2 c = c .before .before .before .before .before .before .before .before .before
+  else1-from-transform2 c = c .before .before .before .before .before .before
 
   abbrev else1-from-join : lts.After-join (claims t) (at t) transform.Post → lts.Else1 (claims t) (at t) transform.Post
   else1-from-join c = else1-from-transform2 (c .before .before .before .before)
 
+  abbrev start-from-join : lts.After-join (claims t) (at t) transform.Post → lts.Start (claims t) (at t) transform.Post
+  start-from-join c = start-from-transform2 (c .before .before .before .before)
+
   -- where the slice has two halves
-  halves : (c : lts.Else4 (claims t) (at t) transform.Post)
-      → Halved (length (start-from-else4 c .args .out .now)) (start-from-else4 c .args .from)
-      (start-from-else4 c .args .step) (length (start-from-else4 c .args .input .now))
+  halves : (c : lts.Else1 (claims t) (at t) transform.Post)
+      → Halved (length (start-from-else1 c .args .out .now)) (start-from-else1 c .args .from)
+      (start-from-else1 c .args .step) (length (start-from-else1 c .args .input .now))
   halves c =
-      let s = start-from-else4 c in
+      let s = start-from-else1 c in
       halved (length (s .args .out .now)) (s .args .from) (s .args .step) (length (s .args .input .now))
-      (s .pre .1 .1 .0) (c .before .before .before .if1 .left) (s .pre .1 .1 .1 .0)
+      (s .pre .1 .1 .0) (c .if1 .left) (s .pre .1 .1 .1 .0)
 
   mul-multiply : lts.Need-mul-multiply (claims t) (at t) transform.Post
   mul-multiply c = omega (arith, start-from-then1 c .pre .1 .1 .1 .0)
@@ -154,74 +119,6 @@ module _ (t : ℕ) where
       ∙ ap words (sym (part-single (a .factor) (a .input .now) w (a .from) (a .step)))
       ∙ ap (λ (j : ℕ). words (part (a .factor) (a .input .now) j w (a .from) (a .step))) (sym (exponent-none k (sym size ∙ one)))
 
-  transform-two-requires : lts.Need-transform-two-requires (claims t) (at t) transform.Post
-  transform-two-requires c κs =
-      let s = start-from-then2 (c .before) in
-      let two : length (s .args .out .now) ≡ 2 = c .before .if2 .taken in
-      (s .pre .1 .0, (two, omega (arith, s .pre .1 .1 .1 .0, ap (λ (n : ℕ). s .args .step * (n - 1)) two)))
-
-  same-length-2 : lts.Need-same-length-2 (claims t) (at t) transform.Post
-  same-length-2 c = search needs
-
-  returns-2 : lts.Need-returns-2 (claims t) (at t) transform.Post
-  returns-2 c q e small w k size levels prepared =
-      let a = start-from-transform-two (c .before .before) .args in
-      let two : length (a .out .now) ≡ 2 = c .before .before .before .before .if2 .taken in
-      c .before .before .transform-two .ensures q e w
-      ∙ ap (λ (j : ℕ). words (part (a .factor) (a .input .now) j w (a .from) (a .step))) (sym (exponent-one k (sym size ∙ two)))
-
-  transform-four-requires : lts.Need-transform-four-requires (claims t) (at t) transform.Post
-  transform-four-requires c κs =
-      let s = start-from-then3 (c .before) in
-      let four : length (s .args .out .now) ≡ 4 = c .before .if3 .taken in
-      let in-powers = s .pre .1 .1 .1 .1 .0 in
-      let in-quotients = s .pre .1 .1 .1 .1 .1 in (
-        s .pre .1 .0,
-        (
-          four,
-          (
-            omega (arith, s .pre .1 .1 .1 .0, ap (λ (n : ℕ). s .args .step * (n - 1)) four),
-            (omega (arith, in-powers), omega (arith, in-quotients)),
-          ),
-        ),
-      )
-
-  same-length-3 : lts.Need-same-length-3 (claims t) (at t) transform.Post
-  same-length-3 c = search needs
-
-  returns-3 : lts.Need-returns-3 (claims t) (at t) transform.Post
-  returns-3 c q e small w k size levels prepared =
-      let a = start-from-transform-four (c .before .before) .args in
-      let two : k ≡ 2 = exponent-two k (sym size ∙ c .before .before .before .before .if3 .taken) in
-      c .before .before .transform-four .ensures q e small w (subst (λ (j : ℕ). Levels j w (a .powers .now)) two levels .0) prepared
-      ∙ ap (λ (j : ℕ). words (part (a .factor) (a .input .now) j w (a .from) (a .step))) (sym two)
-
-  transform-eight-requires : lts.Need-transform-eight-requires (claims t) (at t) transform.Post
-  transform-eight-requires c κs =
-      let s = start-from-then4 (c .before) in
-      let eight : length (s .args .out .now) ≡ 8 = c .before .if4 .taken in
-      let in-powers = s .pre .1 .1 .1 .1 .0 in
-      let in-quotients = s .pre .1 .1 .1 .1 .1 in (
-        s .pre .1 .0,
-        (
-          eight,
-          (
-            omega (arith, s .pre .1 .1 .1 .0, ap (λ (n : ℕ). s .args .step * (n - 1)) eight),
-            (omega (arith, in-powers), omega (arith, in-quotients)),
-          ),
-        ),
-      )
-
-  same-length-4 : lts.Need-same-length-4 (claims t) (at t) transform.Post
-  same-length-4 c = search needs
-
-  returns-4 : lts.Need-returns-4 (claims t) (at t) transform.Post
-  returns-4 c q e small w k size levels prepared =
-      let a = start-from-transform-eight (c .before .before) .args in
-      let three : k ≡ 3 = exponent-three k (sym size ∙ c .before .before .before .before .if4 .taken) in
-      c .before .before .transform-eight .ensures q e small w (subst (λ (j : ℕ). Levels j w (a .powers .now)) three levels) prepared
-      ∙ ap (λ (j : ℕ). words (part (a .factor) (a .input .now) j w (a .from) (a .step))) (sym three)
-
   add-twice : lts.Need-add-twice (claims t) (at t) transform.Post
   add-twice c = omega (arith, halves c .room)
 
@@ -233,7 +130,7 @@ module _ (t : ℕ) where
 
   slice-aggregate-transform : lts.Need-slice-aggregate-transform (claims t) (at t) transform.Post
   slice-aggregate-transform c =
-      let a = start-from-else4 (c .before) .args in
+      let a = start-from-else1 (c .before) .args in
       sym (length-take-le (length (a .out .now) / 2) (a .out .now) (omega arith))
 
   -- what the first call left is as long as half
@@ -279,7 +176,7 @@ module _ (t : ℕ) where
 
   transform-requires : lts.Need-transform-requires (claims t) (at t) transform.Post
   transform-requires c κs =
-      let s = start-from-else4 (c .before) in
+      let s = start-from-else1 (c .before) in
       let a = s .args in
       let d : List ℕ = a .out .now in
       let h = halves (c .before) in
@@ -316,23 +213,27 @@ module _ (t : ℕ) where
   join-requires : lts.Need-join-requires (claims t) (at t) transform.Post
   join-requires c κs =
       let g = c .before .before .before in
-      let s = start-from-transform2 (c .before .before .before) in
-      let a = s .args in (
-        subst⁻¹ (λ (n : ℕ). n ≤ length (a .powers .now)) (both-length g) (s .pre .1 .1 .1 .1 .0),
-        subst⁻¹ (λ (n : ℕ). n ≤ length (a .quotients .now)) (both-length g) (s .pre .1 .1 .1 .1 .1),
+      let s = start-from-transform2 g in
+      let a = s .args in
+      let h = halves (else1-from-transform2 g) in (
+        subst⁻¹ (λ (n : ℕ). 1 < n) (both-length g) (omega (arith, h .doubled, h .some)),
+        (
+          subst⁻¹ (λ (n : ℕ). n ≤ length (a .powers .now)) (both-length g) (s .pre .1 .1 .1 .1 .0),
+          subst⁻¹ (λ (n : ℕ). n ≤ length (a .quotients .now)) (both-length g) (s .pre .1 .1 .1 .1 .1),
+        ),
       )
 
-  same-length-5 : lts.Need-same-length-5 (claims t) (at t) transform.Post
-  same-length-5 c = c .before .before .join .kept .1 .1 .1 .0 ∙ both-length (transform2-from-join (c .before .before))
+  same-length-2 : lts.Need-same-length-2 (claims t) (at t) transform.Post
+  same-length-2 c = c .before .before .join .kept .1 .1 .1 .0 ∙ both-length (transform2-from-join (c .before .before))
 
-  returns-5 : lts.Need-returns-5 (claims t) (at t) transform.Post
-  returns-5 c q e small w k size levels prepared =
+  returns-2 : lts.Need-returns-2 (claims t) (at t) transform.Post
+  returns-2 c q e small w k size levels prepared =
       let g = transform2-from-join (c .before .before) in
       let f = transform-from-join (c .before .before) in
-      let l = else4-from-join (c .before .before) in
+      let l = else1-from-join (c .before .before) in
       let a = start-from-join (c .before .before) .args in
       let n : ℕ = length (a .out .now) in
-      let (exponent, half) = exponent-less n k size (else1-from-join (c .before .before) .if1 .left) in
+      let (exponent, half) = exponent-less n k size (l .if1 .left) in
       let both : Levels (suc (k - 1)) w (a .powers .now) = subst⁻¹ (λ (j : ℕ). Levels j w (a .powers .now)) exponent levels in
       let even : List (Elem q) = part (a .factor) (a .input .now) (k - 1) (w ⊗ w) (a .from) (a .step + a .step) in
       let odd : List (Elem q) = part (a .factor) (a .input .now) (k - 1) (w ⊗ w) (a .from + a .step) (a .step + a .step) in
@@ -355,15 +256,6 @@ pub +transform-spec : {M : Type 1} → statement M
     (slice-write-out t)
     (same-length t)
     (returns t)
-    (transform-two-requires t)
-    (same-length-2 t)
-    (returns-2 t)
-    (transform-four-requires t)
-    (same-length-3 t)
-    (returns-3 t)
-    (transform-eight-requires t)
-    (same-length-4 t)
-    (returns-4 t)
     (add-twice t)
     (add-next t)
     (slice-relend-prefix-transform t)
@@ -375,5 +267,5 @@ pub +transform-spec : {M : Type 1} → statement M
     (part-transform-end t)
     (transform-requires-2 t)
     (join-requires t)
-    (same-length-5 t)
-    (returns-5 t)
+    (same-length-2 t)
+    (returns-2 t)
