@@ -6,22 +6,22 @@ use native.Mathlib.Omega.{arith}
 use Rattle.algebra.specs.Counting.{All}
 use Rattle.protocol.specs.Three.{listed}
 use Rattle.protocol.specs.Circuit.{Sizes, largest}
-use Rattle.protocol.specs.Messages.{Messages, lengths}
+use Rattle.protocol.specs.Messages.{MessageLengths, lengths}
 use Rattle.protocol.specs.Record.{sectionLengths, sectionBytes}
 
 -- the words of the sections by the table of messages
-abbrev pub rowWords : Messages ℕ ℕ → ℕ
+abbrev pub rowWords : MessageLengths → ℕ
 rowWords table = table .witness + table .mask + table .rowQuotient + 3
 
-abbrev pub lineWords : Messages ℕ ℕ → ℕ
+abbrev pub lineWords : MessageLengths → ℕ
 lineWords table = table .lineRemainder + table .lineQuotient + 3
 
-abbrev pub matrixWords : Messages ℕ ℕ → ℕ
+abbrev pub matrixWords : MessageLengths → ℕ
 matrixWords table =
     table .matrixRemainders .a + table .matrixRemainders .b + table .matrixRemainders .c + table .joinedQuotient
 
 pub words-add-up :
-    (s : Sizes) (table : Messages ℕ ℕ) → table ≡ lengths s → 4 * (rowWords table + lineWords table + matrixWords table) ≡ sectionBytes s
+    (s : Sizes) (table : MessageLengths) → table ≡ lengths s → 4 * (rowWords table + lineWords table + matrixWords table) ≡ sectionBytes s
 unfolding sectionLengths sectionBytes
 words-add-up s table same = rw (← same) (omega arith)
 

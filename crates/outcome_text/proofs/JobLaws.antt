@@ -6,7 +6,7 @@ use mathlib.Core.Option.{Option, none, some}
 use Prim.Native.Nat.{ℕ, zero, suc, _*_, _/_, _<_}
 use lib.Dec.{lit<}
 use native.Mathlib.Omega.{arith}
-use lib.ListN.{length, getD}
+use lib.ListN.{getD}
 use Rattle.algebra.specs.Lists.{tabulate}
 use Rattle.algebra.specs.Counting.{All}
 use Rattle.algebra.proofs.Counting.{append-all}
@@ -15,22 +15,20 @@ use Rattle.field.proofs.Words.{words-back}
 use Rattle.domain.specs.BabyBear.{babyBear}
 use Rattle.domain.specs.Polynomial.{Poly}
 use Rattle.domain.proofs.Qualification.{babyBear-qualifies}
-use Rattle.protocol.specs.Three.{A, B, C, Three, each, listed, mapThree}
+use Rattle.protocol.specs.Three.{Three, listed}
 use Rattle.protocol.specs.Circuit.{Circuit, sizesOf}
 use Rattle.protocol.specs.Checks.{Openings, mapOpenings, listOpenings}
-use Rattle.protocol.specs.Messages.{Messages, mapMessages, lengths, messages}
+use Rattle.protocol.specs.Messages.{Messages, lengths, messages}
 use Rattle.protocol.specs.Refusals.{Refusal, Refused, judged}
 use Rattle.protocol.specs.Admission.{countTests, assignmentTests, proverRefusal}
 use Rattle.protocol.specs.Calls.{ProverInput, entryListTests, roundRefusal}
 use Rattle.protocol.specs.Record.{sections}
 use Rattle.protocol.specs.Session.{Answer, Taken}
 use Rattle.protocol.specs.Job.{Job, challengeWords, challengePoints, jobRefusal, proof, trueOpenings, publicWords, conversation, conversationOn, honestConversation}
-use Rattle.protocol.specs.Demand2.{KeepsRules}
 use Rattle.shared.specs.declared.Opened.{Opened}
 use Rattle.protocol.proofs.AdmissionLaws.{job-fits}
 use Rattle.protocol.proofs.CallsProve.{openings-listed}
-use Rattle.protocol.proofs.Honest.{rules-kept}
-use Rattle.protocol.proofs.JudgedSessions.{lengths-back}
+use Rattle.protocol.proofs.ProofRecords.{lengths-due}
 use Rattle.varuna.specs.declared.answers.IndexesOpened.{IndexesOpened}
 use Rattle.openings.specs.OpeningsGiven.{messageList}
 use Rattle.varuna.specs.Answers.{indexesList}
@@ -83,9 +81,6 @@ module _ (i : ProverInput) (d : Challenges) where
     abbrev sent : Messages (Poly babyBear) (Elem babyBear)
     sent = proof babyBear j
 
-    rules : KeepsRules babyBear c (map of (i .z)) (of (i .r)) (map of (i .m)) (of (j .α)) (mapThree of (j .η)) (of (j .β)) (mapThree of (j .δ)) sent
-    rules = rules-kept babyBear babyBear-qualifies j free
-
     from-z : All (λ w. w < babyBear .p) (i .z) × All (λ w. w < babyBear .p) (i .r ∷ (i .m ++ challengeWords j))
     from-z = append-all (λ w. w < babyBear .p) (i .z) (i .r ∷ (i .m ++ challengeWords j)) (job-fits babyBear j free .words-fit)
 
@@ -100,25 +95,6 @@ module _ (i : ProverInput) (d : Challenges) where
         ∙ words-back babyBear (tabulate (c .|X|) (λ k. getD (i .z) (place k) 0))
         (tabulated-below (c .|X|) (λ k. getD (i .z) (place k) 0) (λ k. picked-below (i .z) (from-z .0) (place k)))
 
-    -- the messages' words are as many as the table says
-    lengths-due : mapMessages length (λ w. 1) (mapMessages words wordOf sent) ≡ lengths (sizesOf c)
-    unfolding lengths
-    lengths-due =
-        lengths-back sent
-        ∙ (λ t.
-        record {
-          witness = rules .witness-length t;
-          mask = rules .mask-length t;
-          rowQuotient = rules .rowQuotient-length t;
-          sums = each (λ M. 1);
-          lineRemainder = rules .lineRemainder-length t;
-          lineQuotient = rules .lineQuotient-length t;
-          values = each (λ M. 1);
-          matrixRemainders =
-              record { a = rules .matrixRemainder-length A t; b = rules .matrixRemainder-length B t; c = rules .matrixRemainder-length C t };
-          joinedQuotient = rules .joinedQuotient-length t;
-        })
-
     abbrev last : Openings ℕ → Answer
     last o = lastAnswer (sizesOf c) (lengths (sizesOf c)) (publicOf (sizesOf c) (i .z)) d (sumWords i (j .α)) (valueWords i (j .α) (j .β)) o
 
@@ -126,7 +102,7 @@ module _ (i : ProverInput) (d : Challenges) where
     last-same : (o : Openings ℕ) → o ≡ mapOpenings wordOf (trueOpenings babyBear j sent) → getD (honestConversation babyBear j) 7 Taken ≡ last o
     unfolding honestConversation conversationOn conversation proof messages sumWords valueWords afterSums afterValues answerAfter
     last-same o e = λ t.
-        lastAnswer (sizesOf c) (lengths-due t) (public-same t) d (sumWords i (j .α)) (valueWords i (j .α) (j .β)) (sym e t)
+        lastAnswer (sizesOf c) (lengths-due babyBear babyBear-qualifies j free t) (public-same t) d (sumWords i (j .α)) (valueWords i (j .α) (j .β)) (sym e t)
 
     -- all stages
     stages-same : (o : Opened) (x : IndexesOpened) → messageList o ++ indexesList x ≡ words (listOpenings (trueOpenings babyBear j sent))

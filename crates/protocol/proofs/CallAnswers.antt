@@ -16,7 +16,7 @@ use Rattle.domain.specs.Size.{maxSize, isSize}
 use Rattle.protocol.specs.Three.{MatrixName, A, B, C, Three, at, listed}
 use Rattle.protocol.specs.Circuit.{Circuit, sizesOf}
 use Rattle.protocol.specs.Index.{Index, listIndex}
-use Rattle.protocol.specs.Messages.{Messages, lengths}
+use Rattle.protocol.specs.Messages.{MessageLengths, lengths}
 use Rattle.protocol.specs.Refusals.{Refusal, judged, after, first, refuse, pairs, sizeRefusal, listRefusal, wordRefusal, inverseOutcome}
 use Rattle.protocol.specs.Admission.{Admitted, countTests, assignmentTests, circuitRefusals, refusalsAfterCircuit, proverRefusal}
 use Rattle.protocol.specs.Calls.{CircuitWords, ProverInput, maxWords, circuitOf, entryListTests, operationCall, powerCall, inverseCall, domainCall, evaluateCall, evaluatePartCall, interpolateCall, evaluateOnDomainCall, indexCall, roundRefusal}
@@ -162,7 +162,7 @@ module _ (q : Prime) where
     abbrev c : Circuit
     c = circuitOf (i .circuit)
 
-    abbrev due : Messages ℕ ℕ
+    abbrev due : MessageLengths
     due = lengths (sizesOf c)
 
     pub round-refuses : (lent given challenges points : List ℕ) → Refuses (roundRows q i lent given challenges points) (roundRefusal q i lent given challenges points)

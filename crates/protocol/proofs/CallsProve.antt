@@ -18,7 +18,7 @@ use Rattle.domain.specs.Qualifies.{Qualifies}
 use Rattle.protocol.specs.Three.{Three, listed, mapThree}
 use Rattle.protocol.specs.Circuit.{Circuit, sizesOf}
 use Rattle.protocol.specs.Checks.{Openings, mapOpenings, listOpenings}
-use Rattle.protocol.specs.Messages.{Messages, mapMessages, lengths, messages}
+use Rattle.protocol.specs.Messages.{Messages, MessageLengths, mapMessages, lengths, messages}
 use Rattle.protocol.specs.Refusals.{Refusal, Done, judged, listRefusal}
 use Rattle.protocol.specs.Admission.{countTests, assignmentTests, circuitRefusals, refusalsAfterCircuit, proverRefusal}
 use Rattle.protocol.specs.Calls.{ProverInput, CircuitWords, entriesOf, circuitOf, entryListTests, roundRefusal}
@@ -94,7 +94,7 @@ module _ (q : Prime) (i : ProverInput) (α : ℕ) (η : Three ℕ) (β : ℕ) (�
 
   module _ (sent : Messages (List ℕ) ℕ) (o : Openings ℕ) (D : CallsDone q i α η β δ γ sent o) where
     -- the proof's parts in words
-    abbrev due : Messages ℕ ℕ
+    abbrev due : MessageLengths
     due = lengths (sizesOf c)
 
     abbrev made : Messages (List ℕ) ℕ

@@ -4,7 +4,6 @@ use mathlib.Core.Path.{_≡_, refl, sym, ap, ap₂, _∙_}
 use mathlib.Core.Bool.{true, _&&_}
 use mathlib.Core.List.{List, [], _∷_, _++_, map}
 use Prim.Native.Nat.{ℕ, _<_}
-use lib.ListN.{length}
 use borrow.Author.Tests.{le-leb}
 use Rattle.algebra.specs.Counting.{All}
 use Rattle.algebra.proofs.Counting.{append-all}
@@ -16,7 +15,7 @@ use Rattle.domain.specs.Polynomial.{Poly}
 use Rattle.protocol.specs.Three.{A, B, C, Three, listed, mapThree}
 use Rattle.protocol.specs.Circuit.{Circuit, sizesOf, publicPart}
 use Rattle.protocol.specs.Checks.{Openings, mapOpenings, verdict}
-use Rattle.protocol.specs.Messages.{Messages, mapMessages, Short}
+use Rattle.protocol.specs.Messages.{Messages, mapMessages, lengthsOf, Short}
 use Rattle.protocol.specs.Refusals.{sizeTests, sixSizeTests}
 use Rattle.protocol.specs.Session.{unopened, answers}
 use Rattle.protocol.specs.Conversation.{Challenges, mapChallenges, steps, transcriptOf, endingIn}
@@ -64,7 +63,7 @@ module _ (q : Prime) (j : Job) (F : JobFits q j) where
         γ = word-of q (j .γ) γ i;
       }
 
-  pub conversation-judged : (sent : Messages (Poly q) (Elem q)) → Short (sizesOf c) (mapMessages length (λ e. 1) sent) → (o : Openings (Elem q))
+  pub conversation-judged : (sent : Messages (Poly q) (Elem q)) → Short (sizesOf c) (lengthsOf sent) → (o : Openings (Elem q))
       → conversationOn q j sent o ≡ endingIn (verdict (sizesOf c) x (transcriptOf t sent) o)
   unfolding conversationOn conversation publicWords publicPart sizesOf
   conversation-judged sent short o =

@@ -15,7 +15,7 @@ use Rattle.domain.specs.Qualifies.{Qualifies}
 use Rattle.protocol.specs.Three.{A, B, C, Three, listed, mapThree}
 use Rattle.protocol.specs.Circuit.{Circuit, sizesOf, largest}
 use Rattle.protocol.specs.Checks.{mapOpenings, listOpenings}
-use Rattle.protocol.specs.Messages.{Messages, mapMessages, lengths, messages}
+use Rattle.protocol.specs.Messages.{Messages, MessageLengths, mapMessages, lengths, messages}
 use Rattle.protocol.specs.Refusals.{Done, judged}
 use Rattle.protocol.specs.Admission.{entryValues}
 use Rattle.protocol.specs.Calls.{ProverInput, roundRefusal}
@@ -56,7 +56,7 @@ module _ (q : Prime) (Q : Qualifies q) (i : ProverInput) (α : ℕ) (η : Three 
   abbrev c : Circuit
   c = j .circuit
 
-  abbrev due : Messages ℕ ℕ
+  abbrev due : MessageLengths
   due = lengths (sizesOf c)
 
   abbrev sent : Messages (List ℕ) ℕ

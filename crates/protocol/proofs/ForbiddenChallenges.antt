@@ -13,7 +13,7 @@ use Rattle.field.proofs.ElementLaws.{of-word}
 use Rattle.domain.specs.Domain.{Outside}
 use Rattle.protocol.specs.Circuit.{Circuit, Sizes, sizesOf, largest, BeginsWithOne}
 use Rattle.protocol.specs.Checks.{Openings, mapOpenings}
-use Rattle.protocol.specs.Messages.{mapMessages, Short}
+use Rattle.protocol.specs.Messages.{mapMessages, lengthsOf, Short}
 use Rattle.protocol.specs.Refusals.{Refusal, turnRefusal}
 use Rattle.protocol.specs.Admission.{Admitted}
 use Rattle.protocol.specs.Session.{Session, Stepped, Step, Alpha, Beta, Gamma, Taken, Judged, Refused, outOfTurn, unopened, inTurn}
@@ -29,7 +29,7 @@ use Rattle.protocol.proofs.Conversation.{six-sizes}
 
 pub allowed-judged :
     {q : Prime} (c : Circuit) → Admitted q c → (x : List (Elem q)) → length x ≡ c .|X| → BeginsWithOne x → (P : Strategy q) (t : Challenges (Elem q))
-    → Short (sizesOf c) (mapMessages length (λ e. 1) (messagesOf P t)) → Allowed c t
+    → Short (sizesOf c) (lengthsOf (messagesOf P t)) → Allowed c t
     → (answer c x P t 6 ≡ Judged (judgement c x P t)) × (answer c x P t 7 ≡ Judged (judgement c x P t))
 unfolding sizesOf
 allowed-judged {q} c admitted x x-length begins P t short (α, β, γ) =

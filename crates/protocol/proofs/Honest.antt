@@ -18,7 +18,7 @@ use Rattle.protocol.specs.Three.{A, B, C, Three, mapThree}
 use Rattle.protocol.specs.Circuit.{Circuit, sizesOf, Satisfied, publicPart, extension}
 use Rattle.protocol.specs.Index.{indexAt, index}
 use Rattle.protocol.specs.Checks.{Openings, mapOpenings, Accept, weighted, lineLeft, matrixLeft, joinedLeft, joinedRight, verdict}
-use Rattle.protocol.specs.Messages.{Short, Messages, mapMessages, lengths, witness, assignment, image, sums, values, line, matrixRemainder, matrixQuotient, messages, openings}
+use Rattle.protocol.specs.Messages.{Short, Messages, mapMessages, lengthsOf, lengths, witness, assignment, image, sums, values, line, matrixRemainder, matrixQuotient, messages, openings}
 use Rattle.protocol.specs.Session.{Session, Ask, Taken, Judged, unopened, askStep, commitStep, after}
 use Rattle.protocol.specs.Conversation.{transcriptOf, hearingMessages, endingIn}
 use Rattle.protocol.specs.Job.{Job, challenges, publicWords, jobRefusal, proof, trueOpenings, conversation, conversationOn, honestConversation}
@@ -124,7 +124,7 @@ module _ {q : Prime} (Q : Qualifies q) (j : Job) (F : JobFits q j) where
   abbrev sent : Messages (Poly q) (Elem q)
   sent = proof q j
 
-  short : Short (sizesOf c) (mapMessages length (λ e. 1) sent)
+  short : Short (sizesOf c) (lengthsOf sent)
   short =
       let K = keeps-rules in
       record {

@@ -14,11 +14,11 @@ use Rattle.field.proofs.ElementLaws.{of-word, word-below}
 use Rattle.field.proofs.Words.{of-words}
 use Rattle.domain.specs.Domain.{Outside}
 use Rattle.domain.specs.Polynomial.{Poly}
-use Rattle.protocol.specs.Three.{Three, each, listed, mapThree}
+use Rattle.protocol.specs.Three.{Three, listed, mapThree}
 use Rattle.protocol.specs.Circuit.{Sizes, largest, BeginsWithOne}
 use Rattle.protocol.specs.Index.{Index, mapIndex}
 use Rattle.protocol.specs.Checks.{Transcript, Openings, mapTranscript, mapOpenings, listOpenings, Verdict, verdict}
-use Rattle.protocol.specs.Messages.{Messages, mapMessages, Short}
+use Rattle.protocol.specs.Messages.{Messages, MessageLengths, mapMessages, lengthsOf, Short}
 use Rattle.protocol.specs.Refusals.{sixSizeTests}
 use Rattle.protocol.specs.Session.{Session, Answer, Taken, Judged, unopened, after, answers, commitStep, verdictOf}
 use Rattle.protocol.specs.Conversation.{Challenges, mapChallenges, transcriptOf, hearing, steps, endingIn}
@@ -66,7 +66,7 @@ module _ {q : Prime} where
 
   -- the declared lengths
   pub lengths-back : (sent : Messages (Poly q) (Elem q))
-      → _≡_ {A = Messages ℕ ℕ} (mapMessages length (λ e. 1) (mapMessages words wordOf sent)) (mapMessages length (λ e. 1) sent)
+      → lengthsOf (mapMessages words wordOf sent) ≡ lengthsOf sent
   lengths-back sent =
       let same : (f : Poly q) → length (words f) ≡ length f = λ f. length-map f wordOf in
       λ i.
@@ -74,10 +74,8 @@ module _ {q : Prime} where
         witness = same (sent .witness) i;
         mask = same (sent .mask) i;
         rowQuotient = same (sent .rowQuotient) i;
-        sums = each (λ M. 1);
         lineRemainder = same (sent .lineRemainder) i;
         lineQuotient = same (sent .lineQuotient) i;
-        values = each (λ M. 1);
         matrixRemainders =
             record { a = same (sent .matrixRemainders .a) i; b = same (sent .matrixRemainders .b) i; c = same (sent .matrixRemainders .c) i };
         joinedQuotient = same (sent .joinedQuotient) i;
@@ -89,7 +87,7 @@ module _ {q : Prime} (s : Sizes) (x : List (Elem q)) (t : Challenges (Elem q)) (
     pub sizes-allowed : All (λ test. test ≡ true) (sixSizeTests s)
     pub x-length : length x ≡ s .|X|
     pub x-begins : BeginsWithOne x
-    pub short : Short s (mapMessages length (λ e. 1) sent)
+    pub short : Short s (lengthsOf sent)
     pub α-outside : Outside (s .|R|) (t .α)
     pub β-outside : Outside (s .|C|) (t .β)
     pub γ-outside : Outside (largest (s .|K|)) (t .γ)
@@ -99,8 +97,8 @@ module _ {q : Prime} (s : Sizes) (x : List (Elem q)) (t : Challenges (Elem q)) (
   abbrev heardWords : Transcript ℕ
   heardWords = mapTranscript wordOf (transcriptOf t sent)
 
-  abbrev declared : Messages ℕ ℕ
-  declared = mapMessages length (λ e. 1) (mapMessages words wordOf sent)
+  abbrev declared : MessageLengths
+  declared = lengthsOf (mapMessages words wordOf sent)
 
   fitting : {o : Openings (Elem q)} {v : Verdict} → JudgedSession o v → Fitting q s (words x) heardWords declared
   fitting J =

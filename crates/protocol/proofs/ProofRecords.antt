@@ -3,7 +3,7 @@ use mathlib.Core.Path.{_≡_, refl, ap, _∙_}
 use mathlib.Core.List.{List, [], _∷_, _++_, map, foldr}
 use mathlib.Core.Option.{none}
 use Prim.Native.Nat.{ℕ, _<_}
-use lib.ListN.{length, getD, length-map}
+use lib.ListN.{length, getD}
 use Rattle.algebra.specs.Counting.{All}
 use Rattle.algebra.proofs.Counting.{all-append}
 use Rattle.field.specs.Prime.{Prime}
@@ -12,7 +12,7 @@ use Rattle.domain.specs.Polynomial.{Poly}
 use Rattle.domain.specs.Qualifies.{Qualifies}
 use Rattle.protocol.specs.Three.{A, B, C}
 use Rattle.protocol.specs.Circuit.{Sizes, sizesOf}
-use Rattle.protocol.specs.Messages.{Messages, mapMessages}
+use Rattle.protocol.specs.Messages.{Messages, MessageLengths, mapMessages, lengthsOf, lengths}
 use Rattle.protocol.specs.Refusals.{Done, sixSizeTests, sizeRefusal}
 use Rattle.protocol.specs.Record.{sections, sectionLengths, bytesOf, wordsIn, writeRecord, readRecord}
 use Rattle.protocol.specs.Job.{Job, jobRefusal, proof}
@@ -20,7 +20,7 @@ use Rattle.protocol.specs.Demand2.{Recorded, ProofRecorded}
 use Rattle.protocol.proofs.AdmissionLaws.{job-fits}
 use Rattle.protocol.proofs.Conversation.{six-sizes}
 use Rattle.protocol.proofs.Honest.{rules-kept}
-use Rattle.protocol.proofs.JudgedSessions.{words-below}
+use Rattle.protocol.proofs.JudgedSessions.{words-below, lengths-back}
 use Rattle.protocol.proofs.RecordLaws.{read-written}
 use Rattle.protocol.proofs.RefusalLaws.{none-refuse, none-wordRefusal}
 
@@ -39,23 +39,30 @@ module _ (q : Prime) (Q : Qualifies q) (j : Job) (free : jobRefusal q j ≡ none
   abbrev parts : List (List ℕ)
   parts = sections (mapMessages words wordOf sent)
 
+  -- in words, too, its messages have the lengths of the table
+  pub lengths-due : lengthsOf (mapMessages words wordOf sent) ≡ lengths s
+  lengths-due =
+      let K = rules-kept q Q j free in
+      lengths-back sent
+      ∙ (λ i.
+      record {
+        witness = K .witness-length i;
+        mask = K .mask-length i;
+        rowQuotient = K .rowQuotient-length i;
+        lineRemainder = K .lineRemainder-length i;
+        lineQuotient = K .lineQuotient-length i;
+        matrixRemainders = record { a = K .matrixRemainder-length A i; b = K .matrixRemainder-length B i; c = K .matrixRemainder-length C i };
+        joinedQuotient = K .joinedQuotient-length i;
+      })
+
   lengths-given : map length parts ≡ sectionLengths s
   unfolding sections sectionLengths
   lengths-given =
-      let K = rules-kept q Q j free in
-      λ i.
-      (length-map (sent .witness) wordOf ∙ K .witness-length) i
-      ∷ (length-map (sent .mask) wordOf ∙ K .mask-length) i
-      ∷ (length-map (sent .rowQuotient) wordOf ∙ K .rowQuotient-length) i
-      ∷ 3
-      ∷ (length-map (sent .lineRemainder) wordOf ∙ K .lineRemainder-length) i
-      ∷ (length-map (sent .lineQuotient) wordOf ∙ K .lineQuotient-length) i
-      ∷ 3
-      ∷ (length-map (sent .matrixRemainders .a) wordOf ∙ K .matrixRemainder-length A) i
-      ∷ (length-map (sent .matrixRemainders .b) wordOf ∙ K .matrixRemainder-length B) i
-      ∷ (length-map (sent .matrixRemainders .c) wordOf ∙ K .matrixRemainder-length C) i
-      ∷ (length-map (sent .joinedQuotient) wordOf ∙ K .joinedQuotient-length) i
-      ∷ []
+      ap
+      (λ (l : MessageLengths).
+      l .witness ∷ l .mask ∷ l .rowQuotient ∷ 3 ∷ l .lineRemainder ∷ l .lineQuotient ∷ 3
+      ∷ l .matrixRemainders .a ∷ l .matrixRemainders .b ∷ l .matrixRemainders .c ∷ l .joinedQuotient ∷ [])
+      lengths-due
 
   read-back : (readRecord (writeRecord s parts) q ≡ Done (record { sizes = s; parts = map bytesOf parts })) × (map wordsIn (map bytesOf parts) ≡ parts)
   unfolding sizeRefusal sections

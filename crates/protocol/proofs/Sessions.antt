@@ -19,7 +19,7 @@ use Rattle.domain.proofs.SizeLaws.{size-positive, size-bound}
 use Rattle.protocol.specs.Three.{A, B, C, Three, each, listed}
 use Rattle.protocol.specs.Circuit.{Sizes, largest}
 use Rattle.protocol.specs.Checks.{Openings, listTranscript, listOpenings}
-use Rattle.protocol.specs.Messages.{Messages, Short}
+use Rattle.protocol.specs.Messages.{MessageLengths, Short}
 use Rattle.protocol.specs.Refusals.{Refusal, beginsWithOne, sizeTests, sixSizeTests}
 use Rattle.protocol.specs.Session.{Session, Stepped, Step, Open, Alpha, Eta, Beta, Delta, Gamma, Ask, Commit, unopened, unless, all}
 use Rattle.protocol.specs.Session.{allBelow, publicFits, transcriptFits, leftBySteps, stepped, after}
@@ -270,18 +270,15 @@ zeros-are [] h = refl
 zeros-are (w ∷ l) h = ap₂ _∷_ (eqb-true w 0 (h .0)) (zeros-are l (h .1))
 
 -- lengths of 0 are within every table
-abbrev nothing : Messages ℕ ℕ
+abbrev nothing : MessageLengths
 nothing =
-    let zeros : Three ℕ = each (λ M. 0) in
     record {
       witness = 0;
       mask = 0;
       rowQuotient = 0;
-      sums = zeros;
       lineRemainder = 0;
       lineQuotient = 0;
-      values = zeros;
-      matrixRemainders = zeros;
+      matrixRemainders = each (λ M. 0);
       joinedQuotient = 0;
     }
 

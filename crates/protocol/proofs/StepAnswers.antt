@@ -15,7 +15,7 @@ use Rattle.domain.specs.Domain.{inside}
 use Rattle.protocol.specs.Three.{Three, listed}
 use Rattle.protocol.specs.Circuit.{Sizes, largest}
 use Rattle.protocol.specs.Checks.{Openings, Transcript, Verdict, listTranscript, listOpenings}
-use Rattle.protocol.specs.Messages.{Messages, lengths}
+use Rattle.protocol.specs.Messages.{MessageLengths, lengths}
 use Rattle.protocol.specs.Refusals.{Refusal, first, pairs, beginsWithOne, sixSizeTests, turnRefusal, wordRefusal, challengeRefusal, lengthRefusal}
 use Rattle.protocol.specs.Session.{Session, Stepped, Answer, Taken, Judged, Refused, unless, all, inTurn, allBelow, publicFits, transcriptFits, leftBySteps, openRefusals, openRefusal}
 use Rattle.protocol.specs.Session.{alphaRefusal, etaRefusal, betaRefusal, deltaRefusal, gammaRefusal, openingsRefusal, openStep, alphaStep, etaStep, betaStep, deltaStep, gammaStep, askStep, commitStep, verdictOf}
@@ -138,7 +138,7 @@ module _ (q : Prime) where
           (words-told q (y ∷ []), (challenge-told q position (d ∷ []) (y ∷ []), (declared-told declared table, tt))),
         )
 
-    abbrev most : Messages ℕ ℕ
+    abbrev most : MessageLengths
     most = lengths (s .sizes)
 
     pub hears-α :

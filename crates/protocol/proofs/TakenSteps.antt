@@ -20,7 +20,7 @@ use Rattle.domain.specs.Domain.{inside, Outside}
 use Rattle.protocol.specs.Three.{A, B, C, listed}
 use Rattle.protocol.specs.Circuit.{Sizes, largest}
 use Rattle.protocol.specs.Checks.{Transcript, Openings, listTranscript, listOpenings}
-use Rattle.protocol.specs.Messages.{Messages, Short}
+use Rattle.protocol.specs.Messages.{MessageLengths, Short}
 use Rattle.protocol.specs.Refusals.{Refusal, pairs, sixSizeTests}
 use Rattle.protocol.specs.Session.{Session, Ask, Commit, unopened, all, after, answers}
 use Rattle.protocol.specs.Session.{allBelow, publicFits, transcriptFits, leftBySteps, openingsRefusal, verdictOf}
@@ -107,13 +107,13 @@ abbrev pub heardAll : Sizes → List ℕ → Transcript ℕ → Session
 heardAll s x t = record { stage = 6; sizes = s; x = x ++ replicate (maxSize - length x) 0; transcript = t }
 
 -- what is as the table of refusals asks
-pub record Fitting (q : Prime) (s : Sizes) (x : List ℕ) (t : Transcript ℕ) (declared : Messages ℕ ℕ) : Type 0 where
+pub record Fitting (q : Prime) (s : Sizes) (x : List ℕ) (t : Transcript ℕ) (declared : MessageLengths) : Type 0 where
   pub sizes-allowed : All (λ test. test ≡ true) (sixSizeTests s)
   pub public : PublicWords q s x
   pub heard : Heard q s t
   pub short : Short s declared
 
-module _ (q : Prime) (s : Sizes) (x : List ℕ) (t : Transcript ℕ) (declared : Messages ℕ ℕ) where
+module _ (q : Prime) (s : Sizes) (x : List ℕ) (t : Transcript ℕ) (declared : MessageLengths) where
   free-fitting : All (λ o. o ≡ none) (refusals q unopened (hearing s x t declared)) → Fitting q s x t declared
   free-fitting (opening, (alpha, (eta, (beta, (delta, (gamma, _)))))) =
       let (sized, public) = open-passes q s x .0 opening in

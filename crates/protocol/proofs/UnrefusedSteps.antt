@@ -16,7 +16,7 @@ use Rattle.domain.specs.Domain.{inside, Outside}
 use Rattle.protocol.specs.Three.{Three, listed}
 use Rattle.protocol.specs.Circuit.{Sizes, largest}
 use Rattle.protocol.specs.Checks.{Openings, listOpenings}
-use Rattle.protocol.specs.Messages.{Messages, lengths}
+use Rattle.protocol.specs.Messages.{MessageLengths, lengths}
 use Rattle.protocol.specs.Refusals.{Refusal, first, beginsWithOne, sixSizeTests}
 use Rattle.protocol.specs.Refusals.{turnRefusal, sizeRefusal, listRefusal, wordRefusal, challengeRefusal, lengthRefusal}
 use Rattle.protocol.specs.Session.{Session, all, inTurn, leftBySteps}
@@ -115,7 +115,7 @@ module _ (q : Prime) (stage : ℕ) (s : Sizes) where
               ),
         )
 
-  abbrev table : Messages ℕ ℕ
+  abbrev table : MessageLengths
   table = lengths s
 
   pub alpha-passes : (w m h α : ℕ)

@@ -18,7 +18,7 @@ use Rattle.protocol.specs.Three.{MatrixName, Three, at, each, listed, ma
 use Rattle.protocol.specs.Circuit.{Entry, Circuit, Sizes, sizesOf, publicPart}
 use Rattle.protocol.specs.Index.{Index, mapIndex, index}
 use Rattle.protocol.specs.Checks.{listOpenings}
-use Rattle.protocol.specs.Messages.{Messages, lengths, witness, assignment, rowQuotient, sums, values, line, lineRemainder, lineQuotient, matrixRemainder, joinedQuotient, messages, openings}
+use Rattle.protocol.specs.Messages.{MessageLengths, lengths, witness, assignment, rowQuotient, sums, values, line, lineRemainder, lineQuotient, matrixRemainder, joinedQuotient, messages, openings}
 use Rattle.protocol.specs.Refusals.{Refusal, Outcome, Done, Refused, judged, after, first, refuse, pairs, trailerBytes, sixSizeTests, sizeRefusal, listRefusal, wordRefusal, inverseOutcome}
 use Rattle.protocol.specs.Record.{sectionLengths, startsFrom, sectionBytes, writeRecord, sizesRead, endRow, trailerRow, wordRow, readRecord}
 use Rattle.protocol.specs.Admission.{circuitRefusals, assignmentTests, proverRefusal}
@@ -140,7 +140,7 @@ module _ (q : Prime) where
     abbrev ẑ : Poly q
     ẑ = assignment circuit (publicPart circuit z) ŵ
 
-    abbrev due : Messages ℕ ℕ
+    abbrev due : MessageLengths
     due = lengths (sizesOf circuit)
 
     -- the refusal of a prover call, from the lengths of its lent slices, the lengths that they must have, all its challenge

@@ -2,11 +2,10 @@
 -- about and then committed (document 01, "Session and verdict"; document 02, request 9). Assumes nothing.
 use mathlib.Core.List.{List, [], _∷_, _++_}
 use Prim.Native.Nat.{ℕ}
-use lib.ListN.{length}
 use Rattle.protocol.specs.Three.{Three, mapThree}
 use Rattle.protocol.specs.Circuit.{Sizes}
 use Rattle.protocol.specs.Checks.{Transcript, Openings, Verdict}
-use Rattle.protocol.specs.Messages.{Messages, mapMessages}
+use Rattle.protocol.specs.Messages.{Messages, MessageLengths, lengthsOf}
 use Rattle.protocol.specs.Session.{Answer, Taken, Judged, Step, Open, Alpha, Eta, Beta, Delta, Gamma, Ask, Commit}
 
 -- the challenges in their order
@@ -26,7 +25,7 @@ transcriptOf t sent =
     record { α = t .α; sums = sent .sums; η = t .η; β = t .β; values = sent .values; δ = t .δ; γ = t .γ }
 
 -- the six steps before the openings, with the declared lengths
-abbrev pub hearing : Sizes → List ℕ → Transcript ℕ → Messages ℕ ℕ → List Step
+abbrev pub hearing : Sizes → List ℕ → Transcript ℕ → MessageLengths → List Step
 hearing s x t declared =
     Open s x
     ∷ Alpha (declared .witness) (declared .mask) (declared .rowQuotient) (t .α)
@@ -38,7 +37,7 @@ hearing s x t declared =
 
 -- with messages: the declared length of a polynomial is its own
 abbrev pub hearingMessages : Sizes → List ℕ → Challenges ℕ → Messages (List ℕ) ℕ → List Step
-hearingMessages s x t sent = hearing s x (transcriptOf t sent) (mapMessages length (λ e. 1) sent)
+hearingMessages s x t sent = hearing s x (transcriptOf t sent) (lengthsOf sent)
 
 -- the eight steps: the verdict on the openings is asked for, and then they are committed
 abbrev pub steps : Sizes → List ℕ → Challenges ℕ → Messages (List ℕ) ℕ → Openings ℕ → List Step

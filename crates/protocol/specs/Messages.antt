@@ -1,6 +1,7 @@
 -- The prover's messages, their lengths and their openings (document 01, "Prover"). Assumes nothing.
 use mathlib.Core.List.{List, tail}
 use Prim.Native.Nat.{ℕ, _+_, _-_, _*_, _≤_}
+use lib.ListN.{length}
 use Rattle.field.specs.Prime.{Prime}
 use Rattle.field.specs.Element.{Elem, of, _⊗_}
 use Rattle.field.specs.Power.{_⊘_}
@@ -37,23 +38,44 @@ mapMessages f g sent =
       joinedQuotient = f (sent .joinedQuotient);
     }
 
+-- lengths of messages: σ and ω are single words, and have no length to declare
+pub record MessageLengths : Type 0 where
+  pub witness : ℕ
+  pub mask : ℕ
+  pub rowQuotient : ℕ
+  pub lineRemainder : ℕ
+  pub lineQuotient : ℕ
+  pub matrixRemainders : Three ℕ
+  pub joinedQuotient : ℕ
+
+-- those that messages have
+abbrev pub lengthsOf : {T E : Type 0} → Messages (List T) E → MessageLengths
+lengthsOf sent =
+    record {
+      witness = length (sent .witness);
+      mask = length (sent .mask);
+      rowQuotient = length (sent .rowQuotient);
+      lineRemainder = length (sent .lineRemainder);
+      lineQuotient = length (sent .lineQuotient);
+      matrixRemainders = mapThree length (sent .matrixRemainders);
+      joinedQuotient = length (sent .joinedQuotient);
+    }
+
 -- the table's column "Length"
-unfoldable pub lengths : Sizes → Messages ℕ ℕ
+unfoldable pub lengths : Sizes → MessageLengths
 lengths s =
     record {
       witness = s .|C| - s .|X| + 1;
       mask = 2 * s .|C|;
       rowQuotient = s .|R| - 1;
-      sums = each (λ M. 1);
       lineRemainder = s .|C| - 1;
       lineQuotient = s .|C|;
-      values = each (λ M. 1);
       matrixRemainders = each (λ M. at (s .|K|) M - 1);
       joinedQuotient = largest (s .|K|) - 1;
     }
 
--- declared lengths within the table; of the σ and ω there are none
-pub record Short (s : Sizes) (declared : Messages ℕ ℕ) : Type 0 where
+-- declared lengths within the table
+pub record Short (s : Sizes) (declared : MessageLengths) : Type 0 where
   pub witness-short : declared .witness ≤ lengths s .witness
   pub mask-short : declared .mask ≤ lengths s .mask
   pub rowQuotient-short : declared .rowQuotient ≤ lengths s .rowQuotient

@@ -8,7 +8,7 @@ use Rattle.algebra.specs.Lists.{tabulate}
 use Rattle.field.specs.Prime.{Prime}
 use Rattle.protocol.specs.Three.{listed}
 use Rattle.protocol.specs.Circuit.{Sizes}
-use Rattle.protocol.specs.Messages.{Messages, lengths}
+use Rattle.protocol.specs.Messages.{Messages, MessageLengths, lengths}
 use Rattle.protocol.specs.Refusals.{Refusal, Outcome, judged, first, trailerBytes, endRefusal, trailerRefusal, wordRefusal}
 
 -- "Little-endian 32-bit words"
@@ -37,7 +37,7 @@ sections sent =
 -- their lengths in words, by the table of messages
 unfoldable pub sectionLengths : Sizes → List ℕ
 sectionLengths s =
-    let l : Messages ℕ ℕ = lengths s in
+    let l : MessageLengths = lengths s in
     l .witness ∷ l .mask ∷ l .rowQuotient ∷ 3 ∷ l .lineRemainder ∷ l .lineQuotient ∷ 3
     ∷ l .matrixRemainders .a ∷ l .matrixRemainders .b ∷ l .matrixRemainders .c ∷ l .joinedQuotient ∷ []
 

@@ -14,7 +14,7 @@ use Rattle.domain.specs.Domain.{inside}
 use Rattle.protocol.specs.Three.{Three, each, listed}
 use Rattle.protocol.specs.Circuit.{Sizes, largest}
 use Rattle.protocol.specs.Checks.{Transcript, Openings, mapTranscript, mapOpenings, listTranscript, listOpenings, withα, withη, withβ, withδ, withγ, Verdict, verdict}
-use Rattle.protocol.specs.Messages.{Messages, lengths}
+use Rattle.protocol.specs.Messages.{MessageLengths, lengths}
 use Rattle.protocol.specs.Refusals.{Refusal, first, pairs, sixSizeTests, beginsWithOne, turnRefusal, sizeRefusal, listRefusal, wordRefusal, constantRefusal, challengeRefusal, lengthRefusal}
 
 -- stage: how many steps were taken, asking not counted, so 7 after the commit; x: the public words, and zeros after them up to 1,024
@@ -82,7 +82,7 @@ module _ (q : Prime) where
   openRefusal s x = first (openRefusals s x)
 
   module _ (stage : ℕ) (s : Sizes) where
-    abbrev table : Messages ℕ ℕ
+    abbrev table : MessageLengths
     table = lengths s
 
     unfoldable pub alphaRefusal : ℕ → ℕ → ℕ → ℕ → Option Refusal

@@ -8,7 +8,7 @@ use Rattle.domain.specs.BabyBear.{babyBear}
 use Rattle.domain.specs.Size.{sizeFor}
 use Rattle.domain.proofs.SizeLaws.{size-bound, sizeFor-is-size}
 use Rattle.protocol.specs.Circuit.{sizesOf, largest}
-use Rattle.protocol.specs.Messages.{Messages, lengths}
+use Rattle.protocol.specs.Messages.{MessageLengths, lengths}
 use Rattle.protocol.specs.Calls.{ProverInput, entriesOf, circuitOf}
 use Rattle.circuit.proofs.Parts.{larger-is-size}
 use Rattle.circuit.specs.Given.{Fits}
@@ -17,7 +17,7 @@ use Rattle.prover.proofs.CallLaws.{witness-bound}
 use Rattle.report.specs.Stages.{Free, due}
 
 -- the lengths of messages that find room
-pub record Roomy (l : Messages ℕ ℕ) : Type 0 where
+pub record Roomy (l : MessageLengths) : Type 0 where
   pub witness-most : l .witness ≤ 1024
   pub rowQuotient-most : l .rowQuotient ≤ 1024
   pub lineRemainder-most : l .lineRemainder ≤ 1024
@@ -66,5 +66,5 @@ module _ (i : ProverInput) {ws points : List ℕ} (free : Free i ws points) wher
       }
 
   -- slices of the lengths due
-  pub roomy : {l : Messages ℕ ℕ} → l ≡ due i → Roomy l
+  pub roomy : {l : MessageLengths} → l ≡ due i → Roomy l
   roomy e = subst⁻¹ Roomy e due-roomy

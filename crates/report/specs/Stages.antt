@@ -11,7 +11,7 @@ use Rattle.domain.specs.Polynomial.{Poly}
 use Rattle.protocol.specs.Three.{Three, each, listed, mapThree}
 use Rattle.protocol.specs.Circuit.{Circuit, Sizes, sizesOf}
 use Rattle.protocol.specs.Checks.{Openings}
-use Rattle.protocol.specs.Messages.{Messages, lengths, rowQuotient, sums, values, lineRemainder, lineQuotient, matrixRemainder, joinedQuotient}
+use Rattle.protocol.specs.Messages.{MessageLengths, lengths, rowQuotient, sums, values, lineRemainder, lineQuotient, matrixRemainder, joinedQuotient}
 use Rattle.protocol.specs.Refusals.{Outcome, Done, Refused}
 use Rattle.protocol.specs.Session.{Answer, Session, Stepped, unopened, openStep, alphaStep, etaStep, betaStep, deltaStep, gammaStep, askStep, commitStep}
 use Rattle.protocol.specs.Calls.{ProverInput, roundRefusal}
@@ -42,7 +42,7 @@ abbrev pub FreeJob : ProverInput → Challenges → Type 0
 FreeJob i d = Free i (challengeWords (jobDrawn i d)) (challengePoints (jobDrawn i d))
 
 -- the lengths of the messages
-abbrev pub due : ProverInput → Messages ℕ ℕ
+abbrev pub due : ProverInput → MessageLengths
 due i = lengths (sizesOf (circuitIn babyBear i))
 
 -- w, m, h0
@@ -96,26 +96,26 @@ threeOrZeros (Done t) = t
 threeOrZeros (Refused r) = each (λ M. 0)
 
 -- the session on messages of the lengths l: after the σ and η
-unfoldable pub afterSums : Sizes → Messages ℕ ℕ → List ℕ → ℕ → Three ℕ → Three ℕ → Session
+unfoldable pub afterSums : Sizes → MessageLengths → List ℕ → ℕ → Three ℕ → Three ℕ → Session
 afterSums s l x α σ η =
     let opened : Stepped = openStep babyBear unopened s x in
     let afterα : Stepped = alphaStep babyBear (opened .session) (l .witness) (l .mask) (l .rowQuotient) α in
     etaStep babyBear (afterα .session) σ η .session
 
 -- after the ω and δ
-unfoldable pub afterValues : Session → Messages ℕ ℕ → ℕ → Three ℕ → Three ℕ → Session
+unfoldable pub afterValues : Session → MessageLengths → ℕ → Three ℕ → Three ℕ → Session
 afterValues before l β ω δ =
     let afterβ : Stepped = betaStep babyBear before (l .lineRemainder) (l .lineQuotient) β in
     deltaStep babyBear (afterβ .session) ω (l .matrixRemainders) δ .session
 
 -- the answer to the openings, which are asked about and then committed
-unfoldable pub answerAfter : Session → Messages ℕ ℕ → ℕ → Openings ℕ → Answer
+unfoldable pub answerAfter : Session → MessageLengths → ℕ → Openings ℕ → Answer
 answerAfter before l γ o =
     let afterγ : Stepped = gammaStep babyBear before (l .joinedQuotient) γ in
     commitStep babyBear (askStep babyBear (afterγ .session) o .session) o .answer
 
 -- the last of the answers
-abbrev pub lastAnswer : Sizes → Messages ℕ ℕ → List ℕ → Challenges → Three ℕ → Three ℕ → Openings ℕ → Answer
+abbrev pub lastAnswer : Sizes → MessageLengths → List ℕ → Challenges → Three ℕ → Three ℕ → Openings ℕ → Answer
 lastAnswer s l x d σ ω o =
     answerAfter (afterValues (afterSums s l x (d .alpha) σ (three (d .eta))) l (d .beta) ω (three (d .delta))) l (d .gamma) o
 

@@ -3,7 +3,7 @@ use mathlib.Core.Path.{ap, _∙_}
 use mathlib.Core.List.{List, [], _∷_}
 use Prim.Native.Nat.{ℕ, _+_}
 use Rattle.shared.specs.Meanings.{sizes}
-use Rattle.protocol.specs.Messages.{Messages, lengths}
+use Rattle.protocol.specs.Messages.{MessageLengths, lengths}
 use Rattle.protocol.specs.Record.{sectionBytes}
 use Rattle.protocol.specs.Refusals.{trailerBytes}
 use borrow.Author.Needs.{needs}
@@ -11,7 +11,7 @@ use Rattle.figures.proofs.column.length_numbers.Statement.{statement}
 use Rattle.figures.proofs.column.length_numbers.Tie as tie
 
 -- the numbers by the table of messages and the record's length
-abbrev numbers : Messages ℕ ℕ → ℕ → List ℕ
+abbrev numbers : MessageLengths → ℕ → List ℕ
 numbers t bytes =
     t .witness ∷ t .mask ∷ t .rowQuotient ∷ 3 ∷ t .lineRemainder ∷ t .lineQuotient ∷ 3
     ∷ t .matrixRemainders .a ∷ t .matrixRemainders .b ∷ t .matrixRemainders .c ∷ t .joinedQuotient ∷ bytes ∷ []

@@ -1,10 +1,10 @@
 -- `figures::column::record_bytes` meets its contract: no sum is above that of all bytes, which are few. Assumes nothing.
 use mathlib.Core.Path.{_≡_, ap}
-use Prim.Native.Nat.{ℕ, _+_, _*_, _<_, _^_}
+use Prim.Native.Nat.{_+_, _*_, _<_, _^_}
 use native.Mathlib.Omega.{arith}
 use Rattle.protocol.specs.Circuit.{Sizes}
 use Rattle.shared.specs.Meanings.{sizes, messageLengths}
-use Rattle.protocol.specs.Messages.{Messages}
+use Rattle.protocol.specs.Messages.{MessageLengths}
 use Rattle.protocol.specs.Record.{sectionBytes}
 use Rattle.figures.proofs.RecordLaws.{rowWords, lineWords, matrixWords, words-add-up, few-bytes}
 use borrow.Author.Needs.{needs}
@@ -16,7 +16,7 @@ module _ (b : tie.After-message-lengths) where
   abbrev s : Sizes
   s = sizes (b .before .args .s)
 
-  abbrev table : Messages ℕ ℕ
+  abbrev table : MessageLengths
   table = messageLengths (b .message-lengths .result)
 
   added : 4 * (rowWords table + lineWords table + matrixWords table) ≡ sectionBytes s

@@ -1,9 +1,8 @@
 -- `outcome_text::conversation::after_sums` meets its contract. Assumes nothing.
 use mathlib.Core.Path.{ap, _∙_}
-use Prim.Native.Nat.{ℕ}
 use native.Mathlib.Omega.{arith}
 use Rattle.domain.specs.BabyBear.{babyBear}
-use Rattle.protocol.specs.Messages.{Messages, lengths}
+use Rattle.protocol.specs.Messages.{MessageLengths, lengths}
 use Rattle.protocol.specs.Session.{Session, Stepped, openStep, alphaStep, etaStep}
 use Rattle.shared.specs.Meanings.{three, sizes}
 use Rattle.report.specs.Stages.{afterSums}
@@ -31,19 +30,19 @@ cast-alpha : tie.Need-cast-alpha
 unfolding lengths
 cast-alpha c =
     let n = at-lengths (c .before) in
-    omega (arith, start n .pre, ap (λ (l : Messages ℕ ℕ). l .witness) (n .message-lengths .ensures))
+    omega (arith, start n .pre, ap (λ (l : MessageLengths). l .witness) (n .message-lengths .ensures))
 
 cast-alpha-2 : tie.Need-cast-alpha-2
 unfolding lengths
 cast-alpha-2 c =
     let n = at-lengths (c .before .before) in
-    omega (arith, start n .pre, ap (λ (l : Messages ℕ ℕ). l .mask) (n .message-lengths .ensures))
+    omega (arith, start n .pre, ap (λ (l : MessageLengths). l .mask) (n .message-lengths .ensures))
 
 cast-alpha-3 : tie.Need-cast-alpha-3
 unfolding lengths
 cast-alpha-3 c =
     let n = at-lengths (c .before .before .before) in
-    omega (arith, start n .good, ap (λ (l : Messages ℕ ℕ). l .rowQuotient) (n .message-lengths .ensures))
+    omega (arith, start n .good, ap (λ (l : MessageLengths). l .rowQuotient) (n .message-lengths .ensures))
 
 alpha-requires : tie.Need-alpha-requires
 alpha-requires c κs = search needs

@@ -1,9 +1,8 @@
 -- `outcome_text::conversation::after_values` meets its contract. Assumes nothing.
 use mathlib.Core.Path.{ap, _∙_}
-use Prim.Native.Nat.{ℕ}
 use native.Mathlib.Omega.{arith}
 use Rattle.domain.specs.BabyBear.{babyBear}
-use Rattle.protocol.specs.Messages.{Messages, lengths}
+use Rattle.protocol.specs.Messages.{MessageLengths, lengths}
 use Rattle.protocol.specs.Session.{Session, Stepped, betaStep, deltaStep}
 use Rattle.shared.specs.Meanings.{three}
 use Rattle.verifier.specs.Session.{sessionMeaning}
@@ -23,13 +22,13 @@ cast-beta : tie.Need-cast-beta
 unfolding lengths
 cast-beta c =
     let n = c .before in
-    omega (arith, n .before .good, ap (λ (l : Messages ℕ ℕ). l .lineRemainder) (n .message-lengths .ensures))
+    omega (arith, n .before .good, ap (λ (l : MessageLengths). l .lineRemainder) (n .message-lengths .ensures))
 
 cast-beta-2 : tie.Need-cast-beta-2
 unfolding lengths
 cast-beta-2 c =
     let n = c .before .before in
-    omega (arith, n .before .good, ap (λ (l : Messages ℕ ℕ). l .lineQuotient) (n .message-lengths .ensures))
+    omega (arith, n .before .good, ap (λ (l : MessageLengths). l .lineQuotient) (n .message-lengths .ensures))
 
 beta-requires : tie.Need-beta-requires
 beta-requires c κs = search needs
@@ -38,19 +37,19 @@ cast-t11 : tie.Need-cast-t11
 unfolding lengths
 cast-t11 c =
     let n = at-lengths (c .before .before .before) in
-    omega (arith, n .before .good, ap (λ (l : Messages ℕ ℕ). l .matrixRemainders .a) (n .message-lengths .ensures))
+    omega (arith, n .before .good, ap (λ (l : MessageLengths). l .matrixRemainders .a) (n .message-lengths .ensures))
 
 cast-t12 : tie.Need-cast-t12
 unfolding lengths
 cast-t12 c =
     let n = at-lengths (c .before .before .before .before) in
-    omega (arith, n .before .good, ap (λ (l : Messages ℕ ℕ). l .matrixRemainders .b) (n .message-lengths .ensures))
+    omega (arith, n .before .good, ap (λ (l : MessageLengths). l .matrixRemainders .b) (n .message-lengths .ensures))
 
 cast-t13 : tie.Need-cast-t13
 unfolding lengths
 cast-t13 c =
     let n = at-lengths (c .before .before .before .before .before) in
-    omega (arith, n .before .good, ap (λ (l : Messages ℕ ℕ). l .matrixRemainders .c) (n .message-lengths .ensures))
+    omega (arith, n .before .good, ap (λ (l : MessageLengths). l .matrixRemainders .c) (n .message-lengths .ensures))
 
 delta-requires : tie.Need-delta-requires
 delta-requires c κs = search needs

@@ -1,10 +1,9 @@
 -- `outcome_text::conversation::answer_after` meets its contract. Assumes nothing.
 use mathlib.Core.Path.{ap, _∙_}
-use Prim.Native.Nat.{ℕ}
 use native.Mathlib.Omega.{arith}
 use Rattle.domain.specs.BabyBear.{babyBear}
 use Rattle.protocol.specs.Circuit.{largest}
-use Rattle.protocol.specs.Messages.{Messages, lengths}
+use Rattle.protocol.specs.Messages.{MessageLengths, lengths}
 use Rattle.protocol.specs.Session.{Stepped, gammaStep, askStep, commitStep}
 use Rattle.shared.specs.Meanings.{openings}
 use Rattle.verifier.specs.Session.{sessionMeaning}
@@ -20,7 +19,7 @@ cast-gamma : tie.Need-cast-gamma
 unfolding lengths largest
 cast-gamma c =
     let n = c .before in
-    omega (arith, n .before .good, ap (λ (l : Messages ℕ ℕ). l .joinedQuotient) (n .message-lengths .ensures))
+    omega (arith, n .before .good, ap (λ (l : MessageLengths). l .joinedQuotient) (n .message-lengths .ensures))
 
 gamma-requires : tie.Need-gamma-requires
 gamma-requires c κs = search needs
@@ -41,7 +40,7 @@ returns c =
     let o = openings (a .o) (a .index) in
     let heard = ap (λ (s : Stepped). s .session)
     (at-gamma .gamma .ensures
-    ∙ ap (λ (l : Messages ℕ ℕ). gammaStep babyBear (sessionMeaning (a .before)) (l .joinedQuotient) (a .gamma)) (n .message-lengths .ensures)) in
+    ∙ ap (λ (l : MessageLengths). gammaStep babyBear (sessionMeaning (a .before)) (l .joinedQuotient) (a .gamma)) (n .message-lengths .ensures)) in
     let asked = ap (λ (s : Stepped). s .session) (at-ask .ask .ensures ∙ ap (λ s. askStep babyBear s o) heard) in
     ap (λ (s : Stepped). s .answer) (c .commit .ensures ∙ ap (λ s. commitStep babyBear s o) asked)
 

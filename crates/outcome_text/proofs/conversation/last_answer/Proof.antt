@@ -1,7 +1,6 @@
 -- `outcome_text::conversation::last_answer` meets its contract. Assumes nothing.
 use mathlib.Core.Path.{ap, _∙_}
-use Prim.Native.Nat.{ℕ}
-use Rattle.protocol.specs.Messages.{Messages, lengths}
+use Rattle.protocol.specs.Messages.{MessageLengths, lengths}
 use Rattle.shared.specs.Meanings.{three, sizes, openings}
 use Rattle.report.specs.Stages.{afterValues, answerAfter}
 use borrow.Author.Needs.{needs}
@@ -21,7 +20,7 @@ returns : tie.Need-returns
 returns c =
     let a = c .before .before .before .before .args in
     let d = a .drawn in
-    let l : Messages ℕ ℕ = lengths (sizes (a .s)) in
+    let l : MessageLengths = lengths (sizes (a .s)) in
     let summed = c .before .before .after-sums .ensures in
     let valued = c .before .after-values .ensures ∙ ap (λ s. afterValues s l (d .beta) (three (a .values)) (three (d .delta))) summed in
     c .answer-after .ensures ∙ ap (λ s. answerAfter s l (d .gamma) (openings (a .o) (a .index))) valued

@@ -2,7 +2,7 @@
 use mathlib.Core.Path.{sym, ap, _∙_}
 use mathlib.Core.List.{List}
 use Prim.Native.Nat.{ℕ}
-use Rattle.protocol.specs.Messages.{Messages}
+use Rattle.protocol.specs.Messages.{MessageLengths}
 use Rattle.shared.specs.Meanings.{messageLengths}
 use Rattle.protocol.specs.Calls.{ProverInput}
 use Rattle.circuit.specs.Given.{proverInput}
@@ -104,8 +104,8 @@ returns c =
     let h = room n .rowQuotient-most in
     let table = n .lengths-of .ensures in
     let done =
-    first-done (input n) _ (start n .pre .0) (sym (lent-length 1024 w) ∙ ap (λ (l : Messages ℕ ℕ). l .witness) table)
-    (sym (lent-length 1024 h) ∙ ap (λ (l : Messages ℕ ℕ). l .rowQuotient) table) (f .first-round .ensures) in
+    first-done (input n) _ (start n .pre .0) (sym (lent-length 1024 w) ∙ ap (λ (l : MessageLengths). l .witness) table)
+    (sym (lent-length 1024 h) ∙ ap (λ (l : MessageLengths). l .rowQuotient) table) (f .first-round .ensures) in
     let witness = back-is 1024 w (last .0) (kept .0) ∙ ap (λ (p : List ℕ × List ℕ). p .0) done in
     let quotient = back-is 1024 h (last .1 .0) (kept .1 .0) ∙ ap (λ (p : List ℕ × List ℕ). p .1) done in
     printed-as (λ t. firstLines (witness t) (start n .args .m .now) (quotient t)) (c .before .before .put-first-lines .ensures)

@@ -2,7 +2,7 @@
 use mathlib.Core.Path.{sym, ap, _∙_}
 use mathlib.Core.List.{List}
 use Prim.Native.Nat.{ℕ}
-use Rattle.protocol.specs.Messages.{Messages}
+use Rattle.protocol.specs.Messages.{MessageLengths}
 use Rattle.shared.specs.Meanings.{three, messageLengths}
 use Rattle.protocol.specs.Calls.{ProverInput}
 use Rattle.circuit.specs.Given.{proverInput}
@@ -102,8 +102,8 @@ returns c =
     let table = n .lengths-of .ensures in
     let done =
     third-done (input n) (a .alpha) (three (a .eta)) _ (start n .pre .0)
-    (sym (lent-length 1024 g) ∙ ap (λ (l : Messages ℕ ℕ). l .lineRemainder) table)
-    (sym (lent-length 1024 h) ∙ ap (λ (l : Messages ℕ ℕ). l .lineQuotient) table) (f .third-round .ensures) in
+    (sym (lent-length 1024 g) ∙ ap (λ (l : MessageLengths). l .lineRemainder) table)
+    (sym (lent-length 1024 h) ∙ ap (λ (l : MessageLengths). l .lineQuotient) table) (f .third-round .ensures) in
     let remainder = back-is 1024 g (last .0) (kept .0) ∙ ap (λ (p : List ℕ × List ℕ). p .0) done in
     let quotient = back-is 1024 h (last .1 .0) (kept .1 .0) ∙ ap (λ (p : List ℕ × List ℕ). p .1) done in
     printed-as (λ t. thirdLines (remainder t) (quotient t)) (c .before .before .put-third-lines .ensures)

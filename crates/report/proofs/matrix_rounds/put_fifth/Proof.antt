@@ -1,8 +1,7 @@
 -- `report::matrix_rounds::put_fifth` meets its contract. Assumes nothing.
 use mathlib.Core.Path.{sym, ap, _∙_}
-use Prim.Native.Nat.{ℕ}
 use native.Mathlib.Omega.{arith}
-use Rattle.protocol.specs.Messages.{Messages}
+use Rattle.protocol.specs.Messages.{MessageLengths}
 use Rattle.shared.specs.Meanings.{three, messageLengths}
 use Rattle.protocol.specs.Calls.{ProverInput}
 use Rattle.circuit.specs.Given.{proverInput}
@@ -79,7 +78,7 @@ returns c =
     let last = f .fifth-round .last .1 .1 .1 .1 .1 .1 .1 .1 .1 .1 .1 .1 .1 .0 in
     let kept = f .fifth-round .kept .1 .1 .1 .1 .1 .1 .1 .1 .1 .1 .1 .1 .1 .0 in
     let h = room n .joinedQuotient-most in
-    let lent = sym (lent-length 1024 h) ∙ ap (λ (l : Messages ℕ ℕ). l .joinedQuotient) (n .lengths-of .ensures) in
+    let lent = sym (lent-length 1024 h) ∙ ap (λ (l : MessageLengths). l .joinedQuotient) (n .lengths-of .ensures) in
     let done =
     fifth-done (input n) (a .alpha) (three (a .eta)) (a .beta) (three (a .delta)) _ (start n .pre .0) lent (f .fifth-round .ensures) in
     printed-within (printed-as (ap (section 10) (back-is 1024 h last kept ∙ done)) (c .before .before .put-line .ensures))

@@ -3,7 +3,7 @@ use mathlib.Core.Path.{sym, ap, _∙_}
 use mathlib.Core.List.{List}
 use Prim.Native.Nat.{ℕ}
 use Rattle.protocol.specs.Three.{Three}
-use Rattle.protocol.specs.Messages.{Messages}
+use Rattle.protocol.specs.Messages.{MessageLengths}
 use Rattle.shared.specs.Meanings.{three, messageLengths}
 use Rattle.protocol.specs.Calls.{ProverInput}
 use Rattle.circuit.specs.Given.{proverInput}
@@ -126,7 +126,7 @@ returns c =
     let last = f .fourth-round .last .1 .1 .1 .1 .1 .1 .1 .1 .1 .1 .1 .1 in
     let kept = f .fourth-round .kept .1 .1 .1 .1 .1 .1 .1 .1 .1 .1 .1 .1 in
     let R = room n in
-    let table = ap (λ (l : Messages ℕ ℕ). l .matrixRemainders) (n .lengths-of .ensures) in
+    let table = ap (λ (l : MessageLengths). l .matrixRemainders) (n .lengths-of .ensures) in
     let lent =
     three-same (due (input n) .matrixRemainders) (sym (lent-length 1024 (R .a-most)) ∙ ap (λ (l : Three ℕ). l .a) table)
     (sym (lent-length 1024 (R .b-most)) ∙ ap (λ (l : Three ℕ). l .b) table) (sym (lent-length 1024 (R .c-most)) ∙ ap (λ (l : Three ℕ). l .c) table) in

@@ -54,10 +54,8 @@ returns c =
       witness = one .less .ensures .0 t + 1;
       mask = 2 * columns t;
       rowQuotient = two .less2 .ensures .0 t;
-      sums = record { a = 1; b = 1; c = 1 };
       lineRemainder = three .less3 .ensures .0 t;
       lineQuotient = columns t;
-      values = record { a = 1; b = 1; c = 1 };
       matrixRemainders = record { a = four .less4 .ensures .0 t; b = six .before .less5 .ensures .0 t; c = six .less6 .ensures .0 t };
       joinedQuotient = joined t;
     }

@@ -7,7 +7,7 @@ use borrow.Author.Needs.{needs}
 use borrow.Author.Tests.{not-true, not-false}
 use Rattle.field.specs.Prime.{Prime}
 use Rattle.shared.specs.Meanings.{sizes, three}
-use Rattle.protocol.specs.Messages.{Messages, lengths}
+use Rattle.protocol.specs.Messages.{MessageLengths, lengths}
 use Rattle.protocol.specs.Refusals.{Refusal, first, wordRefusal, lengthRefusal}
 use Rattle.protocol.specs.Session.{deltaRefusal}
 use Rattle.protocol.specs.Three.{listed}
@@ -21,7 +21,7 @@ module _ (s : tie.Start) where
   abbrev ws : List ℕ
   ws = listed (three (s .args .values)) ++ listed (three (s .args .delta))
 
-  abbrev most : Messages ℕ ℕ → Option Refusal
+  abbrev most : MessageLengths → Option Refusal
   most l = lengthRefusal (listed (three (s .args .remainders))) (listed (l .matrixRemainders))
 
   abbrev lengths-row : List (Option Refusal)

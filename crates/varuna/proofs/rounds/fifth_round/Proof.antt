@@ -6,7 +6,7 @@ use lib.ListN.{length}
 use Rattle.domain.specs.BabyBear.{babyBear}
 use Rattle.domain.proofs.Qualification.{babyBear-qualifies, babyBear-modulus}
 use Rattle.protocol.specs.Circuit.{Circuit, sizesOf, largest}
-use Rattle.protocol.specs.Messages.{Messages, lengths}
+use Rattle.protocol.specs.Messages.{MessageLengths, lengths}
 use Rattle.shared.specs.Meanings.{faultRefusal}
 use Rattle.protocol.specs.Calls.{ProverInput, circuitOf, roundRefusal, fifthRoundCall}
 use Rattle.circuit.specs.Given.{given, proverInput}
@@ -27,10 +27,10 @@ input s =
 abbrev lent : tie.Start → List ℕ
 lent s = length (s .args .out .now) ∷ []
 
-abbrev table : tie.Start → Messages ℕ ℕ
+abbrev table : tie.Start → MessageLengths
 table s = lengths (sizesOf (circuitOf (input s .circuit)))
 
-abbrev dueBy : Messages ℕ ℕ → List ℕ
+abbrev dueBy : MessageLengths → List ℕ
 dueBy l = l .joinedQuotient ∷ []
 
 abbrev due : tie.Start → List ℕ
@@ -57,7 +57,7 @@ judgement : (c : tie.After-judge-round)
 judgement c =
     let s = start c in
     c .judge-round .ensures babyBear babyBear-qualifies refl
-    ∙ ap (λ (l : Messages ℕ ℕ). roundRefusal babyBear (input s) (lent s) (dueBy l) (challenges s) (points s)) (at-lengths c .lengths-of .ensures)
+    ∙ ap (λ (l : MessageLengths). roundRefusal babyBear (input s) (lent s) (dueBy l) (challenges s) (points s)) (at-lengths c .lengths-of .ensures)
 
 -- nothing was refused
 fits : (c : tie.After-enum-told)

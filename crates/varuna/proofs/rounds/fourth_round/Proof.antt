@@ -9,7 +9,7 @@ use Rattle.domain.specs.BabyBear.{babyBear}
 use Rattle.domain.proofs.Qualification.{babyBear-qualifies}
 use Rattle.protocol.specs.Three.{each}
 use Rattle.protocol.specs.Circuit.{Circuit, sizesOf}
-use Rattle.protocol.specs.Messages.{Messages, lengths, matrixRemainder}
+use Rattle.protocol.specs.Messages.{MessageLengths, lengths, matrixRemainder}
 use Rattle.shared.specs.Meanings.{faultRefusal}
 use Rattle.protocol.specs.Calls.{ProverInput, circuitOf, roundRefusal, fourthRoundCall}
 use Rattle.circuit.specs.Given.{given, proverInput}
@@ -31,10 +31,10 @@ input s =
 abbrev lent : tie.Start → List ℕ
 lent s = length (s .args .ga .now) ∷ length (s .args .gb .now) ∷ length (s .args .gc .now) ∷ []
 
-abbrev table : tie.Start → Messages ℕ ℕ
+abbrev table : tie.Start → MessageLengths
 table s = lengths (sizesOf (circuitOf (input s .circuit)))
 
-abbrev dueBy : Messages ℕ ℕ → List ℕ
+abbrev dueBy : MessageLengths → List ℕ
 dueBy l = l .matrixRemainders .a ∷ l .matrixRemainders .b ∷ l .matrixRemainders .c ∷ []
 
 abbrev due : tie.Start → List ℕ
@@ -59,7 +59,7 @@ judgement : (c : tie.After-judge-round)
 judgement c =
     let s = start c in
     c .judge-round .ensures babyBear babyBear-qualifies refl
-    ∙ ap (λ (l : Messages ℕ ℕ). roundRefusal babyBear (input s) (lent s) (dueBy l) (challenges s) (points s)) (at-lengths c .lengths-of .ensures)
+    ∙ ap (λ (l : MessageLengths). roundRefusal babyBear (input s) (lent s) (dueBy l) (challenges s) (points s)) (at-lengths c .lengths-of .ensures)
 
 -- nothing was refused
 fits : (c : tie.After-enum-told)

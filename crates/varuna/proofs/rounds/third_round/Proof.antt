@@ -7,7 +7,7 @@ use borrow.Author.Tests.{eqb-true}
 use Rattle.domain.specs.BabyBear.{babyBear}
 use Rattle.domain.proofs.Qualification.{babyBear-qualifies, babyBear-modulus}
 use Rattle.protocol.specs.Circuit.{sizesOf}
-use Rattle.protocol.specs.Messages.{Messages, lengths, lineRemainder, lineQuotient}
+use Rattle.protocol.specs.Messages.{MessageLengths, lengths, lineRemainder, lineQuotient}
 use Rattle.shared.specs.Meanings.{faultRefusal}
 use Rattle.protocol.specs.Calls.{ProverInput, circuitOf, roundRefusal, thirdRoundCall}
 use Rattle.circuit.specs.Given.{given, proverInput}
@@ -26,10 +26,10 @@ input s =
 abbrev lent : tie.Start → List ℕ
 lent s = length (s .args .remainder .now) ∷ length (s .args .quotient .now) ∷ []
 
-abbrev table : tie.Start → Messages ℕ ℕ
+abbrev table : tie.Start → MessageLengths
 table s = lengths (sizesOf (circuitOf (input s .circuit)))
 
-abbrev dueBy : Messages ℕ ℕ → List ℕ
+abbrev dueBy : MessageLengths → List ℕ
 dueBy l = l .lineRemainder ∷ l .lineQuotient ∷ []
 
 abbrev due : tie.Start → List ℕ
@@ -54,7 +54,7 @@ judgement : (c : tie.After-judge-round)
 judgement c =
     let s = start c in
     c .judge-round .ensures babyBear babyBear-qualifies refl
-    ∙ ap (λ (l : Messages ℕ ℕ). roundRefusal babyBear (input s) (lent s) (dueBy l) (challenges s) (points s)) (at-lengths c .lengths-of .ensures)
+    ∙ ap (λ (l : MessageLengths). roundRefusal babyBear (input s) (lent s) (dueBy l) (challenges s) (points s)) (at-lengths c .lengths-of .ensures)
 
 -- nothing was refused
 fits : (c : tie.After-enum-told)
