@@ -95,10 +95,10 @@ extern "C" {
 /* The version of what this file declares. The first number rises when a program that used the calls as described here has to change, the
  * second when calls or constants are added, the third when only text, speed or stack change. The archive belongs to the file it came with
  * and holds no version of its own. */
-#define VARUNA_VERSION "4.0.0"
+#define VARUNA_VERSION "4.0.1"
 #define VARUNA_VERSION_MAJOR 4
 #define VARUNA_VERSION_MINOR 0
-#define VARUNA_VERSION_PATCH 0
+#define VARUNA_VERSION_PATCH 1
 
 /* p, the number of elements of the field. */
 #define VARUNA_MODULUS UINT32_C(2013265921)
@@ -431,6 +431,9 @@ uint32_t varuna_session_commit(uint32_t session[VARUNA_SESSION_WORDS], const uin
 /*
  * The proof record: little-endian words; the eleven sections without gaps, then a trailer of 18 words: the eleven starts of the sections in
  * bytes, the six sizes, and the start of the trailer in bytes.
+ *
+ * A record holds the whole witness: w times the vanishing polynomial of X, plus the polynomial of x, has z as its values on C, whatever r
+ * and m were. It is the prover's own file: others get commitments and openings only.
  */
 
 /* Fills bytes (list 11) with the record of eleven sections (lists 0 to 10); sigma is section s and omega section o. Each section is as long

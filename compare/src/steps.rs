@@ -8,7 +8,7 @@ use second::{Refusal, Verdict, SESSION_WORDS};
 use std::fmt;
 
 /// A step with its words.
-#[derive(Clone, Debug)]
+#[derive(Clone, Debug, PartialEq, Eq)]
 pub enum Step {
     Open([u32; 6], Vec<u32>),
     Alpha([u32; 3], u32),

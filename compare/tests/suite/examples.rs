@@ -1,6 +1,8 @@
 //! The jobs in examples/: each text NAME.txt, packed, must print NAME.out, through the program and through the second
-//! implementation; what is accepted makes a proof record that the library reads. The blinded job is made from the one that it names.
+//! implementation; what is accepted makes a proof record that the library reads. The blinded job is made from the one that it names,
+//! and its circuit is the one that a proof takes as its example.
 
+use crate::hiding::{lagrange, minus, plus, sums, times};
 use crate::program;
 use compare::blinding::Blinding;
 use compare::case::Case;
@@ -80,6 +82,27 @@ fn records_of_accepted_examples_are_read() {
     assert!(count >= 4, "{count} accepted examples");
 }
 
+/// Whoever has a record, or what `prove` printed, has the whole witness: ŵ v_X + x̂ has z as its values on C, whatever the masks were. On C
+/// the power |C| is 1, so that the |C| + 1 coefficients come down to |C|.
+#[test]
+fn printed_lines_hold_the_whole_witness() {
+    let accepted = examples().into_iter().filter(|(_, _, printed)| printed.ends_with("verdict accept\n"));
+    for (name, text, printed) in accepted {
+        let case = case(&jobtext::pack(&text).unwrap_or_else(|error| panic!("{name}: {error}")));
+        let [_, columns, public] = case.sizes.map(|size| size as usize);
+        let mut z = vec![0; columns];
+        library::interpolate(case.sizes[2], &case.public_words(), &mut z[..public]).expect("a size and its lengths");
+        for (place, word) in words(&line_bytes(printed.lines().next().expect("ŵ is printed"))).into_iter().enumerate()
+        {
+            z[(place + public) % columns] = plus(z[(place + public) % columns], word);
+            z[place] = minus(z[place], word);
+        }
+        let mut values = vec![0; columns];
+        library::evaluate_on_domain(case.sizes[1], &z, &mut values).expect("a size and its lengths");
+        assert_eq!(values, case.assignment, "{name}");
+    }
+}
+
 /// Document 01's square case: 132 bytes, every one.
 #[test]
 fn record_of_the_square_example() {
@@ -114,20 +137,56 @@ fn case(job: &[u8]) -> Case {
     case
 }
 
-/// The three ρ that the first line of examples/blinded.txt names.
-fn named_rho(text: &str) -> [u32; 3] {
-    let (_, rest) = text.split_once("# The job of cubic.txt, blinded with rho = ").expect("the first line names them");
-    let numbers: Vec<u32> = rest.split([' ', ',']).map_while(|number| number.parse().ok()).collect();
-    numbers.try_into().expect("there are three")
+/// The case of an example.
+pub fn example(file: &str) -> Case {
+    case(&jobtext::pack(&read(file)).unwrap_or_else(|error| panic!("{file}: {error}")))
 }
 
-/// The job of examples/blinded.txt is that of examples/cubic.txt after blinding, on both sides.
+/// The numbers to which the first line of examples/blinded.txt gives a name.
+pub fn named<const N: usize>(name: &str) -> [u32; N] {
+    let text = read("blinded.txt");
+    let (_, rest) = text.split_once(&format!(" {name} = ")).expect("the first line names them");
+    let numbers: Vec<u32> = rest.split([' ', ',']).map_while(|number| number.parse().ok()).collect();
+    numbers.try_into().expect("there are as many")
+}
+
+/// The circuit of examples/cubic.txt with the two hiding rows, u · one = u in row 3 and w · 0 = 0 in row 4, in twice the rows and columns:
+/// the total is in column 8, which is public there. Masks and challenges are those of examples/blinded.txt.
+fn with_hiding_rows([u]: [u32; 1], [w]: [u32; 1]) -> Case {
+    let Case { sizes: [rows, columns, public], mut entries, assignment: z, .. } = example("cubic.txt");
+    for entry in entries.iter_mut().flat_map(|list| list.chunks_mut(3)).filter(|entry| entry[1] == 4) {
+        entry[1] = 8;
+    }
+    entries[0].extend([3, 4, 1, 4, 5, 1]);
+    entries[1].extend([3, 0, 1]);
+    entries[2].extend([3, 4, 1]);
+    let assignment = vec![z[0], z[1], z[2], z[3], u, w, 0, 0, z[4], 0, 0, 0, 0, 0, 0, 0];
+    let Case { mask_word, mask, challenges, .. } = example("blinded.txt");
+    let case = Case::new([2 * rows, 2 * columns, public], entries, assignment);
+    Case { mask_word, mask, challenges, ..case }
+}
+
+/// The job of examples/blinded.txt is that of the circuit with the hiding rows after blinding, on both sides.
 #[test]
 fn blinded_example() {
-    let [original, text] = ["cubic.txt", "blinded.txt"].map(read);
-    let original = jobtext::pack(&original).expect("examples/cubic.txt is a job");
-    let blinded = Blinding::new(case(&original), named_rho(&text)).blinded().expect("three columns are free");
-    assert_eq!(jobtext::pack(&text), Ok(blinded.job()), "examples/blinded.txt, then what blinding gives:\n{blinded}");
+    let hiding = with_hiding_rows(named("u"), named("w"));
+    let blinded = Blinding::new(hiding, named("rho")).blinded().expect("three columns are free");
+    let job = jobtext::pack(&read("blinded.txt"));
+    assert_eq!(job, Ok(blinded.job()), "examples/blinded.txt, then what blinding gives:\n{blinded}");
+}
+
+/// The circuit before blinding is the one that crates/protocol/proofs/HidingExample.antt proves to have the hiding rows.
+#[test]
+fn circuit_of_the_proof() {
+    let proof = read("../crates/protocol/proofs/HidingExample.antt");
+    let numbers = |name: &str| {
+        let line = proof.lines().find_map(|line| line.trim().strip_prefix(name)).expect("a line gives it");
+        let numbers = line.split(|sign: char| !sign.is_ascii_digit()).filter_map(|number| number.parse().ok());
+        numbers.collect::<Vec<u32>>()
+    };
+    let case = with_hiding_rows(named("u"), named("w"));
+    assert_eq!(["|R| = ", "|C| = ", "|X| = "].map(numbers).concat(), case.sizes);
+    assert_eq!(["a = ", "b = ", "c = "].map(numbers), case.entries);
 }
 
 /// The three sums that an example prints.
@@ -138,15 +197,14 @@ fn printed_sums(file: &str) -> [u32; 3] {
     sums.try_into().expect("there are three")
 }
 
-/// Blinding moves each sum by its ρ times one factor, as examples/blinded.txt says.
+/// The words that hide move the sums as examples/blinded.txt says.
 #[test]
 fn sums_of_the_blinded_example() {
-    let [before, after] = ["cubic.out", "blinded.out"].map(printed_sums);
-    let rho = named_rho(&read("blinded.txt"));
-    let factor = |matrix: usize| {
-        let moved = second::subtract(after[matrix], before[matrix]).expect("field words");
-        second::multiply(moved, second::inverse(rho[matrix]).expect("no word of rho is 0")).expect("field words")
-    };
-    assert_ne!(factor(0), 0);
-    assert_eq!([factor(1), factor(2)], [factor(0); 2]);
+    let before = with_hiding_rows([0], [0]);
+    let [last, of_u, of_w] = [7, 3, 4].map(|row| lagrange(&before, row));
+    let ([a, b, c], [u], [w]) = (named("rho"), named("u"), named("w"));
+    let by_u = times(of_u, u);
+    let moved = [plus(plus(times(last, a), by_u), times(of_w, w)), times(last, b), plus(times(last, c), by_u)];
+    let [before, after] = [sums(&before), printed_sums("blinded.out")];
+    assert_eq!(after, [0, 1, 2].map(|matrix| plus(before[matrix], moved[matrix])));
 }

@@ -19,6 +19,7 @@ mod circuits;
 mod examples;
 mod forged;
 mod growing;
+mod hiding;
 mod jobs;
 mod parts;
 mod positions;

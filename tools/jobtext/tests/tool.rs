@@ -23,7 +23,7 @@ fn tool(arguments: &[&str], input: &[u8]) -> Output {
     child.wait_with_output().expect("the tool ends")
 }
 
-/// What the tool writes where it succeeds.
+/// What the tool writes where it succeeds and says nothing.
 fn good(arguments: &[&str], input: &[u8]) -> Vec<u8> {
     let output = tool(arguments, input);
     assert!(output.status.success() && output.stderr.is_empty(), "{output:?}");
@@ -105,6 +105,7 @@ fn asks_for_a_command() {
             assert!(usage.contains(&format!("\n  jobtext {command}")), "{usage}");
         }
         assert!(usage.starts_with("usage:\n") && usage.contains("exit status is 1"), "{usage}");
+        assert!(usage.contains("\nA record, and the lines that prove prints, hold the whole witness: "), "{usage}");
     }
 }
 
@@ -191,12 +192,16 @@ fn job_file(test: &str, job: &[u8]) -> String {
     path
 }
 
+/// The record alone is on standard output; whose it is, is said on standard error.
 #[test]
 fn writes_the_square_record() {
     let file = job_file("square", &square());
-    let record = good(&["record", &file], SQUARE_LINES.as_bytes());
-    assert_eq!(record.len(), 132);
-    assert_eq!(record, square_record());
+    let output = tool(&["record", &file], SQUARE_LINES.as_bytes());
+    assert!(output.status.success(), "{output:?}");
+    assert_eq!(output.stdout.len(), 132);
+    assert_eq!(output.stdout, square_record());
+    let said = String::from_utf8(output.stderr).expect("what is said is text");
+    assert!(said.starts_with("this record holds the whole witness: ") && said.lines().count() == 1, "{said}");
 }
 
 #[test]
