@@ -301,7 +301,9 @@ uint32_t varuna_circuit_index(const uint32_t circuit[VARUNA_CIRCUIT_WORDS], uint
  * columns, B's at the middle one and C's at the highest, and z gets the three words of rho there. So the row says rho[0] * rho[1] = rho[2]
  * in the field. The blinded circuit is an ordinary one for every other call: the blinded z satisfies it exactly when z satisfies the
  * circuit given and that equation holds, and its public words are those of z. |K_A|, |K_B| and |K_C| are those of the longer lists. Whoever
- * blinds draws rho[0] and rho[1] at random and sets rho[2] to their product.
+ * blinds draws rho[0] and rho[1] at random and sets rho[2] to their product, anew for each proof. This alone does not hide a z that can be
+ * guessed, since the sum of C follows from the other two and z. A circuit that has two rows more, u * one = u and w * 0 = 0, each with
+ * a column of its own that is not public, hides z whole where u and w are drawn at random too: examples/blinded.txt has them.
  */
 
 /* Fills blinded_a, blinded_b, blinded_c (lists 4 to 6, each three words longer than its list) and blinded_z (list 7, |C| words) with the
