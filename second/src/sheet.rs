@@ -67,7 +67,7 @@ const ROWS: [Row<u128>; 35] = [
     ("triples of delta that save a false matrix value, at most", |_| P.pow(2), "values-caught"),
 ];
 
-/// The rows after them, for whole conversations.
+/// The rows after them, for whole conversations without a witness.
 const TUPLE_ROWS: [Row<Large>; 8] = [
     ("allowed challenge tuples", Given::tuples, "allowed-tuples"),
     ("tuples that alpha saves, at most", |g| g.saved(0), "saved-by-alpha"),
@@ -76,7 +76,19 @@ const TUPLE_ROWS: [Row<Large>; 8] = [
     ("tuples that delta saves, at most", |g| g.saved(3), "saved-by-delta"),
     ("tuples that gamma saves, at most", |g| g.saved(4), "saved-by-gamma"),
     ("tuples accepted without a witness, at most", Given::accepted, "few-accepted"),
-    ("tuples accepted without a witness, at most one in", |g| g.tuples().over(&g.accepted()), "one-in"),
+    ("tuples accepted without a witness, at most one in", Given::one_in, "one-in"),
+];
+
+/// The rows after them, for the honest prover's masks: exponents of p.
+const MASK_ROWS: [Row<u128>; 2] = [
+    ("masks, as a power of p", |g| 2 * g.columns, "all-masks"),
+    ("masks for one list of openings, as a power of p", |g| (2 * g.columns).saturating_sub(3), "any-three"),
+];
+
+/// The last rows, for repeated conversations.
+const REPEAT_ROWS: [Row<usize>; 2] = [
+    ("conversations for at most one false proof in 2^64", |g| g.conversations(u64::MAX.into()), "one-list-in"),
+    ("conversations for at most one false proof in 2^128", |g| g.conversations(u128::MAX), "one-list-in"),
 ];
 
 impl Given {
@@ -135,6 +147,16 @@ impl Given {
         (1..5).fold(self.saved(0), |sum, challenge| sum.plus(&self.saved(challenge)))
     }
 
+    /// The largest k with k times the sum at most N.
+    fn one_in(&self) -> Large {
+        self.tuples().over(&self.accepted())
+    }
+
+    /// The smallest k for which the k-th power of "one in" is above a number: as many digits as the number has in that base.
+    fn conversations(&self, number: u128) -> usize {
+        Large::from(number).digits_in(&self.one_in())
+    }
+
     fn record_bytes(&self) -> u128 {
         let words: u128 = (0..11).map(|section| self.section(section)).sum();
         WORD_BYTES * words + TRAILER_BYTES
@@ -190,5 +212,8 @@ pub fn sheet(text: &[u8]) -> String {
     if circuits.len() > CIRCUIT_LIMIT {
         return format!("sheet takes at most {CIRCUIT_LIMIT} circuits\n");
     }
-    rows(&ROWS, &circuits) + &rows(&TUPLE_ROWS, &circuits)
+    rows(&ROWS, &circuits)
+        + &rows(&TUPLE_ROWS, &circuits)
+        + &rows(&MASK_ROWS, &circuits)
+        + &rows(&REPEAT_ROWS, &circuits)
 }

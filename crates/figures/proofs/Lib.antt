@@ -4,5 +4,6 @@ pub mod NthLineLaws
 pub mod TableLaws
 pub mod TupleFactors
 pub mod TupleDigits
+pub mod RepeatLaws
 pub mod SheetLaws
 pub mod Counts

@@ -21,8 +21,8 @@ use Rattle.text.proofs.WrittenLaws.{written-then, written-length, written-as}
 use Rattle.sheet_lines.specs.declared.numbers.Request.{Request}
 use Rattle.sheet_lines.specs.Lines.{Given, linesOf}
 use Rattle.sheet_lines.specs.Meanings.{given}
-use Rattle.figures.specs.Figures.{Figure, sizeFigures, lengthFigures, checkFigures, tripleFigures, tupleFigures, figures}
-use Rattle.figures.specs.Placed.{rowCount, noFigure, figureAt, tupleAt, Within, nameRoom, sourceRoom, numberRoom, cellRoom, rowRoom}
+use Rattle.figures.specs.Figures.{Figure, sizeFigures, lengthFigures, checkFigures, tripleFigures, tupleFigures, maskFigures, repeatFigures, conversationFigures, figures}
+use Rattle.figures.specs.Placed.{numberRows, tripleRows, tupleRows, maskRows, rowCount, noFigure, figureAt, conversationAt, tupleAt, repeatAt, Within, nameRoom, sourceRoom, numberRoom, cellRoom, rowRoom}
 use Rattle.figures.specs.Sheet.{cellText, cellsText, rowText, rowsText}
 use Rattle.figures.proofs.PrimePowers.{squared, cubed, prime-squared, prime-cubed}
 
@@ -67,29 +67,42 @@ module _ (q : Prime) where
   -- the figures in their groups
   pub size-row : (i : ℕ) → i < 10 → figureAt q i ≡ getD sizeFigures i noFigure
   unfolding figures
-  size-row i h = List·getD-append sizeFigures (lengthFigures ++ (checkFigures q ++ (tripleFigures q ++ tupleFigures q))) noFigure i h
+  size-row i h = List·getD-append sizeFigures (lengthFigures ++ (checkFigures q ++ (tripleFigures q ++ conversationFigures q))) noFigure i h
 
   pub length-row : (i : ℕ) → i < 12 → figureAt q (10 + i) ≡ getD lengthFigures i noFigure
   unfolding figures
   length-row i h =
-      getD-append-add sizeFigures (lengthFigures ++ (checkFigures q ++ (tripleFigures q ++ tupleFigures q))) i noFigure
-      ∙ List·getD-append lengthFigures (checkFigures q ++ (tripleFigures q ++ tupleFigures q)) noFigure i h
+      getD-append-add sizeFigures (lengthFigures ++ (checkFigures q ++ (tripleFigures q ++ conversationFigures q))) i noFigure
+      ∙ List·getD-append lengthFigures (checkFigures q ++ (tripleFigures q ++ conversationFigures q)) noFigure i h
 
   pub check-row : (i : ℕ) → i < 9 → figureAt q (22 + i) ≡ getD (checkFigures q) i noFigure
   unfolding figures
   check-row i h =
-      getD-append-add (sizeFigures ++ lengthFigures) (checkFigures q ++ (tripleFigures q ++ tupleFigures q)) i noFigure
-      ∙ List·getD-append (checkFigures q) (tripleFigures q ++ tupleFigures q) noFigure i h
+      getD-append-add (sizeFigures ++ lengthFigures) (checkFigures q ++ (tripleFigures q ++ conversationFigures q)) i noFigure
+      ∙ List·getD-append (checkFigures q) (tripleFigures q ++ conversationFigures q) noFigure i h
 
-  pub triple-row : (i : ℕ) → i < 4 → figureAt q (31 + i) ≡ getD (tripleFigures q) i noFigure
+  pub triple-row : (i : ℕ) → i < tripleRows → figureAt q (numberRows + i) ≡ getD (tripleFigures q) i noFigure
   unfolding figures
   triple-row i h =
-      getD-append-add (sizeFigures ++ (lengthFigures ++ checkFigures q)) (tripleFigures q ++ tupleFigures q) i noFigure
-      ∙ List·getD-append (tripleFigures q) (tupleFigures q) noFigure i h
+      getD-append-add (sizeFigures ++ (lengthFigures ++ checkFigures q)) (tripleFigures q ++ conversationFigures q) i noFigure
+      ∙ List·getD-append (tripleFigures q) (conversationFigures q) noFigure i h
 
-  pub tuple-row : (i : ℕ) → figureAt q (35 + i) ≡ tupleAt q i
+  pub conversation-row : (i : ℕ) → figureAt q (numberRows + tripleRows + i) ≡ conversationAt q i
   unfolding figures
-  tuple-row i = getD-append-add (sizeFigures ++ (lengthFigures ++ (checkFigures q ++ tripleFigures q))) (tupleFigures q) i noFigure
+  conversation-row i =
+      getD-append-add (sizeFigures ++ (lengthFigures ++ (checkFigures q ++ tripleFigures q))) (conversationFigures q) i noFigure
+
+  -- those on whole conversations
+  pub tuple-row : (i : ℕ) → i < tupleRows → conversationAt q i ≡ tupleAt q i
+  tuple-row i h = List·getD-append (tupleFigures q) (maskFigures ++ repeatFigures q) noFigure i h
+
+  pub mask-row : (i : ℕ) → i < maskRows → conversationAt q (tupleRows + i) ≡ getD maskFigures i noFigure
+  mask-row i h =
+      getD-append-add (tupleFigures q) (maskFigures ++ repeatFigures q) i noFigure
+      ∙ List·getD-append maskFigures (repeatFigures q) noFigure i h
+
+  pub repeat-row : (i : ℕ) → conversationAt q (tupleRows + maskRows + i) ≡ repeatAt q i
+  repeat-row i = getD-append-add (tupleFigures q ++ maskFigures) (repeatFigures q) i noFigure
 
 -- a number of a list of figures' numbers
 pub number-of : (fs : List Figure) (g : Given) (i : ℕ) → getD (map (λ (f : Figure). f .number g) fs) i 0 ≡ getD fs i noFigure .number g
@@ -171,10 +184,10 @@ powers-lines = refl
 pub power-short : (j : ℕ) → length (getD (linesOf powers) (j % 2) []) ≤ numberRoom
 power-short j = rw powers-lines (short-line numberRoom (cubed ∷ squared ∷ []) refl (j % 2))
 
-pub power-row : (j : ℕ) (g : Given) → j < 4 → getD (linesOf powers) (j % 2) [] ≡ decimal (figureAt babyBear (31 + j) .number g)
+pub power-row : (j : ℕ) (g : Given) → j < tripleRows → getD (linesOf powers) (j % 2) [] ≡ decimal (figureAt babyBear (numberRows + j) .number g)
 power-row j g below = rw powers-lines (go j below) ∙ ap (λ (f : Figure). decimal (f .number g)) (sym (triple-row babyBear j below))
   where
-    go : (j : ℕ) → j < 4 → getD (cubed ∷ squared ∷ []) (j % 2) [] ≡ decimal (getD (tripleFigures babyBear) j noFigure .number g)
+    go : (j : ℕ) → j < tripleRows → getD (cubed ∷ squared ∷ []) (j % 2) [] ≡ decimal (getD (tripleFigures babyBear) j noFigure .number g)
     go zero below = prime-cubed
     go (suc zero) below = prime-squared
     go (suc (suc zero)) below = prime-cubed

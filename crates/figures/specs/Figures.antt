@@ -1,8 +1,8 @@
 -- The figures of a circuit, a row of the sheet for each: what was given, the sizes, the lengths of the messages, the degrees of the
--- checks, the allowed points, the counts of demand 3, and those of whole conversations (document 02, request 7), each with the theorem
--- behind it. Assumes nothing.
+-- checks, the allowed points, the counts of demand 3, those of whole conversations (document 02, request 7), the honest prover's masks,
+-- and how often a conversation is repeated until few false proofs pass, each with the theorem behind it. Assumes nothing.
 use mathlib.Core.List.{List, [], _∷_, _++_}
-use Prim.Native.Nat.{ℕ, _+_, _-_, _*_}
+use Prim.Native.Nat.{ℕ, _+_, _-_, _*_, _^_}
 use Prim.Native.String.{String}
 use Rattle.field.specs.Prime.{Prime}
 use Rattle.domain.specs.Size.{sizeFor}
@@ -12,6 +12,7 @@ use Rattle.protocol.specs.FalseProofs.{allTuples, savedByα, savedByη, savedBy
 use Rattle.protocol.specs.Messages.{lengths}
 use Rattle.protocol.specs.Record.{sectionBytes}
 use Rattle.protocol.specs.Refusals.{trailerBytes}
+use Rattle.protocol.specs.Repeated.{fewestRepeats}
 use Rattle.sheet_lines.specs.Lines.{Given}
 
 -- the circuit's sizes
@@ -100,6 +101,25 @@ module _ (q : Prime) where
       ∷ figure "tuples accepted without a witness, at most one in" (λ g. oneIn q (sizesFor g)) "one-in"
       ∷ []
 
+-- how many masks the honest prover may take, and how many of them lead to the same three openings
+abbrev pub maskFigures : List Figure
+maskFigures =
+    figure "masks, as a power of p" (λ g. 2 * g .|C|) "all-masks"
+    ∷ figure "masks for one list of openings, as a power of p" (λ g. 2 * g .|C| - 3) "any-three"
+    ∷ []
+
+module _ (q : Prime) where
+  -- how many conversations, all to be accepted, until at most one list of challenge tuples in so many lets a false proof pass
+  abbrev pub repeatFigures : List Figure
+  repeatFigures =
+      figure "conversations for at most one false proof in 2^64" (λ g. fewestRepeats (oneIn q (sizesFor g)) (2 ^ 64)) "one-list-in"
+      ∷ figure "conversations for at most one false proof in 2^128" (λ g. fewestRepeats (oneIn q (sizesFor g)) (2 ^ 128)) "one-list-in"
+      ∷ []
+
+  -- the rows on whole conversations
+  abbrev pub conversationFigures : List Figure
+  conversationFigures = tupleFigures q ++ (maskFigures ++ repeatFigures)
+
   -- all rows of the sheet
   unfoldable pub figures : List Figure
-  figures = sizeFigures ++ (lengthFigures ++ (checkFigures ++ (tripleFigures ++ tupleFigures)))
+  figures = sizeFigures ++ (lengthFigures ++ (checkFigures q ++ (tripleFigures q ++ conversationFigures)))

@@ -4,12 +4,32 @@ use Prim.Native.Nat.{ℕ, _+_, _*_, _≤_}
 use lib.ListN.{getD}
 use Rattle.field.specs.Prime.{Prime}
 use Rattle.text.specs.Written.{Written}
-use Rattle.figures.specs.Figures.{Figure, figure, tupleFigures, figures}
+use Rattle.figures.specs.Figures.{Figure, figure, tupleFigures, repeatFigures, conversationFigures, figures}
 use Rattle.figures.specs.Sheet.{mostCircuits}
+
+-- how many rows there are of sizes, lengths and single checks, and how many count triples
+abbrev pub numberRows : ℕ
+numberRows = 31
+
+abbrev pub tripleRows : ℕ
+tripleRows = 4
+
+-- how many rows are on whole conversations: on tuples, masks and repeats
+abbrev pub tupleRows : ℕ
+tupleRows = 8
+
+abbrev pub maskRows : ℕ
+maskRows = 2
+
+abbrev pub repeatRows : ℕ
+repeatRows = 2
+
+abbrev pub conversationRows : ℕ
+conversationRows = tupleRows + maskRows + repeatRows
 
 -- how many rows the sheet has
 abbrev pub rowCount : ℕ
-rowCount = 43
+rowCount = numberRows + tripleRows + conversationRows
 
 -- past the last row
 abbrev pub noFigure : Figure
@@ -19,9 +39,16 @@ noFigure = figure "" (λ g. 0) ""
 abbrev pub figureAt : Prime → ℕ → Figure
 figureAt q i = getD (figures q) i noFigure
 
--- row i of those that count tuples of challenges
+-- row i of those on whole conversations
+abbrev pub conversationAt : Prime → ℕ → Figure
+conversationAt q i = getD (conversationFigures q) i noFigure
+
+-- row i of those that count tuples of challenges, and of those on repeated conversations
 abbrev pub tupleAt : Prime → ℕ → Figure
 tupleAt q i = getD (tupleFigures q) i noFigure
+
+abbrev pub repeatAt : Prime → ℕ → Figure
+repeatAt q i = getD (repeatFigures q) i noFigure
 
 -- a text stands in the buffer from `at` on, `place` is the place after it, and the text is not longer than the room
 pub record Within (room : ℕ) (before : List ℕ) (at : ℕ) (text : List ℕ) (place : ℕ) (after : List ℕ) : Type 0 where

@@ -14,7 +14,7 @@ ghost use Rattle.protocol.specs.Record.{sectionBytes};
 ghost use Rattle.protocol.specs.Refusals.{trailerBytes};
 ghost use Rattle.sheet_lines.specs.Meanings.{given};
 ghost use Rattle.figures.specs.Figures.{sizesFor, Figure, sizeFigures, lengthFigures, checkFigures};
-ghost use Rattle.figures.specs.Placed.{figureAt};
+ghost use Rattle.figures.specs.Placed.{numberRows, figureAt};
 
 // The sums and the values have a word for each matrix.
 const MATRICES: usize = 3;
@@ -33,7 +33,7 @@ const CHECKS: usize = 9;
 pub const NUMBERS: usize = SIZES + LENGTHS + CHECKS;
 
 // m - n, and 0 where n is larger.
-fn less(m: usize, n: usize) -> usize
+pub fn less(m: usize, n: usize) -> usize
     ensures { λ r. ⌜ r ≡ m - n ⌝ }
 {
     if n <= m { m - n } else { 0 }
@@ -134,7 +134,7 @@ fn check_numbers(g: Request) -> [usize; CHECKS]
 
 // The number in a row for a circuit.
 pub fn number(row: usize, g: Request) -> usize
-    requires { ⌜ row < 31 ⌝ }
+    requires { ⌜ row < numberRows ⌝ }
     ensures { λ r. ⌜ r ≡ figureAt babyBear row .number (given g) ⌝ }
 {
     if row < SIZES {

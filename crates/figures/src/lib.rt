@@ -1,7 +1,9 @@
 // The planner's sheet: the figures of the circuits of a text, as a table.
 mod column;
+mod conversations;
 mod messages;
 mod nth_line;
+mod repeats;
 mod table;
 mod tuples;
 

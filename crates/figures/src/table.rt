@@ -1,8 +1,9 @@
 // The table: a row for each figure, with its name, a number for each circuit, and the theorem behind it.
 use crate::column::NUMBERS;
 use crate::column::number;
+use crate::conversations::CONVERSATIONS;
+use crate::conversations::put_conversations;
 use crate::nth_line::put_line;
-use crate::tuples::put_tuples;
 use sheet_lines::circuits::MOST_CIRCUITS;
 use sheet_lines::numbers::Request;
 use text::put_byte;
@@ -25,13 +26,13 @@ const POWERS: [u8; 48] = *b"8160249294558465929206824961\n4053239668659978241";
 // How many rows there are that count triples, and in all.
 const TRIPLES: usize = 4;
 
-pub const ROWS: usize = 43;
+pub const ROWS: usize = NUMBERS + TRIPLES + CONVERSATIONS;
 
 // Room for every row.
 pub const ROW_BYTES: usize = 1688;
 
 // The names of the figures and of the theorems, a line for each row.
-const NAMES: [u8; 842] = *b"|R|\n|C|\n|X|\n\
+const NAMES: [u8; 1014] = *b"|R|\n|C|\n|X|\n\
     entries of A\nentries of B\nentries of C\n\
     size of K_A\nsize of K_B\nsize of K_C\nsize of K\n\
     words of w\nwords of m\nwords of h0\nwords of s\nwords of g1\nwords of h1\nwords of o\n\
@@ -43,9 +44,11 @@ const NAMES: [u8; 842] = *b"|R|\n|C|\n|X|\n\
     allowed challenge tuples\n\
     tuples that alpha saves, at most\ntuples that eta saves, at most\ntuples that beta saves, at most\n\
     tuples that delta saves, at most\ntuples that gamma saves, at most\n\
-    tuples accepted without a witness, at most\ntuples accepted without a witness, at most one in";
+    tuples accepted without a witness, at most\ntuples accepted without a witness, at most one in\n\
+    masks, as a power of p\nmasks for one list of openings, as a power of p\n\
+    conversations for at most one false proof in 2^64\nconversations for at most one false proof in 2^128";
 
-const SOURCES: [u8; 477] = *b"given\ngiven\ngiven\n\
+const SOURCES: [u8; 521] = *b"given\ngiven\ngiven\n\
     given\ngiven\ngiven\n\
     sizeFor\nsizeFor\nsizeFor\nlargest\n\
     rules-kept\nrules-kept\nrules-kept\nrules-kept\nrules-kept\nrules-kept\nrules-kept\n\
@@ -56,7 +59,8 @@ const SOURCES: [u8; 477] = *b"given\ngiven\ngiven\n\
     all-triples\nvalues-caught\n\
     allowed-tuples\n\
     saved-by-alpha\nsaved-by-eta\nsaved-by-beta\nsaved-by-delta\nsaved-by-gamma\n\
-    few-accepted\none-in";
+    few-accepted\none-in\n\
+    all-masks\nany-three\none-list-in\none-list-in";
 
 fn put_name(row: usize, out: &mut [u8], at: usize) -> usize
     requires { ⌜ row < rowCount ⌝ }
@@ -75,7 +79,7 @@ fn put_source(row: usize, out: &mut [u8], at: usize) -> usize
 }
 
 // The number of a row for a circuit. The rows after the numbers count triples of challenges: all p³, then the p² that save a false
-// sum or matrix value, for eta and for delta. The rows after these count tuples.
+// sum or matrix value, for eta and for delta. The rows after these are on whole conversations.
 fn put_number(row: usize, request: Request, out: &mut [u8], at: usize) -> usize
     requires { ⌜ row < rowCount ⌝ }
     requires { ⌜ at + numberRoom ≤ length (now out) ⌝ }
@@ -88,7 +92,7 @@ fn put_number(row: usize, request: Request, out: &mut [u8], at: usize) -> usize
     if after < TRIPLES {
         return put_line(&POWERS, after % 2, out, at);
     }
-    put_tuples(after - TRIPLES, request, out, at)
+    put_conversations(after - TRIPLES, request, out, at)
 }
 
 // A tab and the number.

@@ -29,7 +29,7 @@ module _ (q : Prime) (s : Sizes) where
   pub tuples-below : 0 < fiveCounts q s → allTuples q s < suc (q .p) * fiveCounts q s
   tuples-below some = omega (arith, tuples-within, suc-mul (q .p) (fiveCounts q s))
 
-  one-in-below : oneIn q s ≤ q .p
+  pub one-in-below : oneIn q s ≤ q .p
   unfolding oneIn
   one-in-below = div-le-of-le-mul (fiveCounts q s) (omega (arith, tuples-within, mul-comm (q .p) (fiveCounts q s)))
 

@@ -8,8 +8,8 @@ use Rattle.text.specs.Decimal.{decimal}
 use Rattle.text.proofs.WrittenLaws.{written-as}
 use Rattle.sheet_lines.specs.Meanings.{given}
 use Rattle.figures.specs.Figures.{Figure}
-use Rattle.figures.specs.Placed.{figureAt, numberRoom}
-use Rattle.figures.proofs.TableLaws.{within-room, within-as, tuple-row, few-digits, powers-lines, power-short, power-row}
+use Rattle.figures.specs.Placed.{numberRows, tripleRows, figureAt, numberRoom}
+use Rattle.figures.proofs.TableLaws.{within-room, within-as, conversation-row, few-digits, powers-lines, power-short, power-row}
 use borrow.Author.Needs.{needs}
 use Rattle.figures.proofs.table.put_number.Statement.{statement}
 use Rattle.figures.proofs.table.put_number.Tie as tie
@@ -38,7 +38,7 @@ slice-aggregate-put-line c = search needs
 put-line-requires : tie.Need-put-line-requires
 put-line-requires c κs =
     let start = c .before .before .before .before .before in
-    (omega (arith, ap length powers-lines), omega (arith, start .pre .1, power-short (start .args .row - 31)))
+    (omega (arith, ap length powers-lines), omega (arith, start .pre .1, power-short (start .args .row - numberRows)))
 
 same-length-2 : tie.Need-same-length-2
 same-length-2 c = search needs
@@ -47,13 +47,13 @@ returns-2 : tie.Need-returns-2
 returns-2 c =
     let start = c .before .before .before .before .before .before .before .before in
     let row = start .args .row in
-    let same : 31 + (row - 31) ≡ row = omega arith in
+    let same : numberRows + (row - numberRows) ≡ row = omega arith in
     let g = given (start .args .request) in
-    let line = power-row (row - 31) g (search needs) ∙ ap (λ i. decimal (figureAt babyBear i .number g)) same in
-    within-room numberRoom (omega (arith, ap length line, power-short (row - 31))) (written-as line (c .before .before .put-line .ensures))
+    let line = power-row (row - numberRows) g (search needs) ∙ ap (λ i. decimal (figureAt babyBear i .number g)) same in
+    within-room numberRoom (omega (arith, ap length line, power-short (row - numberRows))) (written-as line (c .before .before .put-line .ensures))
 
-put-tuples-requires : tie.Need-put-tuples-requires
-put-tuples-requires c κs = search needs
+put-conversations-requires : tie.Need-put-conversations-requires
+put-conversations-requires c κs = search needs
 
 same-length-3 : tie.Need-same-length-3
 same-length-3 c = search needs
@@ -62,10 +62,10 @@ returns-3 : tie.Need-returns-3
 returns-3 c =
     let start = c .before .before .before .before .before .before .before in
     let row = start .args .row in
-    let same : 35 + (row - 31 - 4) ≡ row = omega arith in
-    let figure = sym (tuple-row babyBear (row - 31 - 4)) ∙ ap (figureAt babyBear) same in
+    let same : numberRows + tripleRows + (row - numberRows - tripleRows) ≡ row = omega arith in
+    let figure = sym (conversation-row babyBear (row - numberRows - tripleRows)) ∙ ap (figureAt babyBear) same in
     let g = given (start .args .request) in
-    within-as (ap (λ (f : Figure). decimal (f .number g)) figure) (c .before .before .put-tuples .ensures)
+    within-as (ap (λ (f : Figure). decimal (f .number g)) figure) (c .before .before .put-conversations .ensures)
 
 pub put-number-spec : {M : Type 1} → statement M
 put-number-spec =
@@ -79,6 +79,6 @@ put-number-spec =
     put-line-requires
     same-length-2
     returns-2
-    put-tuples-requires
+    put-conversations-requires
     same-length-3
     returns-3)
