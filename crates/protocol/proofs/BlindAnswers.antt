@@ -25,7 +25,7 @@ use Rattle.protocol.specs.Blinded.{privateColumns, reservedRow, reserved
 use Rattle.protocol.specs.Blinding.{Public}
 use Rattle.protocol.specs.Table.{Row, row, Met, Answers}
 use Rattle.protocol.specs.Rows.{equalConditions, EntryList, entryLists, constantRow, circuitRows}
-use Rattle.protocol.specs.Demand1.{Reservable, blindingRow}
+use Rattle.protocol.specs.Demand1.{Reservable, blindingRow, blindRows}
 use Rattle.protocol.proofs.TableLaws.{Tells, TellAll, Told, told, told-append, refuses, answers-first, tell-append}
 use Rattle.protocol.proofs.TableLaws.{tells-equal, tells-less, tells-most, tells-both, tells-as, tells-not, tells-either, tells-some, tells-none}
 use Rattle.protocol.proofs.RowTests.{tell-same, constant-told, circuit-told}
@@ -178,13 +178,13 @@ module _ (q : Prime) where
     abbrev lateRows : List Row
     lateRows = blindingRow (circuitOf c) ∷ constantRow z ∷ []
 
-    pub blinds : Answers (circuitRows q (circuitOf c) conditions (z ++ listed ρ) ++ lateRows) (blindCall q c z ρ lent lentAssignment)
+    pub blinds : Answers (blindRows q c z ρ lent lentAssignment) (blindCall q c z ρ lent lentAssignment)
     unfolding blindCall blindRefusal
     blinds =
         let slices : List Bool = pairs eqb (listed lent) due ++ (eqb lentAssignment (c .|C|) ∷ []) in
         let tests : List Bool = roomyListTests c ++ (eqb (length z) (c .|C|) ∷ slices) in
         let late : List (Option Refusal) = blindingRefusal (circuitOf c) ∷ constantRefusal z ∷ [] in
-        answers-first (circuitRefusals q (circuitOf c) tests (z ++ listed ρ) ++ late) (circuitRows q (circuitOf c) conditions (z ++ listed ρ) ++ lateRows) _
+        answers-first (circuitRefusals q (circuitOf c) tests (z ++ listed ρ) ++ late) (blindRows q c z ρ lent lentAssignment) _
         (told-append (circuitRefusals q (circuitOf c) tests (z ++ listed ρ)) late (circuitRows q (circuitOf c) conditions (z ++ listed ρ)) lateRows
         (circuit-told q (circuitOf c) tests conditions (z ++ listed ρ)
         (tell-append (roomyListTests c) (eqb (length z) (c .|C|) ∷ slices) (entryLists (maxSize - 1) c)

@@ -20,8 +20,8 @@ use Rattle.protocol.specs.Calls.{CircuitWords, circuitOf, entryListTests
 use Rattle.protocol.specs.Grown.{stored, grownLists, grownCircuit, hasRow, beginCall, beginFromCall, addEntryCall, removeEntryCall, findRowCall, grownIndexCall}
 use Rattle.protocol.specs.Growing.{number, changed, standsAt, entriesWith, entriesWithout, addition, removal, Correct}
 use Rattle.protocol.specs.Table.{Row, row, Answers}
-use Rattle.protocol.specs.Rows.{sizeConditions, listsRow, entryLists, Stands, wordsRow, circuitRows}
-use Rattle.protocol.specs.Demand1.{Occupied, indexRows}
+use Rattle.protocol.specs.Rows.{sizeConditions, entryLists, Stands, circuitRows}
+use Rattle.protocol.specs.Demand1.{Occupied, indexRows, addRows}
 use Rattle.protocol.proofs.AdmissionLaws.{admitted-well-formed}
 use Rattle.protocol.proofs.Growing.{growing}
 use Rattle.protocol.proofs.TableLaws.{Tells, told, refuses-one, answers, answers-first, tells-equal, tells-less, tells-both, tells-as, tells-not, tells-some}
@@ -63,23 +63,15 @@ module _ (q : Prime) where
     abbrev es : List Entry
     es = at (k .matrices) M
 
-    addition-answers :
-        (e : Entry)
-        → Answers
-        (listsRow ((length es < maxSize) ∷ []) ∷ wordsRow q (e .value ∷ []) ∷ row 7 0 (Stands k e ∷ [])
-        ∷ row 14 0 ((¬ Occupied (e .row) (e .column) es) ∷ []) ∷ [])
-        (mapOutcome stored (addition q k M e))
+    addition-answers : (e : Entry) → Answers (addRows q k M e) (mapOutcome stored (addition q k M e))
     unfolding addition
     addition-answers e =
         let taken : Bool = any (standsAt (e .row) (e .column)) es in
-        let rows : List Row =
-        listsRow ((length es < maxSize) ∷ []) ∷ wordsRow q (e .value ∷ []) ∷ row 7 0 (Stands k e ∷ [])
-        ∷ row 14 0 ((¬ Occupied (e .row) (e .column) es) ∷ []) ∷ [] in
         let refusals : List (Option Refusal) =
         listRefusal (ltb (length es) maxSize ∷ []) ∷ wordRefusal q (e .value ∷ []) ∷ refuse 7 0 (fits k e ∷ []) ∷ refuse 14 0 (not taken ∷ []) ∷ [] in
         let next : Circuit = changed k M (entriesWith e es) in
-        subst (Answers rows) (sym (judged-mapped stored (first refusals) next))
-        (answers-first refusals rows (stored next) (
+        subst (Answers (addRows q k M e)) (sym (judged-mapped stored (first refusals) next))
+        (answers-first refusals (addRows q k M e) (stored next) (
           lists-told (ltb (length es) maxSize ∷ []) ((length es < maxSize) ∷ []) (tells-less (length es) maxSize, tt),
           (
             words-told q (e .value ∷ []),
@@ -94,13 +86,8 @@ module _ (q : Prime) where
           ),
         ))
 
-    pub adds :
-        (e : Entry)
-        → Answers
-        (listsRow ((length es < maxSize) ∷ []) ∷ wordsRow q (e .value ∷ []) ∷ row 7 0 (Stands k e ∷ [])
-        ∷ row 14 0 ((¬ Occupied (e .row) (e .column) es) ∷ []) ∷ [])
-        (addEntryCall q w (number M) e)
-    adds e = subst (Answers _) (sym (growing q .adds w correct M e)) (addition-answers e)
+    pub adds : (e : Entry) → Answers (addRows q k M e) (addEntryCall q w (number M) e)
+    adds e = subst (Answers (addRows q k M e)) (sym (growing q .adds w correct M e)) (addition-answers e)
 
     removal-answers : (i j : ℕ) → Answers (row 14 0 (Occupied i j es ∷ []) ∷ []) (mapOutcome stored (removal k M i j))
     unfolding removal

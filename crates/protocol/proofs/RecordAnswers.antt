@@ -14,21 +14,14 @@ use Rattle.protocol.specs.Refusals.{Refusal, judged, first, refuse, pair
 use Rattle.protocol.specs.Record.{sectionLengths, sectionBytes, startsFrom, wordsIn, trailerWord, sizesRead, wordRow, recordRefusal, readRecord}
 use Rattle.protocol.specs.Calls.{writeCall, placeCall}
 use Rattle.protocol.specs.Table.{Row, row, Answers}
-use Rattle.protocol.specs.Rows.{sixSizeConditions, equalConditions, endRow, trailerRows, listsRow, wordsRow}
-use Rattle.protocol.specs.Demand1.{recordRows}
+use Rattle.protocol.specs.Rows.{sixSizeConditions, equalConditions, endRow, trailerRows, wordsRow}
+use Rattle.protocol.specs.Demand1.{recordRows, writeRows}
 use Rattle.protocol.proofs.TableLaws.{Told, ToldAll, told, told-append, first-together, answers-first}
 use Rattle.protocol.proofs.TableLaws.{tell-append, tells-equal, tells-less, tells-most, tells-both, tells-as}
 use Rattle.protocol.proofs.RowTests.{tell-six-sizes, sizes-told, lists-told, tell-same, words-told}
 
 module _ (q : Prime) where
-  pub writes :
-      (s : Sizes) (sections : List (List ℕ)) (lent : ℕ)
-      → Answers
-      (row 4 0 (sixSizeConditions s)
-      ∷ listsRow (equalConditions (map length sections) (sectionLengths s) ++ ((lent ≡ sectionBytes s + trailerBytes) ∷ []))
-      ∷ wordsRow q (foldr _++_ [] sections)
-      ∷ [])
-      (writeCall q s sections lent)
+  pub writes : (s : Sizes) (sections : List (List ℕ)) (lent : ℕ) → Answers (writeRows q s sections lent) (writeCall q s sections lent)
   unfolding writeCall
   writes s sections lent =
       let last : ℕ = sectionBytes s + trailerBytes in
@@ -36,7 +29,7 @@ module _ (q : Prime) where
       let conditions : List (Type 0) = equalConditions (map length sections) (sectionLengths s) in
       answers-first
       (sizeRefusal (sixSizeTests s) ∷ listRefusal (tests ++ (eqb lent last ∷ [])) ∷ wordRefusal q (foldr _++_ [] sections) ∷ [])
-      (row 4 0 (sixSizeConditions s) ∷ listsRow (conditions ++ ((lent ≡ last) ∷ [])) ∷ wordsRow q (foldr _++_ [] sections) ∷ []) _ (
+      (writeRows q s sections lent) _ (
         sizes-told (sixSizeTests s) (sixSizeConditions s) (tell-six-sizes s),
         (
           lists-told (tests ++ (eqb lent last ∷ [])) (conditions ++ ((lent ≡ last) ∷ []))

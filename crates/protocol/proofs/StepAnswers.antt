@@ -20,8 +20,8 @@ use Rattle.protocol.specs.Refusals.{Refusal, first, pairs, beginsWithOne
 use Rattle.protocol.specs.Session.{Session, Stepped, Answer, Taken, Judged, Refused, unless, all, inTurn, allBelow, publicFits, transcriptFits, leftBySteps, openRefusals, openRefusal}
 use Rattle.protocol.specs.Session.{alphaRefusal, etaRefusal, betaRefusal, deltaRefusal, gammaRefusal, openingsRefusal, openStep, alphaStep, etaStep, betaStep, deltaStep, gammaStep, askStep, commitStep, verdictOf}
 use Rattle.protocol.specs.Table.{Row, row, Hold, Refuses}
-use Rattle.protocol.specs.Rows.{NoElement, sixSizeConditions, InTurn, listsRow, constantRow, declaredRow, wordsRow, challengeRow}
-use Rattle.protocol.specs.Demand1.{Steps, Left, openingsRows}
+use Rattle.protocol.specs.Rows.{NoElement, sixSizeConditions, InTurn, declaredRow, wordsRow}
+use Rattle.protocol.specs.Demand1.{Steps, openRows, challengedRows, Left, openingsRows}
 use Rattle.protocol.proofs.TableLaws.{Tells, TellAll, Told, told, refuses, tells-equal, tells-less, tells-both, tells-as}
 use Rattle.protocol.proofs.RowTests.{tell-six-sizes, sizes-told, lists-told, constant-told, declared-told, words-told, tells-outside, challenge-told}
 
@@ -102,14 +102,11 @@ module _ (q : Prime) where
       ((h .constant, (h .public-words, h .zeros)), (h .transcript-words, (h .α-outside, (h .β-outside, (h .γ-outside, tt))))))
 
   module _ (s : Session) where
-    pub opens :
-        (n : Sizes) (x : List ℕ)
-        → Steps (row 4 0 (sixSizeConditions n) ∷ listsRow ((length x ≡ n .|X|) ∷ []) ∷ wordsRow q x ∷ constantRow x ∷ []) Taken s (openStep q s n x)
+    pub opens : (n : Sizes) (x : List ℕ) → Steps (openRows q n x) Taken s (openStep q s n x)
     unfolding openStep openRefusal
     opens n x =
-        let rows : List Row = row 4 0 (sixSizeConditions n) ∷ listsRow ((length x ≡ n .|X|) ∷ []) ∷ wordsRow q x ∷ constantRow x ∷ [] in
-        steps rows (openRefusal q n x) Taken s _
-        (refuses (openRefusals q n x) rows (
+        steps (openRows q n x) (openRefusal q n x) Taken s _
+        (refuses (openRefusals q n x) (openRows q n x) (
           sizes-told (sixSizeTests n) (sixSizeConditions n) (tell-six-sizes n),
           (
             lists-told (eqb (length x) (n .|X|) ∷ []) ((length x ≡ n .|X|) ∷ []) (tells-equal (length x) (n .|X|), tt),
@@ -118,14 +115,10 @@ module _ (q : Prime) where
         ))
         refl taken-other
 
-    -- a step with a challenge, of the domain of size d, and declared lengths
-    abbrev challengedRows : ℕ → ℕ → ℕ → ℕ → List ℕ → List ℕ → List Row
-    challengedRows n position d y declared table =
-        row 1 0 (InTurn n s ∷ []) ∷ wordsRow q (y ∷ []) ∷ challengeRow q position (d ∷ []) (y ∷ []) ∷ declaredRow declared table ∷ []
-
+    -- a step with a challenge and declared lengths
     challenged :
         (n position d y : ℕ) (declared table : List ℕ)
-        → Refuses (challengedRows n position d y declared table)
+        → Refuses (challengedRows q s n position d y declared table)
         (first
         (turnRefusal (inTurn n (s .stage) (s .sizes))
         ∷ wordRefusal q (y ∷ []) ∷ challengeRefusal {q = q} position (d ∷ []) (of y ∷ []) ∷ lengthRefusal declared table ∷ []))
@@ -133,7 +126,7 @@ module _ (q : Prime) where
         refuses
         (turnRefusal (inTurn n (s .stage) (s .sizes))
         ∷ wordRefusal q (y ∷ []) ∷ challengeRefusal {q = q} position (d ∷ []) (of y ∷ []) ∷ lengthRefusal declared table ∷ [])
-        (challengedRows n position d y declared table) (
+        (challengedRows q s n position d y declared table) (
           turn-told (inTurn n (s .stage) (s .sizes)) (InTurn n s) (tells-turn n s),
           (words-told q (y ∷ []), (challenge-told q position (d ∷ []) (y ∷ []), (declared-told declared table, tt))),
         )
@@ -143,7 +136,7 @@ module _ (q : Prime) where
 
     pub hears-α :
         (ŵ m h0 α : ℕ)
-        → Steps (challengedRows 1 0 (s .sizes .|R|) α (ŵ ∷ m ∷ h0 ∷ []) (most .witness ∷ most .mask ∷ most .rowQuotient ∷ [])) Taken s
+        → Steps (challengedRows q s 1 0 (s .sizes .|R|) α (ŵ ∷ m ∷ h0 ∷ []) (most .witness ∷ most .mask ∷ most .rowQuotient ∷ [])) Taken s
         (alphaStep q s ŵ m h0 α)
     unfolding alphaStep alphaRefusal
     hears-α ŵ m h0 α =
@@ -152,14 +145,14 @@ module _ (q : Prime) where
 
     pub hears-β :
         (g1 h1 β : ℕ)
-        → Steps (challengedRows 3 1 (s .sizes .|C|) β (g1 ∷ h1 ∷ []) (most .lineRemainder ∷ most .lineQuotient ∷ [])) Taken s (betaStep q s g1 h1 β)
+        → Steps (challengedRows q s 3 1 (s .sizes .|C|) β (g1 ∷ h1 ∷ []) (most .lineRemainder ∷ most .lineQuotient ∷ [])) Taken s (betaStep q s g1 h1 β)
     unfolding betaStep betaRefusal
     hears-β g1 h1 β =
         steps _ (betaRefusal q (s .stage) (s .sizes) g1 h1 β) Taken s _
         (challenged 3 1 (s .sizes .|C|) β (g1 ∷ h1 ∷ []) (most .lineRemainder ∷ most .lineQuotient ∷ [])) refl taken-other
 
     pub hears-γ :
-        (h2 γ : ℕ) → Steps (challengedRows 5 2 (largest (s .sizes .|K|)) γ (h2 ∷ []) (most .joinedQuotient ∷ [])) Taken s (gammaStep q s h2 γ)
+        (h2 γ : ℕ) → Steps (challengedRows q s 5 2 (largest (s .sizes .|K|)) γ (h2 ∷ []) (most .joinedQuotient ∷ [])) Taken s (gammaStep q s h2 γ)
     unfolding gammaStep gammaRefusal
     hears-γ h2 γ =
         steps _ (gammaRefusal q (s .stage) (s .sizes) h2 γ) Taken s _

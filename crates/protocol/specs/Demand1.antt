@@ -93,6 +93,44 @@ module _ (q : Prime) where
     pub β-outside : NoElement {q = q} (s .sizes .|C|) (of (s .transcript .β))
     pub γ-outside : NoElement {q = q} (largest (s .sizes .|K|)) (of (s .transcript .γ))
 
+  -- "open (the six sizes in trailer order, x)"
+  abbrev pub openRows : Sizes → List ℕ → List Row
+  openRows n x = row 4 0 (sixSizeConditions n) ∷ listsRow ((length x ≡ n .|X|) ∷ []) ∷ wordsRow q x ∷ constantRow x ∷ []
+
+  -- a step with declared lengths and a challenge y, which is forbidden the domain of size d: 1 comes first, then 6, then 10, then 11; a
+  -- length counts within its step
+  abbrev pub challengedRows : Session → ℕ → ℕ → ℕ → ℕ → List ℕ → List ℕ → List Row
+  challengedRows s n position d y declared table =
+      row 1 0 (InTurn n s ∷ []) ∷ wordsRow q (y ∷ []) ∷ challengeRow q position (d ∷ []) (y ∷ []) ∷ declaredRow declared table ∷ []
+
+  -- a record to write, into lent bytes
+  abbrev pub writeRows : Sizes → List (List ℕ) → ℕ → List Row
+  writeRows s sections lent =
+      row 4 0 (sixSizeConditions s)
+      ∷ listsRow (equalConditions (map length sections) (sectionLengths s) ++ ((lent ≡ sectionBytes s + trailerBytes) ∷ []))
+      ∷ wordsRow q (foldr _++_ [] sections)
+      ∷ []
+
+  -- an entry to put into matrix M of a circuit
+  abbrev pub addRows : Circuit → MatrixName → Entry → List Row
+  addRows k M e =
+      let es : List Entry = at (k .matrices) M in
+      listsRow ((length es < maxSize) ∷ [])
+      ∷ wordsRow q (e .value ∷ [])
+      ∷ row 7 0 (Stands k e ∷ [])
+      ∷ row 14 0 ((¬ Occupied (e .row) (e .column) es) ∷ [])
+      ∷ []
+
+  -- a circuit to blind, with room for one entry more in each list: 15 comes after 7, and 13 after 15
+  abbrev pub blindRows : CircuitWords → List ℕ → Three ℕ → Three ℕ → ℕ → List Row
+  blindRows c z ρ lent lentAssignment =
+      circuitRows q (circuitOf c)
+      (entryLists (maxSize - 1) c
+      ++ ((length z ≡ c .|C|)
+      ∷ (equalConditions (listed lent) (listed (mapThree (λ l. length l + 3) (c .matrices))) ++ ((lentAssignment ≡ c .|C|) ∷ []))))
+      (z ++ listed ρ)
+      ++ (blindingRow (circuitOf c) ∷ constantRow z ∷ [])
+
   -- the openings, asked about or committed
   abbrev pub openingsRows : Session → Openings ℕ → List Row
   openingsRows s o = row 1 0 ((InTurn 6 s × Left s) ∷ []) ∷ wordsRow q (listOpenings o) ∷ []
@@ -136,32 +174,20 @@ pub record Demand1 (q : Prime) : Type 0 where
   pub openings :
       (i : ProverInput) (α : ℕ) (η : Three ℕ) (β : ℕ) (δ : Three ℕ) (γ : ℕ)
       → Answers (roundRows q i [] [] (α ∷ (listed η ++ (β ∷ (listed δ ++ (γ ∷ []))))) (α ∷ β ∷ γ ∷ [])) (openingsCall q i α η β δ γ)
-  -- the session's steps: in a step with a challenge and lengths 1 comes first, then 6, then 10, then 11; a length counts within its step
-  pub opens :
-      (s : Session) (n : Sizes) (x : List ℕ)
-      → Steps (row 4 0 (sixSizeConditions n) ∷ listsRow ((length x ≡ n .|X|) ∷ []) ∷ wordsRow q x ∷ constantRow x ∷ []) Taken s (openStep q s n x)
+  -- the session's steps
+  pub opens : (s : Session) (n : Sizes) (x : List ℕ) → Steps (openRows q n x) Taken s (openStep q s n x)
   pub hears-α :
       (s : Session) (ŵ m h0 α : ℕ)
       → let most = lengths (s .sizes) in
-      Steps
-      (row 1 0 (InTurn 1 s ∷ [])
-      ∷ wordsRow q (α ∷ [])
-      ∷ challengeRow q 0 (s .sizes .|R| ∷ []) (α ∷ [])
-      ∷ declaredRow (ŵ ∷ m ∷ h0 ∷ []) (most .witness ∷ most .mask ∷ most .rowQuotient ∷ [])
-      ∷ [])
-      Taken s (alphaStep q s ŵ m h0 α)
+      Steps (challengedRows q s 1 0 (s .sizes .|R|) α (ŵ ∷ m ∷ h0 ∷ []) (most .witness ∷ most .mask ∷ most .rowQuotient ∷ [])) Taken s
+      (alphaStep q s ŵ m h0 α)
   pub hears-η :
       (s : Session) (σ η : Three ℕ) → Steps (row 1 0 (InTurn 2 s ∷ []) ∷ wordsRow q (listed σ ++ listed η) ∷ []) Taken s (etaStep q s σ η)
   pub hears-β :
       (s : Session) (g1 h1 β : ℕ)
       → let most = lengths (s .sizes) in
-      Steps
-      (row 1 0 (InTurn 3 s ∷ [])
-      ∷ wordsRow q (β ∷ [])
-      ∷ challengeRow q 1 (s .sizes .|C| ∷ []) (β ∷ [])
-      ∷ declaredRow (g1 ∷ h1 ∷ []) (most .lineRemainder ∷ most .lineQuotient ∷ [])
-      ∷ [])
-      Taken s (betaStep q s g1 h1 β)
+      Steps (challengedRows q s 3 1 (s .sizes .|C|) β (g1 ∷ h1 ∷ []) (most .lineRemainder ∷ most .lineQuotient ∷ [])) Taken s
+      (betaStep q s g1 h1 β)
   pub hears-δ :
       (s : Session) (ω g δ : Three ℕ)
       → Steps
@@ -172,39 +198,19 @@ pub record Demand1 (q : Prime) : Type 0 where
       Taken s (deltaStep q s ω g δ)
   pub hears-γ :
       (s : Session) (h2 γ : ℕ)
-      → Steps
-      (row 1 0 (InTurn 5 s ∷ [])
-      ∷ wordsRow q (γ ∷ [])
-      ∷ challengeRow q 2 (largest (s .sizes .|K|) ∷ []) (γ ∷ [])
-      ∷ declaredRow (h2 ∷ []) (lengths (s .sizes) .joinedQuotient ∷ [])
-      ∷ [])
-      Taken s (gammaStep q s h2 γ)
+      → Steps (challengedRows q s 5 2 (largest (s .sizes .|K|)) γ (h2 ∷ []) (lengths (s .sizes) .joinedQuotient ∷ [])) Taken s
+      (gammaStep q s h2 γ)
   pub asks : (s : Session) (o : Openings ℕ) → Steps (openingsRows q s o) (Judged (verdictOf q s o)) s (askStep q s o)
   pub commits : (s : Session) (o : Openings ℕ) → Steps (openingsRows q s o) (Judged (verdictOf q s o)) s (commitStep q s o)
   -- the proof record
-  pub writes :
-      (s : Sizes) (sections : List (List ℕ)) (lent : ℕ)
-      → Answers
-      (row 4 0 (sixSizeConditions s)
-      ∷ listsRow (equalConditions (map length sections) (sectionLengths s) ++ ((lent ≡ sectionBytes s + trailerBytes) ∷ []))
-      ∷ wordsRow q (foldr _++_ [] sections)
-      ∷ [])
-      (writeCall q s sections lent)
+  pub writes : (s : Sizes) (sections : List (List ℕ)) (lent : ℕ) → Answers (writeRows q s sections lent) (writeCall q s sections lent)
   pub reads : (bytes : List ℕ) → Answers (recordRows q bytes []) (readRecord bytes q)
   pub finds-section : (bytes : List ℕ) (k : ℕ) → Answers (recordRows q bytes (row 5 k ((k < 11) ∷ []) ∷ [])) (placeCall q bytes k)
   -- circuits that grow: from either beginning on, memory is `Correct`
   pub begins : (r c x : ℕ) → Answers (row 4 0 (sizeConditions r c x []) ∷ []) (beginCall r c x)
   pub begins-from : (c : CircuitWords) → Answers (circuitRows q (circuitOf c) (entryLists maxSize c) []) (beginFromCall q c)
   pub adds :
-      (w : List ℕ) → Correct q w → (M : MatrixName) (e : Entry)
-      → let es : List Entry = at (grownCircuit w .matrices) M in
-      Answers
-      (listsRow ((length es < maxSize) ∷ [])
-      ∷ wordsRow q (e .value ∷ [])
-      ∷ row 7 0 (Stands (grownCircuit w) e ∷ [])
-      ∷ row 14 0 ((¬ Occupied (e .row) (e .column) es) ∷ [])
-      ∷ [])
-      (addEntryCall q w (number M) e)
+      (w : List ℕ) → Correct q w → (M : MatrixName) (e : Entry) → Answers (addRows q (grownCircuit w) M e) (addEntryCall q w (number M) e)
   pub removes :
       (w : List ℕ) → Correct q w → (M : MatrixName) (i j : ℕ)
       → Answers (row 14 0 (Occupied i j (at (grownCircuit w .matrices) M) ∷ []) ∷ []) (removeEntryCall w (number M) i j)
@@ -212,17 +218,10 @@ pub record Demand1 (q : Prime) : Type 0 where
       (w : List ℕ) → Correct q w → (M : MatrixName) (i : ℕ)
       → Answers (row 7 0 ((i < grownCircuit w .|R|) ∷ []) ∷ []) (findRowCall w (number M) i)
   pub indexes-grown : (w : List ℕ) (lent : Three (Index ℕ)) → Answers (indexRows q (grownLists w) lent) (grownIndexCall q w lent)
-  -- blinding: room for one entry more in each list; 15 after 7, and 13 after 15
+  -- blinding
   pub blinds :
       (c : CircuitWords) (z : List ℕ) (ρ lent : Three ℕ) (lentAssignment : ℕ)
-      → Answers
-      (circuitRows q (circuitOf c)
-      (entryLists (maxSize - 1) c
-      ++ ((length z ≡ c .|C|)
-      ∷ (equalConditions (listed lent) (listed (mapThree (λ l. length l + 3) (c .matrices))) ++ ((lentAssignment ≡ c .|C|) ∷ []))))
-      (z ++ listed ρ)
-      ++ (blindingRow (circuitOf c) ∷ constantRow z ∷ []))
-      (blindCall q c z ρ lent lentAssignment)
+      → Answers (blindRows q c z ρ lent lentAssignment) (blindCall q c z ρ lent lentAssignment)
   pub blindable :
       (c : Circuit)
       → Blindable q c
