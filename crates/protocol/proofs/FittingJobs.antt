@@ -1,4 +1,5 @@
--- Jobs that fit: their honest proofs are accepted, and each of the prover's six calls is done, with the parts of the proof. Assumes nothing.
+-- Jobs that fit: their honest proofs are accepted, and each of the prover's six calls is done, with the parts of the proof. Assumes
+-- nothing.
 use mathlib.Core.Path.{_≡_, ap, _∙_}
 use mathlib.Core.List.{List, [], _∷_, _++_, map}
 use mathlib.Core.Option.{none}

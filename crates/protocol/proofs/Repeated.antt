@@ -1,5 +1,5 @@
--- Repeated conversations: how many lists of tuples there are, how many of them are accepted throughout, and how many conversations are enough.
--- Assumes nothing.
+-- Repeated conversations: how many lists of tuples there are, how many of them are accepted throughout, and how many conversations are
+-- enough. Assumes nothing.
 use mathlib.Core.Path.{_≡_, refl, sym, ap, _∙_, subst}
 use mathlib.Core.Bool.{Bool, true, false, true≢false}
 use mathlib.Core.List.{List, [], _∷_, tail}

@@ -57,8 +57,8 @@ module _ (q : Prime) where
     abbrev ẑ : Poly q
     ẑ = assignment c (S .x) (S .w)
 
-    -- Row: "with σ_M read as ẑ_M(α), that ẑ's values on C satisfy every row", and that column 0 holds 1; sought: h0. "the row claim is about
-    -- an x that begins with 1" (document 02, request 2)
+    -- Row: "with σ_M read as ẑ_M(α), that ẑ's values on C satisfy every row", and that column 0 holds 1; sought: h0. "the row claim is
+    -- about an x that begins with 1" (document 02, request 2)
     abbrev pub RowMeans : Transcript (Elem q) → Openings (Elem q) → Type 0
     RowMeans t o =
         BeginsWithOne (S .x)
