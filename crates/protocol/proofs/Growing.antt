@@ -3,25 +3,26 @@
 use mathlib.Core.Path.{_≡_, refl, sym, ap, subst, _∙_}
 use mathlib.Core.Bool.{Bool, true, _&&_}
 use mathlib.Core.List.{List, [], _∷_, _++_}
-use Prim.Native.Nat.{ℕ, _+_, _*_, _<_}
+use Prim.Native.Nat.{ℕ, _+_, _*_, _<_, _≤_}
 use native.Mathlib.Omega.{arith}
 use lib.Dec.{ltb}
-use lib.ListN.{getD}
+use lib.ListN.{length, getD, length-append}
 use borrow.Author.Tests.{lt-ltb}
 use Rattle.field.specs.Prime.{Prime}
 use Rattle.domain.specs.Size.{maxSize}
 use Rattle.domain.proofs.SizeLaws.{size-bound}
-use Rattle.protocol.specs.Three.{MatrixName, at}
+use Rattle.protocol.specs.Three.{MatrixName, A, B, C, at}
 use Rattle.protocol.specs.Circuit.{Entry, Circuit}
 use Rattle.protocol.specs.Refusals.{Outcome, Done, Refused, judged, refuse}
 use Rattle.protocol.specs.Admission.{Admitted}
 use Rattle.protocol.specs.Calls.{CircuitWords, wordsOfEntries, circuitOf, indexCall}
-use Rattle.protocol.specs.Grown.{rowEntries, stored, totalPlace, countsPlace, entriesPlace, rowStart, rowLength, grownLists, grownCircuit, hasRow, emptyCircuit, beginCall, beginFromCall, addEntryCall, removeEntryCall, findRowCall, rowCall, grownIndexCall}
+use Rattle.protocol.specs.Grown.{rowEntries, storedMatrix, stored, grownWords, totalPlace, countsPlace, entriesPlace, rowStart, rowLength, grownLists, grownCircuit, hasRow, emptyCircuit, beginCall, beginFromCall, addEntryCall, removeEntryCall, findRowCall, rowCall, grownIndexCall}
 use Rattle.protocol.specs.Growing.{number, changed, standsAt, entriesWith, Correct, Beginning, Empty, From, begun, Change, Add, Remove, change, left, afterChanges, addAll, entriesIn, Growing}
 use Rattle.protocol.proofs.AdmissionLaws.{WellFormed, admitted-well-formed}
 use Rattle.protocol.proofs.AdmittedCircuits.{few-admitted, empty-admitted, lists-admitted}
 use Rattle.protocol.proofs.RefusalLaws.{judged-done}
 use Rattle.protocol.proofs.EntryOrder.{lower, upper, split-at-place, rising-rise}
+use Rattle.protocol.proofs.EntryWords.{length-stored-matrix}
 use Rattle.protocol.proofs.GrownRefusals.{row-past, no-room, no-entry, no-row}
 use Rattle.protocol.proofs.StoredCircuits.{total-stored-word, count-stored, lists-stored, circuit-stored}
 use Rattle.protocol.proofs.StoredRows.{standIn, taken-parts, row-words}
@@ -135,6 +136,19 @@ module _ (q : Prime) where
         let left-over = ap grownCircuit holds ∙ circuit-stored (circuitWithout k M i j) few ∙ ap (changed k M) without in
         (lower (standIn i j) es, (e, (back, (stands, (cut, left-over)))))
 
+length-stored : (k : Circuit) → ((M : MatrixName) → length (at (k .matrices) M) ≤ maxSize) → length (stored k) ≡ grownWords
+unfolding stored
+length-stored k few =
+    let m : MatrixName → List ℕ = λ M. storedMatrix (at (k .matrices) M) in
+    omega (
+      arith,
+      length-append (m A) (m B ++ m C),
+      length-append (m B) (m C),
+      length-stored-matrix (at (k .matrices) A) (few A),
+      length-stored-matrix (at (k .matrices) B) (few B),
+      length-stored-matrix (at (k .matrices) C) (few C),
+    )
+
 pub growing : (q : Prime) → Growing q
 unfolding grownIndexCall
 growing q =
@@ -142,6 +156,7 @@ growing q =
       begins-empty = λ r c x w done. let (same, admitted) = begun-empty q r c x w done in circuit-is q w (emptyCircuit r c x) same admitted;
       begins-from = λ c w done. let (same, admitted) = begun-from q c w done in circuit-is q w (circuitOf c) same admitted;
       always-correct = λ b w done cs. all-correct q cs w (begun-correct q b w done);
+      words-counted = λ w correct. ap length (correct .held) ∙ length-stored (grownCircuit w) (few-admitted q (grownCircuit w) (correct .admitted));
       total-counted = λ w correct M.
           ap (λ (v : List ℕ). getD v (totalPlace (number M)) 0) (correct .held)
           ∙ total-stored-word (grownCircuit w) (few-admitted q (grownCircuit w) (correct .admitted)) M;

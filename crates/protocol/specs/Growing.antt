@@ -15,7 +15,7 @@ use Rattle.protocol.specs.Index.{Index}
 use Rattle.protocol.specs.Refusals.{Outcome, Done, Refused, mapOutcome, onwards, judged, first, refuse, listRefusal, wordRefusal, rises, fits}
 use Rattle.protocol.specs.Admission.{Admitted}
 use Rattle.protocol.specs.Calls.{CircuitWords, wordsOfEntries, circuitOf, indexCall}
-use Rattle.protocol.specs.Grown.{rowEntries, stored, totalPlace, countsPlace, grownCircuit, emptyCircuit, beginCall, beginFromCall, addEntryCall, removeEntryCall, findRowCall, rowCall, grownIndexCall}
+use Rattle.protocol.specs.Grown.{rowEntries, stored, grownWords, totalPlace, countsPlace, grownCircuit, emptyCircuit, beginCall, beginFromCall, addEntryCall, removeEntryCall, findRowCall, rowCall, grownIndexCall}
 
 -- the number by which calls name a matrix
 abbrev pub number : MatrixName → ℕ
@@ -118,6 +118,8 @@ pub record Growing (q : Prime) : Type 0 where
   -- "correct after every addition and removal": from either beginning, after every sequence of changes, refused ones too, memory holds a
   -- circuit as it is stored, and the table of refusals lets this through
   pub always-correct : (b : Beginning) (w : List ℕ) → begun q b ≡ Done w → (cs : List Change) → Correct q (afterChanges q w cs)
+  -- it has the same number of words then, whatever the circuit is
+  pub words-counted : (w : List ℕ) → Correct q w → length w ≡ grownWords
   -- so "the count of entries in each row and the total" are the numbers of entries there are, and these rise strictly
   pub total-counted : (w : List ℕ) → Correct q w → (M : MatrixName) → getD w (totalPlace (number M)) 0 ≡ length (entriesIn w M)
   pub rows-counted :
