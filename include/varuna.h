@@ -1,7 +1,6 @@
 /*
  * Varuna for one R1CS circuit, over the field of p = 2,013,265,921 elements: the calls of libvaruna_c.a, for C and C++. This file is
- * enough to use them; docs/CALLS.md has the same calls as tables, and "document 01" is the specification behind both. One proof is of one
- * assignment, or of a batch: one to eight assignments of the circuit.
+ * enough to use them; docs/CALLS.md has the same calls as tables, and "document 01" is the specification behind both.
  *
  * A verifier is the steps of a session. It hears the prover's messages, draws each challenge after the messages before it, and learns the
  * openings from the commitments that the host checks. It may ask for the verdict on them, as often as it wishes, before it commits them and
@@ -38,10 +37,9 @@
  *             && verdict == VARUNA_ACCEPT;
  *     }
  *
- * ANSWERS. Every call but varuna_session_new and varuna_batch_session_new returns VARUNA_DONE, or the number of the first refusal that
- * applies. It sets *position to the refusal's position, and to 0 where it is done. A refusal changes no other memory: no result, no slice,
- * no session and no circuit. Only *verdict is set where openings are refused, too: to VARUNA_NO_VERDICT. No call keeps anything for the
- * next one.
+ * ANSWERS. Every call but varuna_session_new returns VARUNA_DONE, or the number of the first refusal that applies. It sets *position to
+ * the refusal's position, and to 0 where it is done. A refusal changes no other memory: no result, no slice, no session and no circuit.
+ * Only *verdict is set where openings are refused, too: to VARUNA_NO_VERDICT. No call keeps anything for the next one.
  *
  * NAMES are document 01's, everywhere:
  *
@@ -55,8 +53,6 @@
  *     w, h0, g1, h1, ga, gb, gc, h2   polynomials that the prover sends; w is document 01's w with a hat
  *     sigma, omega                    the claimed sums and the claimed matrix values, each for A, B, C
  *     alpha, beta, gamma, eta, delta  the challenges; eta and delta have one each for A, B, C
- *     number, assignments             of a batch: how many assignments, and their words, each z and its r next
- *     tau, theta                      a batch's further challenges: one each for every assignment but the first, which has 1
  *
  * WORDS. A field word is below VARUNA_MODULUS. A size is a power of two from 1 to VARUNA_MAX_SIZE, and |X| is at most |C|. A polynomial is
  * its coefficients, the constant first, in exactly the length named; zeros at its end stay. An entry list has three words for each entry,
@@ -83,9 +79,8 @@
  * target. It uses the base instruction set with SSE2 registers and the red zone below the stack pointer, is position independent, and has
  * no variables: calls that write separate memory may run at the same time. It calls memcpy and memset and nothing else: no heap, no files,
  * no system calls. The stack is measured, not proved: tests/c/stack.c runs every call on more than single words at the largest sizes.
- * varuna_batch_openings took the most, 77,424 bytes, then varuna_batch_joined_quotient, 76,752, and varuna_fifth_round, 76,608; of a
- * session's steps a batch's commit took 31,040, asking about a batch 22,560 and opening one 8,536, and the same of a single proof 17,524,
- * 13,300 and 4,248.
+ * varuna_fifth_round took the most, 76,308 bytes, then varuna_openings, 68,340; of a session's steps the commit took 17,248, asking 13,024
+ * and opening 4,248.
  */
 #ifndef VARUNA_H
 #define VARUNA_H
@@ -100,10 +95,10 @@ extern "C" {
 /* The version of what this file declares. The first number rises when a program that used the calls as described here has to change, the
  * second when calls or constants are added, the third when only text, speed or stack change. The archive belongs to the file it came with
  * and holds no version of its own. */
-#define VARUNA_VERSION "4.1.0"
+#define VARUNA_VERSION "4.0.1"
 #define VARUNA_VERSION_MAJOR 4
-#define VARUNA_VERSION_MINOR 1
-#define VARUNA_VERSION_PATCH 0
+#define VARUNA_VERSION_MINOR 0
+#define VARUNA_VERSION_PATCH 1
 
 /* p, the number of elements of the field. */
 #define VARUNA_MODULUS UINT32_C(2013265921)
@@ -137,16 +132,6 @@ extern "C" {
 /* The openings, in order: w, m, g1, h1 at beta; h0 at alpha; h2, ga, gb, gc at gamma; then row, col, rowcol, rowcolval at gamma for A, for
  * B and for C. The opening of a polynomial without words is 0. */
 #define VARUNA_OPENINGS 21
-
-/* The most assignments of a batch, and the most columns of all of them together: number times |C|. */
-#define VARUNA_MAX_BATCH 8
-#define VARUNA_MAX_BATCH_COLUMNS 2048
-
-/* The words of a batch's session; what they mean is said above its calls. */
-#define VARUNA_BATCH_SESSION_WORDS 2106
-
-/* The openings of a batch of n, in order: w of each assignment at beta, then m, g1, h1, h0 and so on as a single proof has them. */
-#define VARUNA_BATCH_OPENINGS(n) ((size_t)(n) + 20)
 
 /* The sections of a record, by number, and their lengths in words. */
 #define VARUNA_SECTIONS 11
@@ -186,8 +171,6 @@ extern "C" {
 #define VARUNA_REFUSED_CONSTANT 13  /* z or x whose first word is not 1; position 0 */
 #define VARUNA_REFUSED_PLACE 14     /* an entry added where one stands, or removed where none stands; position 0 */
 #define VARUNA_REFUSED_BLINDING 15  /* fewer than three columns to reserve, or an entry in the reserved row or columns; position 0 */
-#define VARUNA_REFUSED_NUMBER 16    /* a batch of none or of more than eight; position 0 */
-#define VARUNA_REFUSED_COLUMNS 17   /* a batch whose number times |C| is above 2,048; position 0 */
 
 /* Verdicts, and what stands where there is none: a variable that holds 0 is no Accept. A proof that fails several checks fails the first of
  * row, line, matrix. */
@@ -391,84 +374,6 @@ uint32_t varuna_openings(uint32_t rows, uint32_t columns, uint32_t publics, cons
                          uint32_t openings[VARUNA_OPENINGS], size_t *position);
 
 /*
- * The prover of a batch: one proof of several assignments of one circuit. Each assignment has its w and its sigma, which are those that a
- * single proof of it has; every other message stands once. What there is one of for each assignment stands in one slice, assignment by
- * assignment. Each call begins with the same inputs:
- *
- *     rows, columns, publics              sizes 0 to 2
- *     number                              how many assignments: 1 to 8, and number times |C| at most 2,048; it is no size and no field word
- *     entries_a, entries_b, entries_c     lists 0 to 2: three words for each entry, at most 3,072
- *     assignments                         list 3: number * (|C| + 1) words, z and r of the first, z and r of the second, and so on; each z
- *                                         begins with 1 and satisfies every row
- *     m                                   list 4: 2|C| words, whose values add to 0 over C: m[0] + m[|C|] is 0 or p
- *
- * Then come the challenges so far, in the order in which they were drawn: tau (list 5, number - 1 words), alpha, eta, theta (list 6,
- * number - 1 words), beta, delta, gamma. A later call takes those that it does not use, too. tau and theta are those of the assignments
- * after the first; the first has 1. h0 is for the sum of tau times each assignment's rows; g1 and h1 are for the sum of theta times each
- * assignment. The host draws tau after every w and m, and theta with eta, after every sigma: whoever knows theta before the sigma can fit
- * false ones to it.
- *
- * The field words, in order, are the values of the entries of A, B and C, then the assignments, m, and the challenges as they stand.
- * Refusals are 4, 16, 17, 5, 6, 7, 8, 13, 9 and, where there are points, 10: alpha is outside R, beta outside C, gamma outside K. 13 is for
- * any assignment before 9 is for any; 9 gives the lowest row that fails of the first assignment that has one. A batch of one has the
- * messages of a single proof. A batch is not written as a record.
- */
-
-/* Fills w (list 5, number * (|C| - |X| + 1) words) with the polynomials w. Refusals 4, 16, 17, 5 to 8, 13, 9. */
-uint32_t varuna_batch_witnesses(uint32_t rows, uint32_t columns, uint32_t publics, uint32_t number, const uint32_t *entries_a,
-                                size_t entries_a_length, const uint32_t *entries_b, size_t entries_b_length, const uint32_t *entries_c,
-                                size_t entries_c_length, const uint32_t *assignments, size_t assignments_length, const uint32_t *m,
-                                size_t m_length, uint32_t *w, size_t w_length, size_t *position);
-
-/* Fills h0 (list 6, |R| - 1 words). Refusals 4, 16, 17, 5 to 8, 13, 9. */
-uint32_t varuna_batch_row_quotient(uint32_t rows, uint32_t columns, uint32_t publics, uint32_t number, const uint32_t *entries_a,
-                                   size_t entries_a_length, const uint32_t *entries_b, size_t entries_b_length, const uint32_t *entries_c,
-                                   size_t entries_c_length, const uint32_t *assignments, size_t assignments_length, const uint32_t *m,
-                                   size_t m_length, const uint32_t *tau, size_t tau_length, uint32_t *h0, size_t h0_length,
-                                   size_t *position);
-
-/* Fills sigma (list 6, 3 * number words): the sums of A, B, C at alpha for each assignment. Refusals 4, 16, 17, 5 to 8, 13, 9, 10. */
-uint32_t varuna_batch_sums(uint32_t rows, uint32_t columns, uint32_t publics, uint32_t number, const uint32_t *entries_a,
-                           size_t entries_a_length, const uint32_t *entries_b, size_t entries_b_length, const uint32_t *entries_c,
-                           size_t entries_c_length, const uint32_t *assignments, size_t assignments_length, const uint32_t *m,
-                           size_t m_length, const uint32_t *tau, size_t tau_length, uint32_t alpha, uint32_t *sigma, size_t sigma_length,
-                           size_t *position);
-
-/* Fills g1 (list 7, |C| - 1 words) and h1 (list 8, |C| words). Refusals 4, 16, 17, 5 to 8, 13, 9, 10. */
-uint32_t varuna_batch_line(uint32_t rows, uint32_t columns, uint32_t publics, uint32_t number, const uint32_t *entries_a,
-                           size_t entries_a_length, const uint32_t *entries_b, size_t entries_b_length, const uint32_t *entries_c,
-                           size_t entries_c_length, const uint32_t *assignments, size_t assignments_length, const uint32_t *m,
-                           size_t m_length, const uint32_t *tau, size_t tau_length, uint32_t alpha, const uint32_t eta[3],
-                           const uint32_t *theta, size_t theta_length, uint32_t *g1, size_t g1_length, uint32_t *h1, size_t h1_length,
-                           size_t *position);
-
-/* Fills ga, gb, gc (lists 7 to 9, |K_A| - 1, |K_B| - 1 and |K_C| - 1 words) and sets omega, the values of A, B, C at alpha and beta.
- * Refusals 4, 16, 17, 5 to 8, 13, 9, 10. */
-uint32_t varuna_batch_values(uint32_t rows, uint32_t columns, uint32_t publics, uint32_t number, const uint32_t *entries_a,
-                             size_t entries_a_length, const uint32_t *entries_b, size_t entries_b_length, const uint32_t *entries_c,
-                             size_t entries_c_length, const uint32_t *assignments, size_t assignments_length, const uint32_t *m,
-                             size_t m_length, const uint32_t *tau, size_t tau_length, uint32_t alpha, const uint32_t eta[3],
-                             const uint32_t *theta, size_t theta_length, uint32_t beta, uint32_t *ga, size_t ga_length, uint32_t *gb,
-                             size_t gb_length, uint32_t *gc, size_t gc_length, uint32_t omega[3], size_t *position);
-
-/* Fills h2 (list 7, |K| - 1 words). Refusals 4, 16, 17, 5 to 8, 13, 9, 10. */
-uint32_t varuna_batch_joined_quotient(uint32_t rows, uint32_t columns, uint32_t publics, uint32_t number, const uint32_t *entries_a,
-                                      size_t entries_a_length, const uint32_t *entries_b, size_t entries_b_length,
-                                      const uint32_t *entries_c, size_t entries_c_length, const uint32_t *assignments,
-                                      size_t assignments_length, const uint32_t *m, size_t m_length, const uint32_t *tau, size_t tau_length,
-                                      uint32_t alpha, const uint32_t eta[3], const uint32_t *theta, size_t theta_length, uint32_t beta,
-                                      const uint32_t delta[3], uint32_t *h2, size_t h2_length, size_t *position);
-
-/* Fills openings (list 7, VARUNA_BATCH_OPENINGS(number) words) with those of the proof and of the index polynomials, in the order that
- * stands at VARUNA_BATCH_OPENINGS. Refusals 4, 16, 17, 5 to 8, 13, 9, 10. */
-uint32_t varuna_batch_openings(uint32_t rows, uint32_t columns, uint32_t publics, uint32_t number, const uint32_t *entries_a,
-                               size_t entries_a_length, const uint32_t *entries_b, size_t entries_b_length, const uint32_t *entries_c,
-                               size_t entries_c_length, const uint32_t *assignments, size_t assignments_length, const uint32_t *m,
-                               size_t m_length, const uint32_t *tau, size_t tau_length, uint32_t alpha, const uint32_t eta[3],
-                               const uint32_t *theta, size_t theta_length, uint32_t beta, const uint32_t delta[3], uint32_t gamma,
-                               uint32_t *openings, size_t openings_length, size_t *position);
-
-/*
  * The verifier. A session is 1,046 words that the caller keeps, in this order:
  *
  *     0             the stage: how many steps were taken, the commit being the seventh; asking does not count
@@ -524,69 +429,6 @@ uint32_t varuna_session_ask(const uint32_t session[VARUNA_SESSION_WORDS], const 
  * needs no asking before it. Refusals 1, 6. */
 uint32_t varuna_session_commit(uint32_t session[VARUNA_SESSION_WORDS], const uint32_t openings[VARUNA_OPENINGS], uint32_t *verdict,
                                size_t *position);
-
-/*
- * The verifier of a batch. A batch's session is 2,106 words that the caller keeps, in this order:
- *
- *     0             the stage: how many steps were taken, the commit being the eighth; asking does not count
- *     1 to 6        the six sizes
- *     7             the number of assignments
- *     8 to 2055     x: the |X| public words of each assignment, of which the first is 1, assignment by assignment, and zeros after them
- *     2056 to 2070  alpha, the three sigma of the first assignment, three eta, beta, three omega, three delta, gamma
- *     2071 to 2077  tau of the assignments after the first
- *     2078 to 2098  sigma of the assignments after the first, three words for each
- *     2099 to 2105  theta of the assignments after the first
- *
- * tau, sigma and theta have zeros after those given. In a new session all words are 0. Opening sets every word, whatever the words were
- * before, and leaves zeros from word 2056 on. Each later step leaves the stage one higher, its own words set (a commit has none), and all
- * other words as they were; asking leaves every word. A refused step leaves every word as it was and may be tried again. After a commit
- * that gave a verdict every step but opening is out of turn, asking too. A batch of one takes the same eight steps, with empty tau and
- * theta, and gets the verdict of a single proof.
- *
- * Words that no step made are judged by what they hold. Every step but opening is out of turn (1) unless the stage is the number of the
- * steps before it and the sizes are allowed; tau, alpha, eta, asking and committing are out of turn, too, unless the number, and the number
- * times |C|, are allowed. Asking and committing are out of turn, besides, unless all words are such as steps leave: the first word of each
- * x 1; the public words, alpha to gamma, and the tau, sigma and theta of the assignments that there are below p, with zeros after the last
- * of each; alpha outside R, beta outside C and gamma outside K. So a verdict is given only for sessions that steps can make.
- */
-
-/* A batch's session before it is opened. Opening needs none: it takes any words. */
-void varuna_batch_session_new(uint32_t session[VARUNA_BATCH_SESSION_WORDS]);
-
-/* Step 1, the six sizes, the number of assignments and the public words x (list 0, number * |X| words). Refusals 4, 16, 17, 5, 6, 13. */
-uint32_t varuna_batch_session_open(uint32_t session[VARUNA_BATCH_SESSION_WORDS], const uint32_t sizes[VARUNA_SIZES], uint32_t number,
-                                   const uint32_t *x, size_t x_length, size_t *position);
-
-/* Step 2, the declared lengths of w, one for each assignment (list 0, each at most |C| - |X| + 1), and of m (2|C|), then tau (list 1,
- * number - 1 words). For refusal 11 the lengths of w count from 0 and that of m is last, at the number. Refusals 1, 5, 6, 11. */
-uint32_t varuna_batch_session_tau(uint32_t session[VARUNA_BATCH_SESSION_WORDS], const uint32_t *w_lengths, size_t w_lengths_length,
-                                  uint32_t m_length, const uint32_t *tau, size_t tau_length, size_t *position);
-
-/* Step 3, the declared length of h0 (at most |R| - 1), then alpha, outside R. Refusals 1, 6, 10, 11. */
-uint32_t varuna_batch_session_alpha(uint32_t session[VARUNA_BATCH_SESSION_WORDS], uint32_t h0_length, uint32_t alpha, size_t *position);
-
-/* Step 4, the sigma (list 0, 3 * number words), then the three eta and theta (list 1, number - 1 words); these are the field words, in
- * order. Refusals 1, 5, 6. */
-uint32_t varuna_batch_session_eta(uint32_t session[VARUNA_BATCH_SESSION_WORDS], const uint32_t *sigma, size_t sigma_length,
-                                  const uint32_t eta[3], const uint32_t *theta, size_t theta_length, size_t *position);
-
-/* Steps 5, 6 and 7, as steps 4, 5 and 6 of a single proof's session, with their refusals. */
-uint32_t varuna_batch_session_beta(uint32_t session[VARUNA_BATCH_SESSION_WORDS], uint32_t g1_length, uint32_t h1_length, uint32_t beta,
-                                   size_t *position);
-uint32_t varuna_batch_session_delta(uint32_t session[VARUNA_BATCH_SESSION_WORDS], const uint32_t omega[3], const uint32_t g_lengths[3],
-                                    const uint32_t delta[3], size_t *position);
-uint32_t varuna_batch_session_gamma(uint32_t session[VARUNA_BATCH_SESSION_WORDS], uint32_t h2_length, uint32_t gamma, size_t *position);
-
-/* Before step 8, as often as wished and with other openings if wished: asks for the verdict on the openings (list 0,
- * VARUNA_BATCH_OPENINGS(number) words). *verdict is one of the four verdicts, and VARUNA_NO_VERDICT where they are refused. Refusals
- * 1, 5, 6. */
-uint32_t varuna_batch_session_ask(const uint32_t session[VARUNA_BATCH_SESSION_WORDS], const uint32_t *openings, size_t openings_length,
-                                  uint32_t *verdict, size_t *position);
-
-/* Step 8, the openings: sets *verdict as asking does for these, whatever was asked about before, and a verdict closes the session. It needs
- * no asking before it. Refusals 1, 5, 6. */
-uint32_t varuna_batch_session_commit(uint32_t session[VARUNA_BATCH_SESSION_WORDS], const uint32_t *openings, size_t openings_length,
-                                     uint32_t *verdict, size_t *position);
 
 /*
  * The proof record: little-endian words; the eleven sections without gaps, then a trailer of 18 words: the eleven starts of the sections in

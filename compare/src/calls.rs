@@ -13,7 +13,7 @@ pub enum Side {
 }
 
 /// The numbers of refusals are below this.
-pub const REFUSAL_NUMBERS: usize = 18;
+pub const REFUSAL_NUMBERS: usize = 16;
 
 /// The calls that take a circuit.
 #[derive(Clone, Copy, Debug, PartialEq, Eq)]

@@ -8,13 +8,6 @@
 
 use second::{Check, Refusal, Verdict};
 
-mod batch;
-
-pub use batch::{
-    batch_joined_quotient, batch_line, batch_openings, batch_row_quotient, batch_sums, batch_values, batch_witnesses,
-    BatchSession, BATCH_SESSION_WORDS,
-};
-
 pub const SESSION_WORDS: usize = second::SESSION_WORDS;
 pub const CIRCUIT_WORDS: usize = second::CIRCUIT_WORDS;
 pub const OPENINGS: usize = 21;
@@ -820,28 +813,26 @@ pub fn openings(
     })
 }
 
-/// The N words of a session, in the library's layout.
+/// A session's words, in the library's layout.
 #[derive(Clone, PartialEq, Eq)]
-pub struct SessionWords<const N: usize>(Guarded<N>);
+pub struct Session(Guarded<SESSION_WORDS>);
 
-/// A single proof's session.
-pub type Session = SessionWords<SESSION_WORDS>;
-
-impl<const N: usize> SessionWords<N> {
-    /// A session before it is opened, by the call that fills its words.
-    fn new(call: impl FnOnce(*mut u32)) -> SessionWords<N> {
-        let mut session = SessionWords::from_words([UNWRITTEN; N]);
-        call(session.0.place());
+impl Session {
+    /// A session before it is opened.
+    pub fn unopened() -> Session {
+        let mut session = Session::from_words([UNWRITTEN; SESSION_WORDS]);
+        // SAFETY: the place has the words of a session.
+        unsafe { varuna_session_new(session.0.place()) };
         session.0.check();
         session
     }
 
     /// Any words, whether or not steps can make them.
-    pub fn from_words(words: [u32; N]) -> SessionWords<N> {
-        SessionWords(Guarded::new(words))
+    pub fn from_words(words: [u32; SESSION_WORDS]) -> Session {
+        Session(Guarded::new(words))
     }
 
-    pub fn words(&self) -> &[u32; N] {
+    pub fn words(&self) -> &[u32; SESSION_WORDS] {
         &self.0.words
     }
 
@@ -853,28 +844,6 @@ impl<const N: usize> SessionWords<N> {
         self.0.check();
         assert!(answer.is_ok() || self.0.words == before, "a refused step has changed the session");
         answer
-    }
-
-    /// The answer of a call that asks for a verdict; it must leave the session, refused or not.
-    fn asked(&self, call: impl FnOnce(*const u32, *mut u32, *mut usize) -> u32) -> Result<Verdict, Refusal> {
-        let mut asked = self.clone();
-        let session = asked.0.place();
-        let answer = judged(|verdict| answer(|position| call(session, verdict, position)));
-        assert!(*self == asked, "asking has changed the session");
-        answer
-    }
-
-    /// The answer of a step that gives a verdict.
-    fn committed(&mut self, call: impl FnOnce(*mut u32, *mut u32, *mut usize) -> u32) -> Result<Verdict, Refusal> {
-        judged(|verdict| self.step(|session, position| call(session, verdict, position)))
-    }
-}
-
-impl Session {
-    /// A session before it is opened.
-    pub fn unopened() -> Session {
-        // SAFETY: the place has the words of a session.
-        Session::new(|session| unsafe { varuna_session_new(session) })
     }
 
     pub fn open(&mut self, sizes: [u32; 6], public_words: &[u32]) -> Result<(), Refusal> {
@@ -913,17 +882,22 @@ impl Session {
         self.step(|session, position| unsafe { varuna_session_gamma(session, length, gamma, position) })
     }
 
+    /// Asking must leave the session, refused or not.
     pub fn ask(&self, openings: [u32; OPENINGS]) -> Result<Verdict, Refusal> {
-        let opened = openings.as_ptr();
+        let mut asked = self.clone();
+        let (session, opened) = (asked.0.place(), openings.as_ptr());
         // SAFETY: the places are those of session, openings, verdict and position.
-        self.asked(|session, verdict, position| unsafe { varuna_session_ask(session, opened, verdict, position) })
+        let answer =
+            judged(|verdict| answer(|position| unsafe { varuna_session_ask(session, opened, verdict, position) }));
+        assert!(*self == asked, "asking has changed the session");
+        answer
     }
 
     pub fn commit(&mut self, openings: [u32; OPENINGS]) -> Result<Verdict, Refusal> {
         let opened = openings.as_ptr();
         // SAFETY: the places are those of session, openings, verdict and position.
-        self.committed(|session, verdict, position| unsafe {
-            varuna_session_commit(session, opened, verdict, position)
+        judged(|verdict| {
+            self.step(|session, position| unsafe { varuna_session_commit(session, opened, verdict, position) })
         })
     }
 }

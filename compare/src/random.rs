@@ -308,7 +308,7 @@ impl Random {
         self.with_challenges(sizes, [a, b, c], assignment)
     }
 
-    pub(crate) fn with_challenges(&mut self, sizes: [u32; 3], entries: [Vec<u32>; 3], assignment: Vec<u32>) -> Case {
+    fn with_challenges(&mut self, sizes: [u32; 3], entries: [Vec<u32>; 3], assignment: Vec<u32>) -> Case {
         let [rows, columns, _] = sizes;
         let mut case = Case::new(sizes, entries, assignment);
         case.mask_word = self.word();
@@ -322,7 +322,7 @@ impl Random {
 }
 
 /// An assignment or its public words: the constant 1 in column 0, then a word for each place after it.
-pub(crate) fn after_constant(length: u32, word: impl FnMut(u32) -> u32) -> Vec<u32> {
+fn after_constant(length: u32, word: impl FnMut(u32) -> u32) -> Vec<u32> {
     [1].into_iter().chain((1..length).map(word)).collect()
 }
 
@@ -333,7 +333,7 @@ pub fn elements(size: u32) -> Vec<u32> {
 }
 
 /// Each row's sum of values times the assignment at their columns.
-pub(crate) fn row_sums(list: &[u32], rows: u32, z: &[u32]) -> Vec<u64> {
+fn row_sums(list: &[u32], rows: u32, z: &[u32]) -> Vec<u64> {
     let mut sums = vec![0; rows as usize];
     for entry in list.chunks(3) {
         let sum = &mut sums[entry[0] as usize];
@@ -342,11 +342,11 @@ pub(crate) fn row_sums(list: &[u32], rows: u32, z: &[u32]) -> Vec<u64> {
     sums
 }
 
-pub(crate) fn minus(a: u64, b: u64) -> u64 {
+fn minus(a: u64, b: u64) -> u64 {
     (a + u64::from(MODULUS) - b) % u64::from(MODULUS)
 }
 
-pub(crate) fn times(a: u64, b: u64) -> u64 {
+fn times(a: u64, b: u64) -> u64 {
     a * b % u64::from(MODULUS)
 }
 
@@ -358,6 +358,6 @@ fn power(base: u64, exponent: u64) -> u64 {
     }
 }
 
-pub(crate) fn over(a: u64, b: u64) -> u64 {
+fn over(a: u64, b: u64) -> u64 {
     times(a, power(b, u64::from(MODULUS) - 2))
 }

@@ -1,9 +1,9 @@
-//! The steps of a single proof's session, and both sides' sessions, of a single proof or of a batch, side by side: every answer and
-//! the whole session, all its words, are compared after every step.
+//! The steps of a verifier's session, and both sessions side by side: every answer and the whole session, all its words, are
+//! compared after every step.
 
 use crate::calls::{Input, Proof, REFUSAL_NUMBERS};
 use crate::case::Case;
-use crate::library::{self, SessionWords};
+use crate::library;
 use second::{Refusal, Verdict, SESSION_WORDS};
 use std::fmt;
 
@@ -25,25 +25,6 @@ pub type Answer = Result<Option<Verdict>, Refusal>;
 
 pub const OUT_OF_TURN: Refusal = Refusal { number: 1, position: 0 };
 
-/// A step of a kind of session, which has N words, and how each side takes it.
-pub trait Taken<const N: usize>: Clone + fmt::Debug {
-    /// The second implementation's session.
-    type Second: Clone;
-
-    /// The library's session before it is opened.
-    fn unopened() -> SessionWords<N>;
-
-    fn second_of(words: &[u32; N]) -> Self::Second;
-
-    fn second_words(session: &Self::Second) -> [u32; N];
-
-    /// The step on the library's session.
-    fn take(&self, session: &mut SessionWords<N>) -> Answer;
-
-    /// The step on the second implementation's session.
-    fn take_second(&self, session: Self::Second) -> (Self::Second, Answer);
-}
-
 impl Step {
     /// The eight good steps of a proof, in order: six before its openings, then asking about them and committing them.
     pub fn of_proof(case: &Case, proof: &Proof) -> [Step; 8] {
@@ -61,35 +42,7 @@ impl Step {
         ]
     }
 
-    /// All words of the step.
-    pub fn words(&mut self) -> Vec<&mut u32> {
-        match self {
-            Step::Open(sizes, x) => sizes.iter_mut().chain(x).collect(),
-            Step::Alpha(lengths, alpha) => lengths.iter_mut().chain([alpha]).collect(),
-            Step::Eta(sums, eta) => sums.iter_mut().chain(eta).collect(),
-            Step::Beta(lengths, beta) => lengths.iter_mut().chain([beta]).collect(),
-            Step::Delta(values, lengths, delta) => values.iter_mut().chain(lengths).chain(delta).collect(),
-            Step::Gamma(length, gamma) => vec![length, gamma],
-            Step::Ask(openings) | Step::Commit(openings) => openings.iter_mut().collect(),
-        }
-    }
-}
-
-impl Taken<SESSION_WORDS> for Step {
-    type Second = second::Session;
-
-    fn unopened() -> library::Session {
-        library::Session::unopened()
-    }
-
-    fn second_of(words: &[u32; SESSION_WORDS]) -> second::Session {
-        second::Session::from_words(words)
-    }
-
-    fn second_words(session: &second::Session) -> [u32; SESSION_WORDS] {
-        session.words()
-    }
-
+    /// The step on the library's session.
     fn take(&self, session: &mut library::Session) -> Answer {
         let taken = match self {
             Step::Open(sizes, x) => session.open(*sizes, x),
@@ -104,6 +57,7 @@ impl Taken<SESSION_WORDS> for Step {
         taken.map(|()| None)
     }
 
+    /// The step on the second implementation's session.
     fn take_second(&self, session: second::Session) -> (second::Session, Answer) {
         let (next, taken) = match self {
             Step::Open(sizes, x) => match second::open(*sizes, x) {
@@ -125,6 +79,19 @@ impl Taken<SESSION_WORDS> for Step {
             }
         };
         (next, taken.map(|()| None))
+    }
+
+    /// All words of the step.
+    pub fn words(&mut self) -> Vec<&mut u32> {
+        match self {
+            Step::Open(sizes, x) => sizes.iter_mut().chain(x).collect(),
+            Step::Alpha(lengths, alpha) => lengths.iter_mut().chain([alpha]).collect(),
+            Step::Eta(sums, eta) => sums.iter_mut().chain(eta).collect(),
+            Step::Beta(lengths, beta) => lengths.iter_mut().chain([beta]).collect(),
+            Step::Delta(values, lengths, delta) => values.iter_mut().chain(lengths).chain(delta).collect(),
+            Step::Gamma(length, gamma) => vec![length, gamma],
+            Step::Ask(openings) | Step::Commit(openings) => openings.iter_mut().collect(),
+        }
     }
 }
 
@@ -155,12 +122,12 @@ impl Answers {
 
 /// Steps taken so far, the last of which shows a difference.
 #[derive(Clone)]
-struct Run<Kind, const N: usize> {
-    start: Option<[u32; N]>,
-    steps: Vec<Kind>,
+struct Run {
+    start: Option<[u32; SESSION_WORDS]>,
+    steps: Vec<Step>,
 }
 
-impl<Kind: fmt::Debug, const N: usize> fmt::Display for Run<Kind, N> {
+impl fmt::Display for Run {
     fn fmt(&self, text: &mut fmt::Formatter) -> fmt::Result {
         match &self.start {
             None => writeln!(text, "a session before it is opened")?,
@@ -170,42 +137,39 @@ impl<Kind: fmt::Debug, const N: usize> fmt::Display for Run<Kind, N> {
     }
 }
 
-/// Both sides' sessions of a kind, side by side.
+/// Both sessions, side by side.
 #[derive(Clone)]
-pub struct Sessions<Kind: Taken<N>, const N: usize> {
-    pub ours: SessionWords<N>,
-    theirs: Kind::Second,
-    run: Run<Kind, N>,
+pub struct Pair {
+    pub ours: library::Session,
+    theirs: second::Session,
+    run: Run,
 }
 
-/// Both sides' sessions of a single proof.
-pub type Pair = Sessions<Step, SESSION_WORDS>;
-
-impl<Kind: Taken<N>, const N: usize> Sessions<Kind, N> {
-    pub fn unopened() -> Sessions<Kind, N> {
-        let run = Run { start: None, steps: Vec::new() };
-        let pair = Sessions { ours: Kind::unopened(), theirs: Kind::second_of(&[0; N]), run };
+impl Pair {
+    pub fn unopened() -> Pair {
+        let theirs = second::Session::from_words(&[0; SESSION_WORDS]);
+        let pair = Pair { ours: library::Session::unopened(), theirs, run: Run { start: None, steps: Vec::new() } };
         pair.compare();
         pair
     }
 
     /// Sessions of these words, whether or not steps can make them.
-    pub fn of_words(words: [u32; N]) -> Sessions<Kind, N> {
-        Sessions {
-            ours: SessionWords::from_words(words),
-            theirs: Kind::second_of(&words),
+    pub fn of_words(words: [u32; SESSION_WORDS]) -> Pair {
+        Pair {
+            ours: library::Session::from_words(words),
+            theirs: second::Session::from_words(&words),
             run: Run { start: Some(words), steps: Vec::new() },
         }
     }
 
     fn compare(&self) {
-        let theirs = Kind::second_words(&self.theirs);
-        let differing = (0..N).find(|&place| self.ours.words()[place] != theirs[place]);
+        let theirs = self.theirs.words();
+        let differing = (0..SESSION_WORDS).find(|&place| self.ours.words()[place] != theirs[place]);
         assert_eq!(differing, None, "the sessions differ at this word");
     }
 
     /// Takes a step on both sides; the answer is that of both.
-    pub fn take(&mut self, step: &Kind) -> Answer {
+    pub fn take(&mut self, step: &Step) -> Answer {
         self.run.steps.push(step.clone());
         let run = self.run.clone();
         let _input = Input(&run);
@@ -221,18 +185,16 @@ impl<Kind: Taken<N>, const N: usize> Sessions<Kind, N> {
     }
 
     /// Sessions that have taken these steps, none of which may be refused.
-    pub fn after(steps: &[Kind]) -> Sessions<Kind, N> {
-        let mut pair = Sessions::unopened();
+    pub fn after(steps: &[Step]) -> Pair {
+        let mut pair = Pair::unopened();
         steps.iter().for_each(|step| assert!(pair.take(step).is_ok(), "a good step is refused: {step:?}"));
         pair
     }
 
-    /// The answer to the openings of a proof's steps, the last two of which ask about them and commit them, and must be answered alike.
-    pub fn verdict(steps: &[Kind]) -> Answer {
-        let [before @ .., ask, commit] = steps else {
-            panic!("a proof has more steps");
-        };
-        let mut pair = Sessions::after(before);
+    /// The answer to the openings of a proof's steps, which must be the same where they are asked about and where they are committed.
+    pub fn verdict(steps: &[Step; 8]) -> Answer {
+        let [before @ .., ask, commit] = steps;
+        let mut pair = Pair::after(before);
         let asked = pair.take(ask);
         assert_eq!(pair.take(commit), asked, "the answer to committing, then to asking");
         asked

@@ -5,13 +5,10 @@
 //! first refusal that applies. A lent slice is filled only on success. Groups of a fixed number of
 //! inputs are arrays: the three or six sizes, the three entry lists, an entry's row, column and value,
 //! the three challenges of a kind, the three blinding words, the eleven sections, the twenty-one openings.
-//! The first inputs of a batch's prover calls are one value, `Batch`, which has the calls.
 
 #![forbid(unsafe_code)]
 #![allow(clippy::too_many_arguments)] // the calls have the inputs that docs/CALLS.md lists
 
-mod batch;
-mod batch_session;
 mod blinding;
 mod circuit;
 mod domain;
@@ -28,13 +25,10 @@ mod record;
 mod refusal;
 mod sheet;
 mod statement;
-mod steps;
 mod transcript;
 mod verdict;
 mod verifier;
 
-pub use batch::Batch;
-pub use batch_session::{open_batch, BatchSession, BATCH_SESSION_WORDS};
 pub use blinding::blind;
 pub use domain::domain;
 pub use field::{add, inverse, multiply, power, subtract, MODULUS};

@@ -1,5 +1,4 @@
-//! The prover: the messages by document 01's rules, those of a single proof being those of a batch of one; and the six
-//! public calls of a single proof, without state.
+//! The prover: six public calls without state, each computing its messages by document 01's rules.
 
 use crate::circuit::Matrix;
 use crate::field::{self, Element};
@@ -7,12 +6,12 @@ use crate::index::MatrixIndex;
 use crate::message;
 use crate::polynomial::{self, Polynomial};
 use crate::refusal::Refusal;
-use crate::statement::{Assignment, Given, Statement};
+use crate::statement::{Given, Statement};
 
 /// The messages g1 and h1.
-pub(crate) struct Line {
-    pub remainder: Polynomial,
-    pub quotient: Polynomial,
+struct Line {
+    remainder: Polynomial,
+    quotient: Polynomial,
 }
 
 /// One matrix's g_M and h_M.
@@ -21,77 +20,62 @@ struct MatrixDivision {
     quotient: Polynomial,
 }
 
-/// All challenges, as elements. τ and θ have one for each assignment, the first of which is 1.
-pub(crate) struct Challenges {
-    pub tau: Vec<Element>,
-    pub alpha: Element,
-    pub eta: [Element; 3],
-    pub theta: Vec<Element>,
-    pub beta: Element,
-    pub delta: [Element; 3],
-    pub gamma: Element,
-}
-
-/// τ or θ of all assignments from the words of those after the first, which has 1: that of a single proof from none.
-pub(crate) fn factors(further: &[u32]) -> Vec<Element> {
-    [&[Element::ONE], &field::elements(further)[..]].concat()
+/// All challenges, as elements.
+struct Challenges {
+    alpha: Element,
+    eta: [Element; 3],
+    beta: Element,
+    delta: [Element; 3],
+    gamma: Element,
 }
 
 impl Statement {
-    /// x̂: interpolates an assignment at the public columns on X.
-    fn public_polynomial(&self, assignment: &Assignment) -> Polynomial {
-        polynomial::interpolation(&self.circuit.public, &assignment.public_words)
+    /// x̂: interpolates the assignment at the public columns on X.
+    fn public_polynomial(&self) -> Polynomial {
+        polynomial::interpolation(&self.circuit.public, &self.public_words)
     }
 
     /// ŵ = (z - x̂)/v_X + r × v_C/v_X.
-    fn witness(&self, assignment: &Assignment) -> Polynomial {
+    fn witness(&self) -> Polynomial {
         let circuit = &self.circuit;
-        let interpolated = polynomial::interpolation(&circuit.columns, &assignment.words);
-        let private = polynomial::difference(&interpolated, &self.public_polynomial(assignment));
+        let assignment = polynomial::interpolation(&circuit.columns, &self.assignment);
+        let private = polynomial::difference(&assignment, &self.public_polynomial());
         let (unmasked, _) = polynomial::divided_by_vanishing(&private, &circuit.public);
         let columns = polynomial::vanishing(&circuit.columns);
         let (masking, _) = polynomial::divided_by_vanishing(&columns, &circuit.public);
-        polynomial::sum(&unmasked, &polynomial::scaled(&masking, assignment.mask_word))
-    }
-
-    /// The ŵ of all assignments.
-    pub fn witnesses(&self) -> Vec<Polynomial> {
-        self.assignments.iter().map(|assignment| self.witness(assignment)).collect()
+        polynomial::sum(&unmasked, &polynomial::scaled(&masking, self.mask_word))
     }
 
     /// ẑ = ŵ v_X + x̂.
-    fn masked_assignment(&self, assignment: &Assignment) -> Polynomial {
+    fn masked_assignment(&self) -> Polynomial {
         let vanishing = polynomial::vanishing(&self.circuit.public);
-        let witness_part = polynomial::product(&self.witness(assignment), &vanishing);
-        polynomial::sum(&witness_part, &self.public_polynomial(assignment))
+        let witness_part = polynomial::product(&self.witness(), &vanishing);
+        polynomial::sum(&witness_part, &self.public_polynomial())
     }
 
     /// ẑ_A, ẑ_B, ẑ_C; ẑ has the assignment's values on C.
-    fn row_polynomials(&self, assignment: &Assignment) -> [Polynomial; 3] {
+    fn row_polynomials(&self) -> [Polynomial; 3] {
         let circuit = &self.circuit;
         circuit.matrices.each_ref().map(|matrix| {
-            let sums = circuit.row_sums(matrix, &assignment.words);
+            let sums = circuit.row_sums(matrix, &self.assignment);
             polynomial::interpolation(&circuit.rows, &sums)
         })
     }
 
-    /// h0 = Σ τ_j (ẑ_A ẑ_B - ẑ_C)/v_R.
-    pub fn row_quotient(&self, tau: &[Element]) -> Polynomial {
-        let excesses = self.assignments.iter().map(|assignment| {
-            let [a, b, c] = self.row_polynomials(assignment);
-            polynomial::difference(&polynomial::product(&a, &b), &c)
-        });
-        polynomial::divided_by_vanishing(&weighted_sum(excesses, tau), &self.circuit.rows).0
+    /// h0 = (ẑ_A ẑ_B - ẑ_C)/v_R.
+    fn row_quotient(&self) -> Polynomial {
+        let [a, b, c] = self.row_polynomials();
+        let excess = polynomial::difference(&polynomial::product(&a, &b), &c);
+        polynomial::divided_by_vanishing(&excess, &self.circuit.rows).0
     }
 
-    /// σ_M = ẑ_M(α), for each assignment.
-    pub fn sums(&self, alpha: Element) -> Vec<[Element; 3]> {
-        let polynomials = self.assignments.iter().map(|assignment| self.row_polynomials(assignment));
-        polynomials.map(|three| three.map(|polynomial| polynomial::value_at(&polynomial, alpha))).collect()
+    /// σ_M = ẑ_M(α).
+    fn sums(&self, alpha: Element) -> [Element; 3] {
+        self.row_polynomials().map(|row_polynomial| polynomial::value_at(&row_polynomial, alpha))
     }
 
-    /// Divides m + Σ η_M M̂(α,Y) Σ θ_j ẑ_j(Y) by v_C; the remainder past its constant is g1.
-    pub fn line(&self, alpha: Element, eta: [Element; 3], theta: &[Element]) -> Line {
+    /// Divides m + Σ η_M M̂(α,Y) ẑ(Y) by v_C; the remainder past its constant is g1.
+    fn line(&self, alpha: Element, eta: [Element; 3]) -> Line {
         let circuit = &self.circuit;
         let mut joined = vec![Element::ZERO; circuit.columns.size()];
         for (matrix, factor) in circuit.matrices.iter().zip(eta) {
@@ -99,15 +83,14 @@ impl Statement {
             let restricted = polynomial::interpolation(&circuit.columns, &column_sums);
             joined = polynomial::sum(&joined, &polynomial::scaled(&restricted, factor));
         }
-        let assignments = self.assignments.iter().map(|assignment| self.masked_assignment(assignment));
-        let weighted = polynomial::product(&joined, &weighted_sum(assignments, theta));
+        let weighted = polynomial::product(&joined, &self.masked_assignment());
         let total = polynomial::sum(&self.mask, &weighted);
         let (quotient, remainder) = polynomial::divided_by_vanishing(&total, &circuit.columns);
         Line { remainder: remainder[1..].to_vec(), quotient }
     }
 
     /// ω_M = M̂(α,β).
-    pub fn values(&self, alpha: Element, beta: Element) -> [Element; 3] {
+    fn values(&self, alpha: Element, beta: Element) -> [Element; 3] {
         let matrices = self.circuit.matrices.each_ref();
         matrices.map(|matrix| self.circuit.matrix_at(matrix, alpha, beta))
     }
@@ -149,13 +132,13 @@ impl Statement {
     }
 
     /// g_A, g_B, g_C.
-    pub fn matrix_remainders(&self, alpha: Element, beta: Element) -> [Polynomial; 3] {
+    fn matrix_remainders(&self, alpha: Element, beta: Element) -> [Polynomial; 3] {
         let matrices = self.circuit.matrices.each_ref();
         matrices.map(|matrix| self.matrix_division(matrix, alpha, beta).remainder)
     }
 
     /// h2 = Σ δ_M (|K_M|/|K|) h_M.
-    pub fn joined_quotient(&self, alpha: Element, beta: Element, delta: [Element; 3]) -> Polynomial {
+    fn joined_quotient(&self, alpha: Element, beta: Element, delta: [Element; 3]) -> Polynomial {
         let largest = self.circuit.largest_places();
         let mut joined = vec![Element::ZERO; largest.size() - 1];
         for (matrix, factor) in self.circuit.matrices.iter().zip(delta) {
@@ -166,17 +149,16 @@ impl Statement {
         joined
     }
 
-    /// The ŵ, m, g1, h1 at β; h0 at α; h2, g_A, g_B, g_C at γ.
-    fn message_openings(&self, challenges: &Challenges) -> Vec<Element> {
-        let Challenges { alpha, eta, beta, delta, gamma, .. } = *challenges;
-        let line = self.line(alpha, eta, &challenges.theta);
-        let at_beta = [self.mask.clone(), line.remainder, line.quotient];
+    /// ŵ, m, g1, h1 at β; h0 at α; h2, g_A, g_B, g_C at γ.
+    fn message_openings(&self, challenges: Challenges) -> Vec<Element> {
+        let Challenges { alpha, eta, beta, delta, gamma } = challenges;
+        let line = self.line(alpha, eta);
+        let at_beta = [self.witness(), self.mask.clone(), line.remainder, line.quotient];
         let [a, b, c] = self.matrix_remainders(alpha, beta);
         let at_gamma = [self.joined_quotient(alpha, beta, delta), a, b, c];
         let mut opened = Vec::new();
-        opened.extend(self.witnesses().iter().map(|witness| polynomial::value_at(witness, beta)));
         opened.extend(at_beta.map(|message| polynomial::value_at(&message, beta)));
-        opened.push(polynomial::value_at(&self.row_quotient(&challenges.tau), alpha));
+        opened.push(polynomial::value_at(&self.row_quotient(), alpha));
         opened.extend(at_gamma.map(|message| polynomial::value_at(&message, gamma)));
         opened
     }
@@ -191,17 +173,6 @@ impl Statement {
         }
         opened
     }
-
-    /// All openings in order.
-    pub fn openings(&self, challenges: &Challenges) -> Vec<Element> {
-        [self.message_openings(challenges), self.index_openings(challenges.gamma)].concat()
-    }
-}
-
-/// The sum of polynomials, each times its factor.
-fn weighted_sum(polynomials: impl Iterator<Item = Polynomial>, factors: &[Element]) -> Polynomial {
-    let scaled = polynomials.zip(factors).map(|(polynomial, &factor)| polynomial::scaled(&polynomial, factor));
-    scaled.fold(Vec::new(), |total, term| polynomial::sum(&total, &term))
 }
 
 /// The messages ŵ and h0.
@@ -217,8 +188,8 @@ pub fn first_round(
     let given = Given { sizes, entries, assignment, mask_word, mask };
     let lent = [(message::WITNESS, lent_witness.len()), (message::ROW_QUOTIENT, lent_row_quotient.len())];
     let statement = given.admit(&[], &lent)?;
-    field::fill(lent_witness, &statement.witnesses()[0]);
-    field::fill(lent_row_quotient, &statement.row_quotient(&factors(&[])));
+    field::fill(lent_witness, &statement.witness());
+    field::fill(lent_row_quotient, &statement.row_quotient());
     Ok(())
 }
 
@@ -233,7 +204,7 @@ pub fn second_round(
 ) -> Result<[u32; 3], Refusal> {
     let given = Given { sizes, entries, assignment, mask_word, mask };
     let statement = given.admit(&[alpha], &[])?;
-    Ok(statement.sums(Element::new(alpha))[0].map(Element::word))
+    Ok(statement.sums(Element::new(alpha)).map(Element::word))
 }
 
 /// The messages g1 and h1.
@@ -253,7 +224,7 @@ pub fn third_round(
     let lent =
         [(message::LINE_REMAINDER, lent_line_remainder.len()), (message::LINE_QUOTIENT, lent_line_quotient.len())];
     let statement = given.admit(&challenges, &lent)?;
-    let line = statement.line(Element::new(alpha), eta.map(Element::new), &factors(&[]));
+    let line = statement.line(Element::new(alpha), eta.map(Element::new));
     field::fill(lent_line_remainder, &line.remainder);
     field::fill(lent_line_quotient, &line.quotient);
     Ok(())
@@ -324,15 +295,15 @@ pub fn openings(
     let words = [&[alpha][..], &eta, &[beta], &delta, &[gamma]].concat();
     let statement = given.admit(&words, &[])?;
     let challenges = Challenges {
-        tau: factors(&[]),
         alpha: Element::new(alpha),
         eta: eta.map(Element::new),
-        theta: factors(&[]),
         beta: Element::new(beta),
         delta: delta.map(Element::new),
         gamma: Element::new(gamma),
     };
+    let mut opened = statement.message_openings(challenges);
+    opened.extend(statement.index_openings(Element::new(gamma)));
     let mut result = [0; 21];
-    field::fill(&mut result, &statement.openings(&challenges));
+    field::fill(&mut result, &opened);
     Ok(result)
 }

@@ -1,7 +1,6 @@
 //! Refusals: a number and a position. Each row of document 01's table, with the rows that document 02
 //! adds, is one function, which gives the first place at fault.
 
-use crate::batch;
 use crate::blinding::Reserved;
 use crate::circuit::Circuit;
 use crate::domain::{self, Domain};
@@ -60,16 +59,6 @@ pub(crate) fn trailer(words: &[u32; 18]) -> Result<(), Refusal> {
 /// 4: a size not allowed, or |X| (place 2) above |C| (place 1).
 pub(crate) fn sizes(sizes: &[u32]) -> Result<(), Refusal> {
     refuse_at(4, size_fault(sizes))
-}
-
-/// 16, after the sizes: a batch of none or of more than eight assignments.
-pub(crate) fn number(number: u32) -> Result<(), Refusal> {
-    refuse_unless(16, (1..=batch::MOST_ASSIGNMENTS as u32).contains(&number))
-}
-
-/// 17, after the number: a batch whose number times |C| is above 2,048.
-pub(crate) fn batch_columns(number: u32, columns: u32) -> Result<(), Refusal> {
-    refuse_unless(17, u64::from(number) * u64::from(columns) <= batch::MOST_COLUMNS as u64)
 }
 
 /// 5: a list or lent slice that does not fit.
@@ -134,7 +123,7 @@ pub(crate) fn constant(words: &[u32]) -> Result<(), Refusal> {
     refuse_unless(13, words.first() == Some(&1))
 }
 
-/// 9: an assignment that fails a row; of a batch each is looked at whole before the next.
+/// 9: an assignment that fails a row.
 pub(crate) fn assignment(circuit: &Circuit, assignment: &[Element]) -> Result<(), Refusal> {
     let [a, b, c] = &circuit.matrices;
     let [a, b, c] = [a, b, c].map(|matrix| circuit.row_sums(matrix, assignment));

@@ -67,8 +67,8 @@ const ROWS: [Row<u128>; 35] = [
     ("triples of delta that save a false matrix value, at most", |_| P.pow(2), "values-caught"),
 ];
 
-/// The rows after them, for whole conversations without a witness, the last of them for a batch.
-const TUPLE_ROWS: [Row<Large>; 9] = [
+/// The rows after them, for whole conversations without a witness.
+const TUPLE_ROWS: [Row<Large>; 8] = [
     ("allowed challenge tuples", Given::tuples, "allowed-tuples"),
     ("tuples that alpha saves, at most", |g| g.saved(0), "saved-by-alpha"),
     ("tuples that eta saves, at most", |g| g.saved(1), "saved-by-eta"),
@@ -77,7 +77,6 @@ const TUPLE_ROWS: [Row<Large>; 9] = [
     ("tuples that gamma saves, at most", |g| g.saved(4), "saved-by-gamma"),
     ("tuples accepted without a witness, at most", Given::accepted, "few-accepted"),
     ("tuples accepted without a witness, at most one in", Given::one_in, "one-in"),
-    ("a batch of eight: at most one in", Given::batch_one_in, "false-batches"),
 ];
 
 /// The rows after them, for the honest prover's masks: exponents of p.
@@ -151,32 +150,6 @@ impl Given {
     /// The largest k with k times the sum at most N.
     fn one_in(&self) -> Large {
         self.tuples().over(&self.accepted())
-    }
-
-    /// How many τ, α, η and θ, β, δ and γ are allowed for a batch of eight, each number by its factors.
-    fn batch_challenges(&self) -> [Vec<u128>; 6] {
-        let (alpha, beta, gamma) = (P - self.rows, P - self.columns, P - self.most_places());
-        [vec![P; 7], vec![alpha], vec![P; 10], vec![beta], vec![P; 3], vec![gamma]]
-    }
-
-    /// The tuples of a batch with the factors of one challenge replaced by how many of these save a false claim at most.
-    fn batch_saved(&self, challenge: usize) -> Large {
-        let mut factors = self.batch_challenges();
-        factors[challenge] = match challenge {
-            0 => vec![P; 6],
-            1 => vec![2 * self.rows - 2],
-            2 => [vec![2], vec![P; 9]].concat(),
-            3 => vec![2 * self.columns - 1],
-            4 => vec![P; 2],
-            _ => vec![2 * self.most_places() - 2],
-        };
-        Large::product(&factors.concat())
-    }
-
-    /// The largest k with k times the sum of the six counts at most the number of tuples of a batch of eight.
-    fn batch_one_in(&self) -> Large {
-        let accepted = (1..6).fold(self.batch_saved(0), |sum, challenge| sum.plus(&self.batch_saved(challenge)));
-        Large::product(&self.batch_challenges().concat()).over(&accepted)
     }
 
     /// The smallest k for which the k-th power of "one in" is above a number: as many digits as the number has in that base.

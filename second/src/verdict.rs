@@ -1,7 +1,7 @@
-//! The verdict: the three check equations over a session's words and the openings, of a single proof or of a batch.
+//! The verdict: the three check equations over a session's words and the 21 openings.
 
 use crate::domain::Sizes;
-use crate::field::{self, combination, Element};
+use crate::field::{combination, Element};
 use crate::transcript::Transcript;
 
 /// The checks, in their order.
@@ -19,9 +19,9 @@ pub enum Verdict {
     Fails(Check),
 }
 
-/// The openings by name, one ŵ for each assignment; each inner array of `index` is row, col, rowcol, rowcolval of a matrix.
+/// The 21 openings by name; each inner array of `index` is row, col, rowcol, rowcolval of a matrix.
 pub(crate) struct Openings {
-    witnesses: Vec<Element>,
+    witness: Element,
     mask: Element,
     line_remainder: Element,
     line_quotient: Element,
@@ -32,36 +32,26 @@ pub(crate) struct Openings {
 }
 
 impl Openings {
-    /// From the words of the openings of so many assignments.
-    pub fn new(number: usize, words: &[u32]) -> Openings {
-        let opened = field::elements(words);
-        let (witnesses, opened) = opened.split_at(number);
+    pub fn new(words: [u32; 21]) -> Openings {
+        let opened = words.map(Element::new);
         let four = |from: usize| [0, 1, 2, 3].map(|place| opened[from + place]);
         Openings {
-            witnesses: witnesses.to_vec(),
-            mask: opened[0],
-            line_remainder: opened[1],
-            line_quotient: opened[2],
-            row_quotient: opened[3],
-            joined_quotient: opened[4],
-            matrix_remainders: [opened[5], opened[6], opened[7]],
-            index: [8, 12, 16].map(four),
+            witness: opened[0],
+            mask: opened[1],
+            line_remainder: opened[2],
+            line_quotient: opened[3],
+            row_quotient: opened[4],
+            joined_quotient: opened[5],
+            matrix_remainders: [opened[6], opened[7], opened[8]],
+            index: [9, 13, 17].map(four),
         }
     }
 }
 
-/// What is claimed of an assignment, with its τ and θ, which are 1 for the first.
-pub(crate) struct Claim {
-    pub tau: Element,
-    pub theta: Element,
-    pub public_words: Vec<Element>,
-    pub sums: [Element; 3],
-}
-
-/// What the check equations speak of. The σ are those of the claims.
+/// What the check equations speak of.
 pub(crate) struct Equations {
     pub sizes: Sizes,
-    pub claims: Vec<Claim>,
+    pub public_words: Vec<Element>,
     pub transcript: Transcript<Element>,
     pub openings: Openings,
 }
@@ -79,35 +69,22 @@ impl Equations {
         }
     }
 
-    /// Σ τ_j (σ_A σ_B - σ_C) = h0(α) v_R(α).
+    /// σ_A σ_B - σ_C = h0(α) v_R(α).
     fn row_holds(&self) -> bool {
-        let terms = self.claims.iter().map(|claim| {
-            let [a, b, c] = claim.sums;
-            claim.tau * (a * b - c)
-        });
-        let vanishing = self.sizes.rows().vanishing_at(self.transcript.alpha);
-        terms.sum::<Element>() == self.openings.row_quotient * vanishing
+        let Transcript { alpha, sums: [a, b, c], .. } = self.transcript;
+        a * b - c == self.openings.row_quotient * self.sizes.rows().vanishing_at(alpha)
     }
 
-    /// m(β) + (Σ η_M ω_M) Σ θ_j ẑ_j(β) = h1(β) v_C(β) + β g1(β) + (Σ θ_j Σ η_M σ_M)/|C|.
+    /// m(β) + (Σ η_M ω_M) ẑ(β) = h1(β) v_C(β) + β g1(β) + σ/|C|, with ẑ(β) = ŵ(β) v_X(β) + x̂(β).
     fn line_holds(&self) -> bool {
-        let Transcript { eta, beta, values, .. } = self.transcript;
-        let (columns, openings) = (self.sizes.columns(), &self.openings);
-        let claims = self.claims.iter();
-        let assignments = claims
-            .clone()
-            .zip(&openings.witnesses)
-            .map(|(claim, &witness)| claim.theta * self.assignment(claim, witness));
-        let left = openings.mask + combination(eta, values) * assignments.sum();
-        let sums: Element = claims.map(|claim| claim.theta * combination(eta, claim.sums)).sum();
+        let Transcript { sums, eta, beta, values, .. } = self.transcript;
+        let (public, columns, openings) = (self.sizes.public(), self.sizes.columns(), &self.openings);
+        let public_value = public.interpolated_at(&self.public_words, beta);
+        let assignment = openings.witness * public.vanishing_at(beta) + public_value;
+        let left = openings.mask + combination(eta, values) * assignment;
+        let sum = combination(eta, sums) / columns.count();
         let quotient_part = openings.line_quotient * columns.vanishing_at(beta);
-        left == quotient_part + beta * openings.line_remainder + sums / columns.count()
-    }
-
-    /// ẑ(β) = ŵ(β) v_X(β) + x̂(β).
-    fn assignment(&self, claim: &Claim, witness: Element) -> Element {
-        let (public, beta) = (self.sizes.public(), self.transcript.beta);
-        witness * public.vanishing_at(beta) + public.interpolated_at(&claim.public_words, beta)
+        left == quotient_part + beta * openings.line_remainder + sum
     }
 
     /// Σ δ_M s_M (a_M - b_M (γ g_M + ω_M/|K_M|)) = h2(γ) v_K(γ).

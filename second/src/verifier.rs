@@ -8,9 +8,8 @@ use crate::domain::Sizes;
 use crate::field::{self, Element};
 use crate::message;
 use crate::refusal::{self, Refusal};
-use crate::steps;
 use crate::transcript::{Transcript, TRANSCRIPT_WORDS};
-use crate::verdict::{Claim, Equations, Openings, Verdict};
+use crate::verdict::{Equations, Openings, Verdict};
 
 /// The place of x among a session's words, after the stage and the six sizes.
 const X_START: usize = 7;
@@ -47,9 +46,9 @@ impl Session {
     /// The lengths of ŵ, m and h0, then α.
     pub fn alpha(self, lengths: [u32; 3], alpha: u32) -> (Session, Result<(), Refusal>) {
         let sections = [message::WITNESS, message::MASK, message::ROW_QUOTIENT];
-        let answer = steps::check(self.in_turn(1), &[alpha]).and_then(|()| {
+        let answer = self.check(self.in_turn(1), &[alpha]).and_then(|()| {
             refusal::challenge(0, Element::new(alpha), &self.sizes.rows())?;
-            steps::check_lengths(self.sizes, &lengths, &sections)
+            self.check_lengths(&lengths, &sections)
         });
         self.step(answer, |transcript| {
             transcript.alpha = alpha;
@@ -58,7 +57,7 @@ impl Session {
 
     /// The three σ, then the three η.
     pub fn eta(self, sums: [u32; 3], eta: [u32; 3]) -> (Session, Result<(), Refusal>) {
-        let answer = steps::check(self.in_turn(2), &[sums, eta].concat());
+        let answer = self.check(self.in_turn(2), &[sums, eta].concat());
         self.step(answer, |transcript| {
             transcript.sums = sums;
             transcript.eta = eta;
@@ -67,7 +66,11 @@ impl Session {
 
     /// The lengths of g1 and h1, then β.
     pub fn beta(self, lengths: [u32; 2], beta: u32) -> (Session, Result<(), Refusal>) {
-        let answer = steps::beta(self.in_turn(3), self.sizes, lengths, beta);
+        let sections = [message::LINE_REMAINDER, message::LINE_QUOTIENT];
+        let answer = self.check(self.in_turn(3), &[beta]).and_then(|()| {
+            refusal::challenge(1, Element::new(beta), &self.sizes.columns())?;
+            self.check_lengths(&lengths, &sections)
+        });
         self.step(answer, |transcript| {
             transcript.beta = beta;
         })
@@ -75,7 +78,9 @@ impl Session {
 
     /// The three ω and the lengths of g_A, g_B and g_C, then the three δ.
     pub fn delta(self, values: [u32; 3], lengths: [u32; 3], delta: [u32; 3]) -> (Session, Result<(), Refusal>) {
-        let answer = steps::delta(self.in_turn(4), self.sizes, values, lengths, delta);
+        let answer = self
+            .check(self.in_turn(4), &[values, delta].concat())
+            .and_then(|()| self.check_lengths(&lengths, &message::MATRIX_REMAINDERS));
         self.step(answer, |transcript| {
             transcript.values = values;
             transcript.delta = delta;
@@ -84,7 +89,10 @@ impl Session {
 
     /// The length of h2, then γ.
     pub fn gamma(self, length: u32, gamma: u32) -> (Session, Result<(), Refusal>) {
-        let answer = steps::gamma(self.in_turn(5), self.sizes, length, gamma);
+        let answer = self.check(self.in_turn(5), &[gamma]).and_then(|()| {
+            refusal::challenge(2, Element::new(gamma), &self.sizes.largest_places())?;
+            self.check_lengths(&[length], &[message::JOINED_QUOTIENT])
+        });
         self.step(answer, |transcript| {
             transcript.gamma = gamma;
         })
@@ -92,8 +100,8 @@ impl Session {
 
     /// Asks about the 21 openings; the answer is the verdict.
     pub fn ask(&self, openings: [u32; 21]) -> Result<Verdict, Refusal> {
-        steps::check(self.in_turn(6) && self.left_by_steps(), &openings)?;
-        Ok(self.verdict(Openings::new(1, &openings)))
+        self.check(self.in_turn(6) && self.left_by_steps(), &openings)?;
+        Ok(self.verdict(Openings::new(openings)))
     }
 
     /// Commits the 21 openings, which ends the session; the answer is the one that asking gives.
@@ -104,28 +112,49 @@ impl Session {
 
     /// Whether so many steps were taken, with sizes such as opening leaves.
     fn in_turn(&self, steps: u32) -> bool {
-        steps::in_turn(self.stage, steps, self.sizes)
+        self.stage == steps && refusal::sizes(&self.sizes.0).is_ok()
     }
 
-    /// The public words of a session with allowed sizes.
-    fn public_words(&self) -> &[u32] {
-        &self.x[..self.sizes.0[2] as usize]
+    /// The public words and the zeros after them, of a session with allowed sizes.
+    fn public_words(&self) -> (&[u32], &[u32]) {
+        self.x.split_at(self.sizes.0[2] as usize)
     }
 
-    /// Whether x and the transcript are such as steps leave, with allowed sizes: the public words are below p and begin
-    /// with 1, and zeros come after them.
+    /// Whether x and the transcript are such as steps leave, with allowed sizes: the public words and the
+    /// transcript are below p, x begins with 1, zeros come after the public words, α is outside R, β outside
+    /// C, γ outside K.
     fn left_by_steps(&self) -> bool {
-        let public_words = self.public_words();
-        let filled = steps::filled(&self.x, public_words.len());
-        filled && refusal::constant(public_words).is_ok() && steps::left_transcript(self.sizes, &self.transcript)
+        let (public_words, rest) = self.public_words();
+        let below = refusal::words([public_words, &self.transcript.words()].concat()).is_ok();
+        let constant = refusal::constant(public_words).is_ok();
+        let padded = rest.iter().all(|&word| word == 0);
+        let Transcript { alpha, beta, gamma, .. } = self.transcript.elements();
+        let inside = [
+            self.sizes.rows().contains(alpha),
+            self.sizes.columns().contains(beta),
+            self.sizes.largest_places().contains(gamma),
+        ];
+        below && constant && padded && inside == [false; 3]
     }
 
     /// The verdict on what steps leave.
     fn verdict(&self, openings: Openings) -> Verdict {
+        let public_words = field::elements(self.public_words().0);
         let (sizes, transcript) = (self.sizes, self.transcript.elements());
-        let public_words = field::elements(self.public_words());
-        let claim = Claim { tau: Element::ONE, theta: Element::ONE, public_words, sums: transcript.sums };
-        Equations { sizes, claims: vec![claim], transcript, openings }.verdict()
+        Equations { sizes, public_words, transcript, openings }.verdict()
+    }
+
+    /// Checks 1 and 6: the step's turn and its field words.
+    fn check(&self, in_turn: bool, words: &[u32]) -> Result<(), Refusal> {
+        refusal::turn(in_turn)?;
+        refusal::words(words.iter().copied())
+    }
+
+    /// Check 11: declared lengths against those of their sections.
+    fn check_lengths(&self, declared: &[u32], sections: &[usize]) -> Result<(), Refusal> {
+        let lengths = message::lengths(self.sizes.0);
+        let limits: Vec<usize> = sections.iter().map(|&section| lengths[section]).collect();
+        refusal::declared_lengths(declared, &limits)
     }
 
     /// The next session where the answer is good, the same one where it is a refusal.

@@ -1,8 +1,8 @@
 /*
- * Every exported call but those for a batch, which batches.c has, on the square case of document 01, or on a small circuit where that
- * leaves no room for what the call does, with the words that it must give, and a refusal of each kind that a call has: its number, its
- * position, and that it leaves the memory of its results, the session and the circuit as they were, but for the verdict, which refused
- * openings set to none. Prints a line for each test of all files and last the counts; exits with 1 where a test failed.
+ * Every exported call on the square case of document 01, or on a small circuit where that leaves no room for what the call does, with the
+ * words that it must give, and a refusal of each kind that a call has: its number, its position, and that it leaves the memory of its
+ * results, the session and the circuit as they were, but for the verdict, which refused openings set to none. Prints a line for each
+ * test and last the counts; exits with 1 where a test failed.
  */
 #include "../../include/varuna.h" /* first, since it must need no other header */
 
@@ -53,14 +53,14 @@ static void test_constants(void)
         VARUNA_DONE,           VARUNA_REFUSED_TURN, VARUNA_REFUSED_END,   VARUNA_REFUSED_TRAILER, VARUNA_REFUSED_SIZE,
         VARUNA_REFUSED_LENGTH, VARUNA_REFUSED_WORD, VARUNA_REFUSED_ENTRY, VARUNA_REFUSED_MASK,    VARUNA_REFUSED_ASSIGNMENT,
         VARUNA_REFUSED_CHALLENGE, VARUNA_REFUSED_DECLARED, VARUNA_REFUSED_INVERSE, VARUNA_REFUSED_CONSTANT, VARUNA_REFUSED_PLACE,
-        VARUNA_REFUSED_BLINDING, VARUNA_REFUSED_NUMBER, VARUNA_REFUSED_COLUMNS,
+        VARUNA_REFUSED_BLINDING,
     };
     static const uint32_t sections[VARUNA_SECTIONS] = {
         VARUNA_SECTION_W, VARUNA_SECTION_M,  VARUNA_SECTION_H0, VARUNA_SECTION_S,  VARUNA_SECTION_G1, VARUNA_SECTION_H1,
         VARUNA_SECTION_O, VARUNA_SECTION_GA, VARUNA_SECTION_GB, VARUNA_SECTION_GC, VARUNA_SECTION_H2,
     };
     char version[20];
-    int in_order = COUNT(refusals) == 18;
+    int in_order = COUNT(refusals) == 16;
     for (uint32_t i = 0; i < COUNT(refusals); i++)
         in_order = in_order && refusals[i] == i;
     test("the numbers of refusals", in_order);
@@ -1355,7 +1355,6 @@ int main(void)
     test_writing(bytes);
     test_reading(bytes);
     test_sections(bytes);
-    test_batches();
     test_stack();
     test_unread();
     test_header();

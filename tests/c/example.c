@@ -1,6 +1,6 @@
 /*
- * Each example in C prints what stands beside it: run puts what examples/NAME.c prints into target/c/NAME.out, and this must be
- * examples/NAME.out, byte by byte.
+ * The example of a circuit that grows prints what stands beside it: run puts what examples/grow.c prints into target/c/grow.out, and this
+ * must be examples/grow.out, byte by byte.
  */
 #include <stdio.h>
 
@@ -24,5 +24,4 @@ static int same_files(const char *found_name, const char *expected_name)
 void test_example(void)
 {
     test("examples/grow.c prints examples/grow.out", same_files("target/c/grow.out", "examples/grow.out"));
-    test("examples/batch.c prints examples/batch.out", same_files("target/c/batch.out", "examples/batch.out"));
 }

@@ -87,26 +87,6 @@ static int blinds()
         && a[0] == 1 && a[1] == 1 && b[1] == 2 && c[2] == 9 && c[4] == 3 && c[5] == 1 && blinded_z[0] == 1 && blinded_z[3] == 6;
 }
 
-/* The square case's circuit for the roots 3 and -3 of 9 together; beta, delta and gamma come as in a single session. */
-static int batches()
-{
-    const uint32_t root[VARUNA_ENTRY_WORDS] = {0, 1, 1}, nine[VARUNA_ENTRY_WORDS] = {0, 0, 9}, sizes[VARUNA_SIZES] = {1, 2, 1, 1, 1, 1};
-    const uint32_t assignments[6] = {1, 3, 1, 1, VARUNA_MODULUS - 3, 2}, m[4] = {}, x[2] = {1, 1}, tau[1] = {4}, theta[1] = {6};
-    const uint32_t w_lengths[2] = {2, 2}, eta[3] = {1, 1, 2};
-    uint32_t session[VARUNA_BATCH_SESSION_WORDS], w[4] = {}, sigma[6] = {};
-    size_t position = 99;
-    varuna_batch_session_new(session);
-    return varuna_batch_witnesses(1, 2, 1, 9, root, 3, root, 3, nine, 3, assignments, 6, m, 4, w, 4, &position) == VARUNA_REFUSED_NUMBER
-        && varuna_batch_witnesses(1, 2, 1, 2, root, 3, root, 3, nine, 3, assignments, 6, m, 4, w, 4, &position) == VARUNA_DONE && w[1] == 1
-        && varuna_batch_sums(1, 2, 1, 2, root, 3, root, 3, nine, 3, assignments, 6, m, 4, tau, 1, 2, sigma, 6, &position) == VARUNA_DONE
-        && sigma[0] == 3 && sigma[3] == VARUNA_MODULUS - 3 && sigma[5] == 9
-        && varuna_batch_session_open(session, sizes, 2, x, 2, &position) == VARUNA_DONE
-        && varuna_batch_session_tau(session, w_lengths, 2, 4, tau, 1, &position) == VARUNA_DONE
-        && varuna_batch_session_alpha(session, 0, 2, &position) == VARUNA_DONE
-        && varuna_batch_session_eta(session, sigma, 6, eta, theta, 1, &position) == VARUNA_DONE
-        && session[0] == 4 && session[VARUNA_BATCH_SESSION_WORDS - 7] == 6;
-}
-
 void test_header()
 {
     test("the header's verifier, in C++", accepts());
@@ -115,5 +95,4 @@ void test_header()
     test("values on a domain and back from C++", transforms());
     test("a circuit that grows from C++", grows());
     test("blinding from C++", blinds());
-    test("a batch from C++", batches());
 }

@@ -1,6 +1,5 @@
 /*
- * The stack that a call uses at the largest sizes: 1,024 rows and columns, 1,024 entries in each matrix, a record of the greatest length; a
- * batch of eight with 256 columns and of two with 1,024, each with one public column and with all, of which the most is told.
+ * The stack that a call uses at the largest sizes: 1,024 rows and columns, 1,024 entries in each matrix, a record of the greatest length.
  * Each call runs on a stack of its own that was filled with one byte before; what it wrote over is what it used. A call must be done, not
  * refused, and use less than 256 KiB. Calls on single words have no arrays and are left out.
  */
@@ -33,19 +32,6 @@ static uint32_t circuit[VARUNA_CIRCUIT_WORDS], other_circuit[VARUNA_CIRCUIT_WORD
 static uint32_t openings[VARUNA_OPENINGS], session[VARUNA_SESSION_WORDS], other[VARUNA_SESSION_WORDS], verdict = 77;
 static uint8_t record[RECORD_BYTES];
 static const uint32_t sizes[VARUNA_SIZES] = {SIZES, N, N, N}, public_sizes[VARUNA_SIZES] = {N, N, N, N, N, N};
-
-/* A batch: 1,024 rows, each with an entry of 1 in every matrix, and z all 1. */
-static uint32_t batch_number, batch_columns, batch_publics;
-static uint32_t batch_entries[3 * N], batch_assignments[VARUNA_MAX_BATCH_COLUMNS + VARUNA_MAX_BATCH], batch_x[VARUNA_MAX_BATCH_COLUMNS];
-static uint32_t batch_w[VARUNA_MAX_BATCH_COLUMNS], batch_sigma[3 * VARUNA_MAX_BATCH], batch_opened[VARUNA_BATCH_OPENINGS(VARUNA_MAX_BATCH)];
-static uint32_t batch_session[VARUNA_BATCH_SESSION_WORDS], batch_verdict;
-static const uint32_t tau[] = {20, 21, 22, 23, 24, 25, 26}, theta[] = {30, 31, 32, 33, 34, 35, 36};
-#define BATCH                                                                                                                             \
-    N, batch_columns, batch_publics, batch_number, batch_entries, 3 * N, batch_entries, 3 * N, batch_entries, 3 * N, batch_assignments,  \
-        (size_t)batch_number * (batch_columns + 1), m, 2 * (size_t)batch_columns
-#define BATCH_TAU tau, batch_number - 1
-#define BATCH_THETA theta, batch_number - 1
-#define BATCH_SIZES {N, batch_columns, batch_publics, N, N, N}
 
 /* What the call under test returned. */
 static uint32_t number;
@@ -222,98 +208,6 @@ static void session_commit(void)
     number = varuna_session_commit(session, openings, &verdict, &position);
 }
 
-static void batch_witnesses(void)
-{
-    number = varuna_batch_witnesses(BATCH, batch_w, (size_t)batch_number * (batch_columns - batch_publics + 1), &position);
-}
-
-static void batch_row_quotient(void)
-{
-    number = varuna_batch_row_quotient(BATCH, BATCH_TAU, h0, N - 1, &position);
-}
-
-static void batch_sums(void)
-{
-    number = varuna_batch_sums(BATCH, BATCH_TAU, alpha, batch_sigma, 3 * (size_t)batch_number, &position);
-}
-
-static void batch_line(void)
-{
-    number = varuna_batch_line(BATCH, BATCH_TAU, alpha, eta, BATCH_THETA, g1, batch_columns - 1, h1, batch_columns, &position);
-}
-
-static void batch_values(void)
-{
-    number = varuna_batch_values(BATCH, BATCH_TAU, alpha, eta, BATCH_THETA, beta, g[0], N - 1, g[1], N - 1, g[2], N - 1, values, &position);
-}
-
-static void batch_joined_quotient(void)
-{
-    number = varuna_batch_joined_quotient(BATCH, BATCH_TAU, alpha, eta, BATCH_THETA, beta, delta, h2, N - 1, &position);
-}
-
-static void batch_openings(void)
-{
-    number = varuna_batch_openings(BATCH, BATCH_TAU, alpha, eta, BATCH_THETA, beta, delta, gamma_point, batch_opened,
-                                   VARUNA_BATCH_OPENINGS(batch_number), &position);
-}
-
-static void batch_session_new(void)
-{
-    varuna_batch_session_new(batch_session);
-    number = VARUNA_DONE;
-}
-
-static void batch_session_open(void)
-{
-    const uint32_t six[VARUNA_SIZES] = BATCH_SIZES;
-    number = varuna_batch_session_open(batch_session, six, batch_number, batch_x, (size_t)batch_number * batch_publics, &position);
-}
-
-static void batch_session_tau(void)
-{
-    uint32_t lengths[VARUNA_MAX_BATCH];
-    for (uint32_t i = 0; i < batch_number; i++)
-        lengths[i] = batch_columns - batch_publics + 1;
-    number = varuna_batch_session_tau(batch_session, lengths, batch_number, 2 * batch_columns, BATCH_TAU, &position);
-}
-
-static void batch_session_alpha(void)
-{
-    number = varuna_batch_session_alpha(batch_session, N - 1, alpha, &position);
-}
-
-static void batch_session_eta(void)
-{
-    number = varuna_batch_session_eta(batch_session, batch_sigma, 3 * (size_t)batch_number, eta, BATCH_THETA, &position);
-}
-
-static void batch_session_beta(void)
-{
-    number = varuna_batch_session_beta(batch_session, batch_columns - 1, batch_columns, beta, &position);
-}
-
-static void batch_session_delta(void)
-{
-    const uint32_t remainders[3] = {N - 1, N - 1, N - 1};
-    number = varuna_batch_session_delta(batch_session, values, remainders, delta, &position);
-}
-
-static void batch_session_gamma(void)
-{
-    number = varuna_batch_session_gamma(batch_session, N - 1, gamma_point, &position);
-}
-
-static void batch_session_ask(void)
-{
-    number = varuna_batch_session_ask(batch_session, batch_opened, VARUNA_BATCH_OPENINGS(batch_number), &batch_verdict, &position);
-}
-
-static void batch_session_commit(void)
-{
-    number = varuna_batch_session_commit(batch_session, batch_opened, VARUNA_BATCH_OPENINGS(batch_number), &batch_verdict, &position);
-}
-
 static void write_record(void)
 {
     number = varuna_write_record(sizes, w, N, m, 2 * N, h0, N - 1, sums, 3, g1, N - 1, h1, N, values, 3, g[0], N - 1, g[1], N - 1, g[2],
@@ -352,12 +246,10 @@ static size_t stack_used(void (*call)(void))
     return sizeof stack - unused;
 }
 
-struct named {
+static const struct {
     const char *name;
     void (*call)(void);
-};
-
-static const struct named calls[] = {
+} calls[] = {
     {"list_domain", list_domain},
     {"evaluate", evaluate},
     {"evaluate_part", evaluate_part},
@@ -395,65 +287,6 @@ static const struct named calls[] = {
     {"section", section},
 };
 
-static const struct named batch_calls[] = {
-    {"batch_witnesses", batch_witnesses},
-    {"batch_row_quotient", batch_row_quotient},
-    {"batch_sums", batch_sums},
-    {"batch_line", batch_line},
-    {"batch_values", batch_values},
-    {"batch_joined_quotient", batch_joined_quotient},
-    {"batch_openings", batch_openings},
-    {"batch_session_new", batch_session_new},
-    {"batch_session_open", batch_session_open},
-    {"batch_session_tau", batch_session_tau},
-    {"batch_session_alpha", batch_session_alpha},
-    {"batch_session_eta", batch_session_eta},
-    {"batch_session_beta", batch_session_beta},
-    {"batch_session_delta", batch_session_delta},
-    {"batch_session_gamma", batch_session_gamma},
-    {"batch_session_ask", batch_session_ask},
-    {"batch_session_commit", batch_session_commit},
-};
-
-/* All calls of a batch of this number, to a verdict; used has the most stack of each call so far. */
-static int run_batch(uint32_t of, uint32_t columns, uint32_t publics, size_t used[COUNT(batch_calls)])
-{
-    int all = 1;
-    batch_number = of;
-    batch_columns = columns;
-    batch_publics = publics;
-    batch_verdict = 77;
-    for (uint32_t i = 0; i < N; i++)
-        batch_entries[3 * i + 1] = i % columns;
-    for (size_t i = 0; i < COUNT(batch_calls); i++) {
-        number = 77;
-        size_t now = stack_used(batch_calls[i].call);
-        used[i] = now > used[i] ? now : used[i];
-        all = number == VARUNA_DONE && all;
-    }
-    return all && batch_verdict == VARUNA_ACCEPT;
-}
-
-static void test_batch_stack(void)
-{
-    size_t used[COUNT(batch_calls)] = {0};
-    for (uint32_t i = 0; i < N; i++) {
-        batch_entries[3 * i] = i;
-        batch_entries[3 * i + 2] = 1;
-    }
-    for (size_t i = 0; i < COUNT(batch_assignments); i++)
-        batch_assignments[i] = 1;
-    for (size_t i = 0; i < COUNT(batch_x); i++)
-        batch_x[i] = 1;
-    test("a batch of eight with 256 columns is accepted", run_batch(8, 256, 1, used) && run_batch(8, 256, 256, used));
-    test("a batch of two with 1,024 columns is accepted", run_batch(2, N, 1, used) && run_batch(2, N, N, used));
-    for (size_t i = 0; i < COUNT(batch_calls); i++) {
-        char name[100];
-        snprintf(name, sizeof name, "stack of %s, %zu bytes", batch_calls[i].name, used[i]);
-        test(name, used[i] < LIMIT);
-    }
-}
-
 void test_stack(void)
 {
     for (size_t i = 0; i < N; i++) {
@@ -476,5 +309,4 @@ void test_stack(void)
     number = varuna_circuit_begin_from(other_circuit, CIRCUIT, &position);
     test("the circuit of 1,024 entries removed and added again is as it was", memcmp(circuit, other_circuit, sizeof circuit) == 0);
     test("its index is that of the lists", memcmp(other_index, index_polynomials, sizeof other_index) == 0);
-    test_batch_stack();
 }

@@ -11,9 +11,6 @@ extern "C" {
 /* Prints the test's name and whether it passed, and counts it. */
 void test(const char *name, int ok);
 
-/* The tests of batches.c. */
-void test_batches(void);
-
 /* The tests of stack.c. */
 void test_stack(void);
 
@@ -23,7 +20,7 @@ void test_unread(void);
 /* The tests of header.cpp. */
 void test_header(void);
 
-/* The tests of example.c. */
+/* The test of example.c. */
 void test_example(void);
 
 #ifdef __cplusplus

@@ -23,12 +23,10 @@ static int refused(uint32_t number, size_t position, uint32_t expected_number, s
 static void test_calls(uint32_t *huge)
 {
     static const uint32_t allowed[VARUNA_SIZES] = {1, 2, 1, 1, 1, 1}, not_allowed[VARUNA_SIZES] = {3, 2, 1, 1, 1, 1};
-    static const uint32_t three[3] = {VARUNA_MODULUS, VARUNA_MODULUS, VARUNA_MODULUS};
-    static const uint32_t many_columns[VARUNA_SIZES] = {1, 1024, 1, 1, 1, 1}, ones[3] = {1, 1, 1};
-    uint32_t session[VARUNA_SESSION_WORDS], batch[VARUNA_BATCH_SESSION_WORDS], result, power;
+    static const uint32_t rho[3] = {VARUNA_MODULUS, VARUNA_MODULUS, VARUNA_MODULUS};
+    uint32_t session[VARUNA_SESSION_WORDS], result, power;
     size_t position = 99;
     varuna_session_new(session);
-    varuna_batch_session_new(batch);
     uint32_t number = varuna_session_open(session, not_allowed, huge, WORDS, &position);
     test("opening with a bad size reads no x", refused(number, position, VARUNA_REFUSED_SIZE, 0));
     number = varuna_session_open(session, allowed, huge, WORDS, &position);
@@ -57,45 +55,16 @@ static void test_calls(uint32_t *huge)
     test("beginning a circuit from lists with a bad size reads nothing", refused(number, position, VARUNA_REFUSED_SIZE, 2));
     number = varuna_circuit_begin_from(huge, 1, 2, 1, huge, 3, huge, 3, huge, WORDS, &position);
     test("beginning a circuit from too long a list reads nothing", refused(number, position, VARUNA_REFUSED_LENGTH, 2));
-    number = varuna_blind(2, 8, 16, huge, WORDS, huge, 3, huge, 3, huge, 8, three, huge, WORDS, huge, 6, huge, 6, huge, 8, &position);
+    number = varuna_blind(2, 8, 16, huge, WORDS, huge, 3, huge, 3, huge, 8, rho, huge, WORDS, huge, 6, huge, 6, huge, 8, &position);
     test("blinding with a bad size reads nothing", refused(number, position, VARUNA_REFUSED_SIZE, 2));
-    number = varuna_blind(2, 8, 2, huge, 3, huge, WORDS - 2, huge, 3, huge, 8, three, huge, 6, huge, WORDS + 1, huge, 6, huge, 8,
-                          &position);
+    number = varuna_blind(2, 8, 2, huge, 3, huge, WORDS - 2, huge, 3, huge, 8, rho, huge, 6, huge, WORDS + 1, huge, 6, huge, 8, &position);
     test("blinding too long a list reads nothing", refused(number, position, VARUNA_REFUSED_LENGTH, 1));
-    number = varuna_blind(2, 8, 2, huge, 3, huge, 3, huge, 3, huge, WORDS, three, huge, 6, huge, 6, huge, 6, huge, WORDS, &position);
+    number = varuna_blind(2, 8, 2, huge, 3, huge, 3, huge, 3, huge, WORDS, rho, huge, 6, huge, 6, huge, 6, huge, WORDS, &position);
     test("blinding too long a z reads none of it", refused(number, position, VARUNA_REFUSED_LENGTH, 3));
-    number = varuna_blind(2, 8, 2, huge, 3, huge, 3, huge, 3, huge, 8, three, huge, 6, huge, 6, huge, 6, huge, WORDS, &position);
+    number = varuna_blind(2, 8, 2, huge, 3, huge, 3, huge, 3, huge, 8, rho, huge, 6, huge, 6, huge, 6, huge, WORDS, &position);
     test("blinding into a wrong length reads nothing", refused(number, position, VARUNA_REFUSED_LENGTH, 7));
     number = varuna_first_round(1, 2, 1, huge, 3, huge, 3, huge, 3, huge, 2, VARUNA_MODULUS, huge, 4, huge, 2, huge, 1, &position);
     test("a round with a wrong length reads nothing", refused(number, position, VARUNA_REFUSED_LENGTH, 6));
-    number = varuna_batch_session_open(batch, not_allowed, 9, huge, WORDS, &position);
-    test("opening a batch with a bad size reads no x", refused(number, position, VARUNA_REFUSED_SIZE, 0));
-    number = varuna_batch_session_open(batch, allowed, UINT32_MAX, huge, WORDS, &position);
-    test("opening too large a batch reads no x", refused(number, position, VARUNA_REFUSED_NUMBER, 0));
-    number = varuna_batch_session_open(batch, many_columns, 3, huge, 3, &position);
-    test("opening a batch of too many columns reads no x", refused(number, position, VARUNA_REFUSED_COLUMNS, 0));
-    number = varuna_batch_session_open(batch, allowed, 3, huge, WORDS, &position);
-    test("opening a batch with too long an x reads none of it", refused(number, position, VARUNA_REFUSED_LENGTH, 0));
-    number = varuna_batch_session_tau(batch, huge, WORDS, 0, huge, WORDS, &position);
-    test("tau out of turn reads nothing", refused(number, position, VARUNA_REFUSED_TURN, 0));
-    number = varuna_batch_session_eta(batch, huge, WORDS, three, huge, WORDS, &position);
-    test("eta of a batch out of turn reads nothing", refused(number, position, VARUNA_REFUSED_TURN, 0));
-    number = varuna_batch_session_ask(batch, huge, WORDS, &result, &position);
-    test("asking about a batch out of turn reads no openings", refused(number, position, VARUNA_REFUSED_TURN, 0));
-    int opened = varuna_batch_session_open(batch, allowed, 3, ones, 3, &position) == VARUNA_DONE;
-    number = varuna_batch_session_tau(batch, huge, 3, UINT32_MAX, huge, WORDS, &position);
-    test("too many tau are not read", opened && refused(number, position, VARUNA_REFUSED_LENGTH, 1));
-    number = varuna_batch_witnesses(1, 2, 4, 0, huge, WORDS, huge, 3, huge, 3, huge, WORDS, huge, WORDS, huge, WORDS, &position);
-    test("a batch with a bad size reads nothing", refused(number, position, VARUNA_REFUSED_SIZE, 2));
-    number = varuna_batch_witnesses(1, 2, 1, 9, huge, WORDS, huge, 3, huge, 3, huge, WORDS, huge, WORDS, huge, WORDS, &position);
-    test("too large a batch reads nothing", refused(number, position, VARUNA_REFUSED_NUMBER, 0));
-    number = varuna_batch_witnesses(1, 1024, 1, 3, huge, 3, huge, 3, huge, 3, huge, 3075, huge, 2048, huge, 3072, &position);
-    test("a batch of too many columns reads nothing", refused(number, position, VARUNA_REFUSED_COLUMNS, 0));
-    number = varuna_batch_sums(1, 2, 1, 3, huge, 3, huge, 3, huge, 3, huge, 9, huge, 4, huge, WORDS, VARUNA_MODULUS, huge, 9, &position);
-    test("a batch with too many tau reads nothing", refused(number, position, VARUNA_REFUSED_LENGTH, 5));
-    number = varuna_batch_line(1, 2, 1, 3, huge, 3, huge, 3, huge, 3, huge, 9, huge, 4, huge, 2, VARUNA_MODULUS, three, huge, 2, huge, 1,
-                               huge, WORDS, &position);
-    test("a batch's line with a wrong length reads nothing", refused(number, position, VARUNA_REFUSED_LENGTH, 8));
     number = varuna_write_record(allowed, huge, 2, huge, 4, huge, 0, huge, 3, huge, 1, huge, 2, huge, 3, huge, 0, huge, 0, huge, 0, huge, 0,
                                  (uint8_t *)huge, WORDS, &position);
     test("writing into a wrong length reads nothing", refused(number, position, VARUNA_REFUSED_LENGTH, 11));

@@ -16,11 +16,14 @@ use compare::calls::{self, Proof, Side};
 use compare::case::Case;
 use compare::library::{self, OPENINGS};
 use compare::random::Random;
-use compare::timing;
 use second::Verdict;
 use std::hint::black_box;
+use std::time::{Duration, Instant};
 
 const SIZES: [u32; 4] = [16, 64, 256, 1024];
+/// The time that the runs of one measurement fill, and the least and most of them.
+const FILLED: Duration = Duration::from_millis(500);
+const RUNS: (usize, usize) = (5, 1001);
 /// The most words of a part in which a list is evaluated.
 const PART: usize = 64;
 
@@ -253,12 +256,24 @@ fn read_record(side: Side, work: &Work, _: &mut Buffers) {
     black_box(call(&work.record).expect("read"));
 }
 
-/// The median times of a task's runs on both sides, in microseconds.
+/// The median times of a task's runs on both sides, in microseconds. The sides take turns, so that both meet the same machine.
 fn medians(task: Task, work: &Work) -> [f64; 2] {
     let mut buffers = Buffers::new(&work.case);
-    timing::medians(|side| {
-        buffers.clear();
-        timing::timed(|| task.1([Side::Library, Side::Second][side], work, &mut buffers))
+    let mut times = [Vec::new(), Vec::new()];
+    let mut filled = Duration::ZERO;
+    while times[0].len() < RUNS.0 || filled < FILLED && times[0].len() < RUNS.1 {
+        for (side, times) in [Side::Library, Side::Second].into_iter().zip(&mut times) {
+            buffers.clear();
+            let start = Instant::now();
+            task.1(side, work, &mut buffers);
+            let time = start.elapsed();
+            filled += time;
+            times.push(time);
+        }
+    }
+    times.map(|mut times| {
+        times.sort();
+        times[times.len() / 2].as_secs_f64() * 1e6
     })
 }
 

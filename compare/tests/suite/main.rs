@@ -14,11 +14,6 @@
 #![forbid(unsafe_code)]
 
 mod arithmetic;
-mod batch_forged;
-mod batch_refusals;
-mod batch_sessions;
-mod batch_tampered;
-mod batches;
 mod blinding;
 mod circuits;
 mod examples;

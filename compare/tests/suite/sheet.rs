@@ -24,10 +24,10 @@ fn compare_text(text: impl AsRef<[u8]>) -> String {
     ours
 }
 
-/// The columns of a table, after its shape was looked at: 48 rows, with a name and a theorem beside so many numbers.
+/// The columns of a table, after its shape was looked at: 47 rows, with a name and a theorem beside so many numbers.
 fn columns(table: &str, circuits: usize) -> Vec<Vec<String>> {
     let rows: Vec<Vec<&str>> = table.lines().map(|row| row.split('\t').collect()).collect();
-    assert_eq!(rows.len(), 48, "{table}");
+    assert_eq!(rows.len(), 47, "{table}");
     assert!(rows.iter().all(|row| row.len() == circuits + 2), "{table}");
     (0..circuits + 2).map(|column| rows.iter().map(|row| row[column].to_string()).collect()).collect()
 }
@@ -65,7 +65,6 @@ fn whole_table() {
         tuples that gamma saves, at most\t552223175387165626990858793169293287749905481457593186633166199549110681996542\tsaved-by-gamma\n\
         tuples accepted without a witness, at most\t897430034950309697532184557069973967376176368773254724249755416830492387186045\tfew-accepted\n\
         tuples accepted without a witness, at most one in\t605493\tone-in\n\
-        a batch of eight: at most one in\t605129\tfalse-batches\n\
         masks, as a power of p\t1024\tall-masks\nmasks for one list of openings, as a power of p\t1021\tany-three\n\
         conversations for at most one false proof in 2^64\t4\tone-list-in\n\
         conversations for at most one false proof in 2^128\t7\tone-list-in\n";
@@ -88,7 +87,7 @@ fn columns_are_circuits() {
 #[test]
 fn one_column() {
     let table = columns(&compare_text("1 1 1 0 0 0"), 1);
-    assert_eq!(table[1][44..], ["2", "0", "3", "5"]);
+    assert_eq!(table[1][43..], ["2", "0", "3", "5"]);
 }
 
 /// The conversations for 2^64 and for 2^128 are the smallest powers of "one in" that 64 and 128 bits do not hold.
@@ -105,7 +104,7 @@ fn fewest_conversations() {
             .collect();
         let column = columns(&compare_text(numbers.join(" ")), 1).remove(1);
         let one_in: u64 = column[42].parse().unwrap();
-        let [half, whole] = [46, 47].map(|row: usize| column[row].parse::<u32>().unwrap());
+        let [half, whole] = [45, 46].map(|row: usize| column[row].parse::<u32>().unwrap());
         assert!(one_in.checked_pow(half).is_none() && one_in.checked_pow(half - 1).is_some(), "{numbers:?}");
         let one_in = u128::from(one_in);
         assert!(one_in.checked_pow(whole).is_none() && one_in.checked_pow(whole - 1).is_some(), "{numbers:?}");

@@ -13,10 +13,10 @@ const COUNTS: [[usize; 3]; 3] = [[100, 500, 200], [512, 128, 256], [1024, 150, 3
 /// The sections whose polynomials are opened first, in the order of their openings.
 const OPENED_SECTIONS: [usize; 9] = [0, 1, 4, 5, 2, 10, 7, 8, 9];
 
-pub const ACCEPTED: Answer = Ok(Some(Verdict::Accept));
-pub const FAILS_ROW: Answer = Ok(Some(Verdict::Fails(Check::Row)));
-pub const FAILS_LINE: Answer = Ok(Some(Verdict::Fails(Check::Line)));
-pub const FAILS_MATRIX: Answer = Ok(Some(Verdict::Fails(Check::Matrix)));
+const ACCEPTED: Answer = Ok(Some(Verdict::Accept));
+const FAILS_ROW: Answer = Ok(Some(Verdict::Fails(Check::Row)));
+const FAILS_LINE: Answer = Ok(Some(Verdict::Fails(Check::Line)));
+const FAILS_MATRIX: Answer = Ok(Some(Verdict::Fails(Check::Matrix)));
 
 /// Proofs with one false word each: the same check must fail on both sides. An opening is false only where it is asked about or only where
 /// it is committed, and the other verdict is Accept.
@@ -59,15 +59,15 @@ fn other(random: &mut Random, word: u32) -> u32 {
     plus(word, random.nonzero())
 }
 
-pub fn plus(a: u32, b: u32) -> u32 {
+fn plus(a: u32, b: u32) -> u32 {
     second::add(a, b).expect("field words")
 }
 
-pub fn minus(a: u32, b: u32) -> u32 {
+fn minus(a: u32, b: u32) -> u32 {
     second::subtract(a, b).expect("field words")
 }
 
-pub fn times(a: u32, b: u32) -> u32 {
+fn times(a: u32, b: u32) -> u32 {
     second::multiply(a, b).expect("field words")
 }
 

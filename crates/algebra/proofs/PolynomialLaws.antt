@@ -60,10 +60,10 @@ module _ {A : Type 0} (R : CommRing A) where
   abbrev pub fitted : ℕ → List A → List A
   fitted n f = tabulate n (λ i. get_or f i 𝟘)
 
-  pub eval-fitted : (n : ℕ) (f : List A) (x : A) → length f ≤ n → eval R (fitted n f) x ≡ eval R f x
-  eval-fitted n [] x short = eval-zero (fitted n []) x (all-tabulate (λ c. c ≡ 𝟘) n (λ i. 𝟘) (λ i l. refl))
-  eval-fitted zero (a ∷ f) x short = absurd (omega arith)
-  eval-fitted (suc n) (a ∷ f) x short = ap (λ v. a ⊕ x ⊗ v) (eval-fitted n f x (omega arith))
+  pub eval_fitted : (n : ℕ) (f : List A) (x : A) → length f ≤ n → eval R (fitted n f) x ≡ eval R f x
+  eval_fitted n [] x short = eval-zero (fitted n []) x (all-tabulate (λ c. c ≡ 𝟘) n (λ i. 𝟘) (λ i l. refl))
+  eval_fitted zero (a ∷ f) x short = absurd (omega arith)
+  eval_fitted (suc n) (a ∷ f) x short = ap (λ v. a ⊕ x ⊗ v) (eval_fitted n f x (omega arith))
 
   pub eval_append : (f g : List A) (x : A) → eval R (f ++ g) x ≡ eval R f x ⊕ pow R x (length f) ⊗ eval R g x
   eval_append [] g x = ring R (eval R g x ∷ []) (λ g. g := :0 :+ :1 :* g) tt

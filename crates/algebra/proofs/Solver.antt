@@ -224,22 +224,22 @@ module _ {A : Type 0} (R : CommRing A) where
   neg_cancel x y z = ap (λ w. x ⊕ y ⊕ w) (add_comm z (neg x)) ∙ add_add_add_comm R x y (neg x) z ∙ ap (λ w. w ⊕ (y ⊕ z)) (add-neg x)
       ∙ zero-add R _ ∙ add_comm y z
 
-  difference-equal : (p n p' n' : ℕ) → p + n' ≡ p' + n → difference p n ≡ difference p' n'
+  difference_equal : (p n p' n' : ℕ) → p + n' ≡ p' + n → difference p n ≡ difference p' n'
   unfolding difference
-  difference-equal p n p' n' h = add_cancel R (cast R n ⊕ cast R n') _ _
+  difference_equal p n p' n' h = add_cancel R (cast R n ⊕ cast R n') _ _
       (neg_cancel _ _ _ ∙ sym (cast-add R p n') ∙ ap (cast R) h ∙ cast-add R p' n ∙ sym (neg_cancel (cast R n') (cast R n) (cast R p'))
       ∙ ap (λ w. w ⊕ (cast R p' ⊕ neg (cast R n'))) (add_comm _ _))
 
   difference_reduced : (p n : ℕ) → difference (p - n) (n - p) ≡ difference p n
-  difference_reduced p n = difference-equal (p - n) (n - p) p n (omega arith)
+  difference_reduced p n = difference_equal (p - n) (n - p) p n (omega arith)
 
-  difference-add : (p n p' n' : ℕ) → difference (p + p') (n + n') ≡ difference p n ⊕ difference p' n'
+  difference_add : (p n p' n' : ℕ) → difference (p + p') (n + n') ≡ difference p n ⊕ difference p' n'
   unfolding difference
-  difference-add p n p' n' = simp (difference, cast-add, neg_sum, add_assoc, add_left_comm)
+  difference_add p n p' n' = simp (difference, cast-add, neg_sum, add_assoc, add_left_comm)
 
-  difference-mul : (p n p' n' : ℕ) → difference (p * p' + n * n') (p * n' + n * p') ≡ difference p n ⊗ difference p' n'
+  difference_mul : (p n p' n' : ℕ) → difference (p * p' + n * n') (p * n' + n * p') ≡ difference p n ⊗ difference p' n'
   unfolding difference
-  difference-mul p n p' n' = simp (difference, cast-add, cast-mul, mul-add, add-mul, mul-neg, neg-mul, neg-neg, neg_sum, add_assoc, add_comm, add_left_comm)
+  difference_mul p n p' n' = simp (difference, cast-add, cast-mul, mul-add, add-mul, mul-neg, neg-mul, neg-neg, neg_sum, add_assoc, add_comm, add_left_comm)
 
   value-put : (p n : ℕ) (m : List ℕ) (q : Normal) (ρ : List A) → value (put p n m q) ρ ≡ difference p n ⊗ monomial m ρ ⊕ value q ρ
   unfolding value difference
@@ -260,7 +260,7 @@ module _ {A : Type 0} (R : CommRing A) where
             | Ordering.gt ↦ term p n m (rest (term p' n' m' q))
           ]) ρ ≡ difference p n ⊗ monomial m ρ ⊕ v ⊕ (difference p' n' ⊗ monomial m' ρ ⊕ value q ρ)
       go Ordering.lt c ih = ap (λ w. difference p' n' ⊗ monomial m' ρ ⊕ w) ih ∙ add_left_comm R _ _ _
-      go Ordering.eq c ih = rw (value-put, difference_reduced, difference-add, h q, ← compare-equal m m' c, add-mul) (add_add_add_comm R _ _ _ _)
+      go Ordering.eq c ih = rw (value-put, difference_reduced, difference_add, h q, ← compare-equal m m' c, add-mul) (add_add_add_comm R _ _ _ _)
       go Ordering.gt c ih = ap (λ w. difference p n ⊗ monomial m ρ ⊕ w) (h (term p' n' m' q)) ∙ sym (add_assoc _ _ _)
 
   value-add : (p q : Normal) (ρ : List A) → value (add_normal p q) ρ ≡ value p ρ ⊕ value q ρ
@@ -272,7 +272,7 @@ module _ {A : Type 0} (R : CommRing A) where
   unfolding value
   value-scale p n m nil ρ = sym (mul-zero R _)
   value-scale p n m (term p' n' m' q) ρ =
-      rw (value-put, difference_reduced, difference-mul, monomial_mul, value-scale p n m q ρ, mul-add)
+      rw (value-put, difference_reduced, difference_mul, monomial_mul, value-scale p n m q ρ, mul-add)
       (ap (λ x. x ⊕ difference p n ⊗ monomial m ρ ⊗ value q ρ) (mul_mul_mul_comm R _ _ _ _))
 
   value-mul : (p q : Normal) (ρ : List A) → value (mul_normal p q) ρ ≡ value p ρ ⊗ value q ρ

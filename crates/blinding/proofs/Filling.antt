@@ -40,7 +40,7 @@ blinded-list l i {j} {k} whole same =
     ∙ sym (words_append (entries_of l) (record { row = i; column = k; value = 1 } ∷ []))
 
 -- all four slices, from the columns that are reserved
-pub all-filled : (w : CircuitWords) (z : List ℕ) (ρ t : Three ℕ) {a b c blinded : List ℕ} → t ≡ reserved_columns (circuit_of w)
+pub all_filled : (w : CircuitWords) (z : List ℕ) (ρ t : Three ℕ) {a b c blinded : List ℕ} → t ≡ reserved_columns (circuit_of w)
     → length w.matrices.a % 3 ≡ 0 → length w.matrices.b % 3 ≡ 0 → length w.matrices.c % 3 ≡ 0
     → a ≡ w.matrices.a ++ ((w.|R| - 1) ∷ t.a ∷ 1 ∷ [])
     → b ≡ w.matrices.b ++ ((w.|R| - 1) ∷ t.b ∷ 1 ∷ [])
@@ -48,7 +48,7 @@ pub all-filled : (w : CircuitWords) (z : List ℕ) (ρ t : Three ℕ) {a b c bli
     → blinded ≡ set (set (set z t.a ρ.a) t.b ρ.b) t.c ρ.c
     → ◌≡◌ {A = Three (List ℕ) × List ℕ} (record { a = a; b = b; c = c }, blinded) (blinded_words w z ρ)
 unfolding circuit_of blinded_circuit blinded_assignment
-all-filled w z ρ t same whole-a whole-b whole-c a b c blinded =
+all_filled w z ρ t same whole-a whole-b whole-c a b c blinded =
     let last : ℕ = w.|R| - 1 in
     let in_a = a ∙ blinded-list w.matrices.a last whole-a (ap (λ (t : Three ℕ). t.a) same) in
     let in_b = b ∙ blinded-list w.matrices.b last whole-b (ap (λ (t : Three ℕ). t.b) same) in

@@ -18,26 +18,26 @@ module _ {S : Type 0} (before : S) where
   abbrev filled : Filling (Unit {0}) S → Answered S
   filled e = slices_alone (answered e.answer tt) e.slice
 
-  filled-fills : (o : Outcome S) → filled (fills o before) ≡ answered o before
-  filled-fills (Done result) = refl
-  filled-fills (Refused r) = refl
+  filled_fills : (o : Outcome S) → filled (fills o before) ≡ answered o before
+  filled_fills (Done result) = refl
+  filled_fills (Refused r) = refl
 
-  pub filled-told : (o : Outcome S) {a : Answered (Unit {0})} {answer : Outcome (Unit {0})} {after : S} → a ≡ answered answer tt
+  pub filled_told : (o : Outcome S) {a : Answered (Unit {0})} {answer : Outcome (Unit {0})} {after : S} → a ≡ answered answer tt
       → filling answer after ≡ fills o before → slices_alone a after ≡ answered o before
-  filled-told o {a} {answer} {after} given same =
-      ap (λ (a : Answered (Unit {0})). slices_alone a after) given ∙ ap filled same ∙ filled-fills o
+  filled_told o {a} {answer} {after} given same =
+      ap (λ (a : Answered (Unit {0})). slices_alone a after) given ∙ ap filled same ∙ filled_fills o
 
   -- with one word for each matrix
   module _ (words : List ℕ) where
-    abbrev three-filled : Filling (Three ℕ) S → Answered (List ℕ × S)
-    three-filled e = with_slices (answered (three_listed e.answer) words) e.slice
+    abbrev three_filled : Filling (Three ℕ) S → Answered (List ℕ × S)
+    three_filled e = with_slices (answered (three_listed e.answer) words) e.slice
 
-    three-filled-fills : (o : Outcome (Three ℕ × S)) → three-filled (fills_three o before) ≡ answered (three_listed_with o) (words, before)
-    three-filled-fills (Done result) = refl
-    three-filled-fills (Refused r) = refl
+    three_filled_fills : (o : Outcome (Three ℕ × S)) → three_filled (fills_three o before) ≡ answered (three_listed_with o) (words, before)
+    three_filled_fills (Done result) = refl
+    three_filled_fills (Refused r) = refl
 
-    pub three-filled-told : (o : Outcome (Three ℕ × S)) {a : Answered (List ℕ)} {answer : Outcome (Three ℕ)} {after : S}
+    pub three_filled_told : (o : Outcome (Three ℕ × S)) {a : Answered (List ℕ)} {answer : Outcome (Three ℕ)} {after : S}
         → a ≡ answered (three_listed answer) words → filling answer after ≡ fills_three o before
         → with_slices a after ≡ answered (three_listed_with o) (words, before)
-    three-filled-told o {a} {answer} {after} given same =
-        ap (λ (a : Answered (List ℕ)). with_slices a after) given ∙ ap three-filled same ∙ three-filled-fills o
+    three_filled_told o {a} {answer} {after} given same =
+        ap (λ (a : Answered (List ℕ)). with_slices a after) given ∙ ap three_filled same ∙ three_filled_fills o

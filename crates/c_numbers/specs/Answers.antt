@@ -6,9 +6,7 @@ use Rattle.protocol.specs.Circuit.{Sizes}
 use Rattle.protocol.specs.Checks.{Row, Line, Matrix, Verdict, Accept, Fails}
 use Rattle.protocol.specs.Refusals.{Outcome, Done, Refused, map_outcome}
 use Rattle.protocol.specs.Session as steps
-use Rattle.protocol.specs.BatchSession.{BatchStepped}
 use Rattle.verifier.specs.Session.{session_words}
-use Rattle.batch_verifier.specs.Session as batch
 
 pub record Answered (T : Type 0) : Type 0 where
   pub number : ℕ
@@ -65,12 +63,3 @@ abbrev pub commit_answered : steps.Stepped → List ℕ → Answered (List ℕ �
 commit_answered s before =
     let asked : Answered ℕ = verdict_answered s.answer in
     told asked.number asked.position ((step_answered s before).result, asked.result)
-
--- the same of a batch's session
-abbrev pub batch_step_answered : BatchStepped → List ℕ → Answered (List ℕ)
-batch_step_answered s before = step_words s.answer (batch.session_words s.session) before
-
-abbrev pub batch_commit_answered : BatchStepped → List ℕ → Answered (List ℕ × ℕ)
-batch_commit_answered s before =
-    let asked : Answered ℕ = verdict_answered s.answer in
-    told asked.number asked.position ((batch_step_answered s before).result, asked.result)

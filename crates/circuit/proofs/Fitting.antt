@@ -71,7 +71,7 @@ module _ (r c x : ℕ) (ea eb ec : List ℕ) where
   append_nil (w ∷ l) = ap (λ m. w ∷ m) (append_nil l)
 
   -- a circuit that passes 4 to 7
-  pub admitted : (q : Prime) (ws : List ℕ) → size_refusal (size_tests r c x []) ≡ none → ThreeLists ea eb ec
+  admitted : (q : Prime) (ws : List ℕ) → size_refusal (size_tests r c x []) ≡ none → ThreeLists ea eb ec
       → word_refusal q (entry_values (circuit_of words) ++ ws) ≡ none → entry_refusal (circuit_of words) ≡ none → Admitted q (circuit_of words)
   unfolding circuit_refusals list_refusal circuit_of
   admitted q ws size lists below entries =

@@ -1,4 +1,3 @@
 pub mod Given
-pub mod BatchGiven
 pub mod Judgement
 pub mod IndexLists

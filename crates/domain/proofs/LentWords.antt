@@ -15,8 +15,8 @@ module _ (n : ℕ) (d : List ℕ) (within : n ≤ length d) where
     pub filled_within : n ≤ length (e ++ drop n d)
     filled_within = omega (arith, length_front d e n kept)
 
-    pub filled-part : take n (e ++ drop n d) ≡ e
-    filled-part = take_at e (drop n d) n (kept ∙ sym part_length)
+    pub filled_part : take n (e ++ drop n d) ≡ e
+    filled_part = take_at e (drop n d) n (kept ∙ sym part_length)
 
-    pub filled-length : n ≡ length (take n (e ++ drop n d))
-    filled-length = part_length ∙ sym kept ∙ ap length (sym filled-part)
+    pub filled_length : n ≡ length (take n (e ++ drop n d))
+    filled_length = part_length ∙ sym kept ∙ ap length (sym filled_part)

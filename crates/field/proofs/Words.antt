@@ -45,18 +45,18 @@ module _ (q : Prime) (m n : ℕ) (m-below : m < q.p) (n-below : n < q.p) where
       let e : m + n ≡ m + n - q.p + q.p = omega arith in
       word-add q m n ∙ ap (λ (k : ℕ). k % q.p) e ∙ add-mod_right (m + n - q.p) q.p ∙ mod-eq_of_lt (omega arith)
 
-  word-difference : (of {q = q} m ⊖ of n).word ≡ (m + (q.p - n)) % q.p
-  word-difference = word_subtract q m n ∙ ap (λ (k : ℕ). (m + (q.p - k)) % q.p) (mod-eq_of_lt n-below)
+  word_difference : (of {q = q} m ⊖ of n).word ≡ (m + (q.p - n)) % q.p
+  word_difference = word_subtract q m n ∙ ap (λ (k : ℕ). (m + (q.p - k)) % q.p) (mod-eq_of_lt n-below)
 
   pub difference_above : n ≤ m → (of {q = q} m ⊖ of n).word ≡ m - n
   difference_above le =
       let e : m + (q.p - n) ≡ m - n + q.p = omega arith in
-      word-difference ∙ ap (λ (k : ℕ). k % q.p) e ∙ add-mod_right (m - n) q.p ∙ mod-eq_of_lt (omega arith)
+      word_difference ∙ ap (λ (k : ℕ). k % q.p) e ∙ add-mod_right (m - n) q.p ∙ mod-eq_of_lt (omega arith)
 
   pub difference_below : m < n → (of {q = q} m ⊖ of n).word ≡ q.p - (n - m)
   difference_below l =
       let e : m + (q.p - n) ≡ q.p - (n - m) = omega arith in
-      word-difference ∙ ap (λ (k : ℕ). k % q.p) e ∙ mod-eq_of_lt (omega arith)
+      word_difference ∙ ap (λ (k : ℕ). k % q.p) e ∙ mod-eq_of_lt (omega arith)
 
 module _ {q : Prime} where
   -- the element of a number that is an element's word
@@ -85,8 +85,8 @@ module _ {q : Prime} where
     pub result-sum : {r : ℕ} → ((a < p) × (b < p) → r ≡ (of {q = q} a ⊕ of b).word) → r ≡ (x ⊕ y).word
     result-sum made = made both_below ∙ ap₂ (λ (x y : Elem q). (x ⊕ y).word) (of-result x of-x) (of-result y of-y)
 
-    pub result-difference : {r : ℕ} → ((a < p) × (b < p) → r ≡ (of {q = q} a ⊖ of b).word) → r ≡ (x ⊖ y).word
-    result-difference made = made both_below ∙ ap₂ (λ (x y : Elem q). (x ⊖ y).word) (of-result x of-x) (of-result y of-y)
+    pub result_difference : {r : ℕ} → ((a < p) × (b < p) → r ≡ (of {q = q} a ⊖ of b).word) → r ≡ (x ⊖ y).word
+    result_difference made = made both_below ∙ ap₂ (λ (x y : Elem q). (x ⊖ y).word) (of-result x of-x) (of-result y of-y)
 
 -- whether a number stands for 0 depends on the prime's value alone
 pub nonzero_by_value : {q r : Prime} → q.p ≡ r.p → (n : ℕ) → of {q = r} n ≢ 𝟘 → of {q = q} n ≢ 𝟘

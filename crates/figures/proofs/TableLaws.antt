@@ -65,9 +65,9 @@ module _ (q : Prime) where
   length-figures = refl
 
   -- the figures in their groups
-  pub size_row_lem : (i : ℕ) → i < 10 → figure_at q i ≡ get_or size_figures i no_figure
+  pub size_row : (i : ℕ) → i < 10 → figure_at q i ≡ get_or size_figures i no_figure
   unfolding figures
-  size_row_lem i h = get_or-append size_figures (length_figures ++ (check_figures q ++ (triple_figures q ++ conversation_figures q))) no_figure i h
+  size_row i h = get_or-append size_figures (length_figures ++ (check_figures q ++ (triple_figures q ++ conversation_figures q))) no_figure i h
 
   pub length-row : (i : ℕ) → i < 12 → figure_at q (10 + i) ≡ get_or length_figures i no_figure
   unfolding figures

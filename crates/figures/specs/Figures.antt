@@ -7,8 +7,6 @@ use Rattle.field.specs.Prime.{Prime}
 use Rattle.domain.specs.Size.{size_for}
 use Rattle.protocol.specs.Three.{map_three}
 use Rattle.protocol.specs.Circuit.{Sizes, largest}
-use Rattle.protocol.specs.BatchSession.{max_further}
-use Rattle.protocol.specs.FalseBatches.{batch_one_in}
 use Rattle.protocol.specs.FalseProofs.{all_tuples, saved_byα, saved_byη, saved_byβ, saved_byδ, saved_byγ, five_counts, one_in_many}
 use Rattle.protocol.specs.Messages.{lengths}
 use Rattle.protocol.specs.Record.{section_bytes}
@@ -83,13 +81,13 @@ module _ (q : Prime) where
   -- how many triples of challenges save a false claim, of how many
   abbrev pub triple_figures : List Figure
   triple_figures =
-      figure "triples of eta" (λ g. q.p * q.p * q.p) "all-triples"
+      figure "triples of eta" (λ g. q.p * q.p * q.p) "all_triples"
       ∷ figure "triples of eta that save a false sum" (λ g. q.p * q.p) "sums_caught"
-      ∷ figure "triples of delta" (λ g. q.p * q.p * q.p) "all-triples"
+      ∷ figure "triples of delta" (λ g. q.p * q.p * q.p) "all_triples"
       ∷ figure "triples of delta that save a false matrix value, at most" (λ g. q.p * q.p) "values_caught"
       ∷ []
 
-  -- how many tuples of challenges end in Accept though there is no witness, of how many, and one in how many where one of a batch has none
+  -- how many tuples of challenges end in Accept though there is no witness, of how many
   abbrev pub tuple_figures : List Figure
   tuple_figures =
       figure "allowed challenge tuples" (λ g. all_tuples q (sizes_for g)) "allowed_tuples"
@@ -100,7 +98,6 @@ module _ (q : Prime) where
       ∷ figure "tuples that gamma saves, at most" (λ g. saved_byγ q (sizes_for g)) "saved_by_gamma"
       ∷ figure "tuples accepted without a witness, at most" (λ g. five_counts q (sizes_for g)) "few-accepted"
       ∷ figure "tuples accepted without a witness, at most one in" (λ g. one_in_many q (sizes_for g)) "one-in"
-      ∷ figure "a batch of eight: at most one in" (λ g. batch_one_in q (sizes_for g) max_further) "false_batches"
       ∷ []
 
 -- how many masks the honest prover may take, and how many of them lead to the same three openings

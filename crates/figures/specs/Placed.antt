@@ -14,7 +14,7 @@ triple_rows = 4
 
 -- how many rows are on whole conversations: on tuples, masks and repeats
 abbrev pub tuple_rows : ℕ
-tuple_rows = 9
+tuple_rows = 8
 
 abbrev pub mask_rows : ℕ
 mask_rows = 2

@@ -28,7 +28,7 @@ pub const ROWS: usize = NUMBERS + TRIPLES + CONVERSATIONS;
 pub const ROW_BYTES: usize = 1688;
 
 // The names of the figures and of the theorems, a line for each row.
-const NAMES: [u8; 1047] = *b"|R|\n|C|\n|X|\n\
+const NAMES: [u8; 1014] = *b"|R|\n|C|\n|X|\n\
     entries of A\nentries of B\nentries of C\n\
     size of K_A\nsize of K_B\nsize of K_C\nsize of K\n\
     words of w\nwords of m\nwords of h0\nwords of s\nwords of g1\nwords of h1\nwords of o\n\
@@ -41,11 +41,10 @@ const NAMES: [u8; 1047] = *b"|R|\n|C|\n|X|\n\
     tuples that alpha saves, at most\ntuples that eta saves, at most\ntuples that beta saves, at most\n\
     tuples that delta saves, at most\ntuples that gamma saves, at most\n\
     tuples accepted without a witness, at most\ntuples accepted without a witness, at most one in\n\
-    a batch of eight: at most one in\n\
     masks, as a power of p\nmasks for one list of openings, as a power of p\n\
     conversations for at most one false proof in 2^64\nconversations for at most one false proof in 2^128";
 
-const SOURCES: [u8; 535] = *b"given\ngiven\ngiven\n\
+const SOURCES: [u8; 521] = *b"given\ngiven\ngiven\n\
     given\ngiven\ngiven\n\
     sizeFor\nsizeFor\nsizeFor\nlargest\n\
     rules-kept\nrules-kept\nrules-kept\nrules-kept\nrules-kept\nrules-kept\nrules-kept\n\
@@ -56,7 +55,7 @@ const SOURCES: [u8; 535] = *b"given\ngiven\ngiven\n\
     all-triples\nvalues-caught\n\
     allowed-tuples\n\
     saved-by-alpha\nsaved-by-eta\nsaved-by-beta\nsaved-by-delta\nsaved-by-gamma\n\
-    few-accepted\none-in\nfalse-batches\n\
+    few-accepted\none-in\n\
     all-masks\nany-three\none-list-in\none-list-in";
 
 fn put_name(row: usize, out: &mut [u8], at: usize) -> usize

@@ -99,9 +99,9 @@ put-after front part rest w i m cut place =
     ∙ sym (append_assoc front part (drop m rest))
 
 -- a matrix's words: the total, then n counts, then m words
-pub matrix-filled : (out counts words : List ℕ) (t n m : ℕ) → length out ≡ 1 + n + m → length counts ≡ n
+pub matrix_filled : (out counts words : List ℕ) (t n m : ℕ) → length out ≡ 1 + n + m → length counts ≡ n
     → put_mid (1 + n) m (put_mid 1 n (set out 0 t) counts) words ≡ t ∷ (counts ++ words)
-matrix-filled out counts words t n m room many =
+matrix_filled out counts words t n m room many =
     let total : List ℕ = t ∷ [] in
     let first : set out 0 t ≡ total ++ drop 1 out = sets-eq total out 0 (omega arith) in
     let over : drop m (drop n (drop 1 out)) ≡ [] =
@@ -129,10 +129,10 @@ module _ (w : List ℕ) (r c x : ℕ) where
   sizes-first : 3 ≤ length w → set (set (set w 0 r) 1 c) 2 x ≡ r ∷ c ∷ x ∷ drop 3 w
   sizes-first some = sets-eq (r ∷ c ∷ x ∷ []) w 0 (omega arith)
 
-  pub circuit-filled : (ma mb mc : List ℕ) (m : ℕ) → length w ≡ 3 + 3 * m → length ma ≡ m → length mb ≡ m
+  pub circuit_filled : (ma mb mc : List ℕ) (m : ℕ) → length w ≡ 3 + 3 * m → length ma ≡ m → length mb ≡ m
       → put_mid (3 + 2 * m) m (put_mid (3 + m) m (put_mid 3 m (set (set (set w 0 r) 1 c) 2 x) ma) mb) mc
       ≡ r ∷ c ∷ x ∷ (ma ++ (mb ++ mc))
-  circuit-filled ma mb mc m room many-a many-b =
+  circuit_filled ma mb mc m room many-a many-b =
       let sizes : List ℕ = r ∷ c ∷ x ∷ [] in
       let sized : List ℕ = set (set (set w 0 r) 1 c) 2 x in
       let rest : List ℕ = drop 3 w in

@@ -53,9 +53,9 @@ index_back i v e = λ t.
     }
 
 -- lists of words, word by word
-module _ {a b c d a' b' c' d' : ℕ} (at_a : a ≡ a') (at_b : b ≡ b') (at_c : c ≡ c') (at-d : d ≡ d') where
+module _ {a b c d a' b' c' d' : ℕ} (at_a : a ≡ a') (at_b : b ≡ b') (at_c : c ≡ c') (at_d : d ≡ d') where
   pub four_words : (l m : List ℕ) → l ≡ m → a ∷ b ∷ c ∷ d ∷ l ≡ a' ∷ b' ∷ c' ∷ d' ∷ m
-  four_words l m e = ap₂ ◌∷◌ at_a (ap₂ ◌∷◌ at_b (ap₂ ◌∷◌ at_c (ap₂ ◌∷◌ at-d e)))
+  four_words l m e = ap₂ ◌∷◌ at_a (ap₂ ◌∷◌ at_b (ap₂ ◌∷◌ at_c (ap₂ ◌∷◌ at_d e)))
 
   pub four_same : a ∷ b ∷ c ∷ d ∷ [] ≡ a' ∷ b' ∷ c' ∷ d' ∷ []
   four_same = four_words [] [] refl
@@ -63,8 +63,8 @@ module _ {a b c d a' b' c' d' : ℕ} (at_a : a ≡ a') (at_b : b ≡ b') (at_c :
 pub nine_same : {a b c d e f g h i a' b' c' d' e' f' g' h' i' : ℕ}
     → a ≡ a' → b ≡ b' → c ≡ c' → d ≡ d' → e ≡ e' → f ≡ f' → g ≡ g' → h ≡ h' → i ≡ i'
     → a ∷ b ∷ c ∷ d ∷ e ∷ f ∷ g ∷ h ∷ i ∷ [] ≡ a' ∷ b' ∷ c' ∷ d' ∷ e' ∷ f' ∷ g' ∷ h' ∷ i' ∷ []
-nine_same at_a at_b at_c at-d at_e at_f at_g at-h at_i =
-    four_words at_a at_b at_c at-d _ _ (four_words at_e at_f at_g at-h _ _ (ap (λ (n : ℕ). n ∷ []) at_i))
+nine_same at_a at_b at_c at_d at_e at_f at_g at-h at_i =
+    four_words at_a at_b at_c at_d _ _ (four_words at_e at_f at_g at-h _ _ (ap (λ (n : ℕ). n ∷ []) at_i))
 
 -- three words, one for each matrix
 pub three_same : {t : Three ℕ} (f : MatrixName → ℕ) → t.a ≡ f A → t.b ≡ f B → t.c ≡ f C → (M : MatrixName) → at t M ≡ f M

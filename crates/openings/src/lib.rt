@@ -16,9 +16,9 @@ ghost use Rattle.openings.specs.OpeningsGiven.{openings_in, opened_list, PointsO
 
 use shared::{Opened, Triple};
 
-pub mod line;
+mod line;
 mod matrix;
-pub mod rows;
+mod rows;
 mod values;
 
 // The index polynomials of one matrix at one point.

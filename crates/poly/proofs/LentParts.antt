@@ -8,13 +8,13 @@ use lib.ListN.{length, take, drop, replicate, length-replicate}
 use Rattle.field.specs.Prime.{Prime}
 use Rattle.field.specs.Element.{Elem, of, words}
 use Rattle.field.proofs.Words.{of_results}
-pub use Rattle.domain.proofs.LentWords.{part_length, filled_within, filled-part, filled-length}
+pub use Rattle.domain.proofs.LentWords.{part_length, filled_within, filled_part, filled_length}
 
 module _ {q : Prime} where
   -- the elements of words that were computed in the first n entries of an array
-  pub of-filled : (n : ℕ) (d : List ℕ) → n ≤ length d → (e : List ℕ) → length e ≡ length (take n d) → (l : List (Elem q)) → e ≡ words l
+  pub of_filled : (n : ℕ) (d : List ℕ) → n ≤ length d → (e : List ℕ) → length e ≡ length (take n d) → (l : List (Elem q)) → e ≡ words l
       → map of (take n (e ++ drop n d)) ≡ l
-  of-filled n d within e kept l made = of_results l (filled-part n d within e kept ∙ made)
+  of_filled n d within e kept l made = of_results l (filled_part n d within e kept ∙ made)
 
 -- a bound of a part's length from that of its number
 pub part_order : {m m' n : ℕ} → m ≡ m' → m ≤ n → m' ≤ n
@@ -50,10 +50,10 @@ module _ (s : ℕ) {n : ℕ} (fits : n ≤ s) where
     back_holds = filled_within n (array s) within l kept
 
     pub back_length : n ≡ length (take n (returned s n l))
-    back_length = filled-length n (array s) within l kept
+    back_length = filled_length n (array s) within l kept
 
     pub back_is : take n (returned s n l) ≡ l
-    back_is = filled-part n (array s) within l kept
+    back_is = filled_part n (array s) within l kept
 
     pub back_list : {q : Prime} (f : List (Elem q)) → l ≡ words f → map of (take n (returned s n l)) ≡ f
-    back_list f e = of-filled n (array s) within l kept f e
+    back_list f e = of_filled n (array s) within l kept f e

@@ -102,7 +102,7 @@ values-below q (e ∷ es) h = (h.0, values-below q es h.1)
 
 module _ (q : Prime) (c : Circuit) where
   -- from the rows 4, 5, 6 and 7 of the circuit alone
-  pub well_formed :
+  well_formed :
       size_refusal (size_tests c.|R| c.|C| c.|X| []) ≡ none → All (λ t. t ≡ true) (count_tests c)
       → All (λ w. w < q.p) (entry_values c) → entry_refusal c ≡ none → WellFormed q.p c
   unfolding size_refusal size_tests count_tests entry_refusal entry_values

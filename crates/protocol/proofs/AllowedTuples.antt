@@ -22,17 +22,16 @@ use Rattle.protocol.proofs.TripleCounting.{exactly_triples}
 
 module _ (q : Prime) (s : Sizes) where
   -- already η's count times p is N
-  pub tuples_within : all_tuples q s ≤ q.p * five_counts q s
+  tuples_within : all_tuples q s ≤ q.p * five_counts q s
   unfolding all_tuples five_counts saved_byη
   tuples_within = omega arith
+
+  pub tuples_below : 0 < five_counts q s → all_tuples q s < suc q.p * five_counts q s
+  tuples_below some = omega (arith, tuples_within, suc-mul q.p (five_counts q s))
 
   pub one_in_below : one_in_many q s ≤ q.p
   unfolding one_in_many
   one_in_below = div-le_of_le-mul (five_counts q s) (omega (arith, tuples_within, mul_comm q.p (five_counts q s)))
-
--- some points lie outside a domain
-pub outside_positive : {q : Prime} → Qualifies q → (n : ℕ) → is_size n ≡ true → 0 < q.p - n
-outside_positive {q} Q n size = omega (arith, large_enough q Q, size_bound n size)
 
 module _ {q : Prime} (Q : Qualifies q) (c : Circuit) (admitted : Admitted q c) where
   abbrev W : WellFormed q.p c
@@ -50,6 +49,10 @@ module _ {q : Prime} (Q : Qualifies q) (c : Circuit) (admitted : Admitted q c) w
       (exactly_triples q))
       (exactly_outside Q (largest (sizes_of c).|K|) (largest_size c)))
 
+  -- some points lie outside a domain
+  outside_positive : (n : ℕ) → is_size n ≡ true → 0 < q.p - n
+  outside_positive n size = omega (arith, large_enough q Q, size_bound n size)
+
   pub sum_positive : 0 < five_counts q (sizes_of c)
   unfolding five_counts saved_byη sizes_of
   sum_positive =
@@ -57,9 +60,9 @@ module _ {q : Prime} (Q : Qualifies q) (c : Circuit) (admitted : Admitted q c) w
       omega (
         arith,
         mul-pos
-            (mul-pos (mul-pos (mul-pos (outside_positive Q c.|R| W.R-size) (mul-pos p p)) (outside_positive Q c.|C| W.C-size))
+            (mul-pos (mul-pos (mul-pos (outside_positive c.|R| W.R-size) (mul-pos p p)) (outside_positive c.|C| W.C-size))
             (mul-pos (mul-pos p p) p))
-            (outside_positive Q (largest (sizes_of c).|K|) (largest_size c)),
+            (outside_positive (largest (sizes_of c).|K|) (largest_size c)),
       )
 
   pub largest_multiple :

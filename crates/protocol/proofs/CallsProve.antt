@@ -65,7 +65,7 @@ few-entries l e =
     let most : length l ≤ 3 * max_size = leb-true (length l) (3 * max_size) (and-true (eqb (length l % 3) 0) (leb (length l) (3 * max_size)) e).1 in
     le-leb (length (entries_of l)) max_size (omega (arith, entries-within l))
 
-pub counts_pass : (c : CircuitWords) → All (λ t. t ≡ true) (entry_list_tests c) → All (λ t. t ≡ true) (count_tests (circuit_of c))
+counts_pass : (c : CircuitWords) → All (λ t. t ≡ true) (entry_list_tests c) → All (λ t. t ≡ true) (count_tests (circuit_of c))
 unfolding entry_list_tests count_tests circuit_of
 counts_pass c h =
     (few-entries c.matrices.a h.0, (few-entries c.matrices.b h.1.0, (few-entries c.matrices.c h.1.1.0, tt)))

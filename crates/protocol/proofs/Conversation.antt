@@ -34,10 +34,6 @@ six_sizes q c W = (W.R-size, (W.C-size, (ap₂ ◌&&◌ W.X-size (le-leb c.|X| c
 abbrev pub drawn : (q : Prime) → Job → Challenges (Elem q)
 drawn q j = map_challenges of (challenges j)
 
--- three field words, as elements and back
-pub three-words : (q : Prime) (t : Three ℕ) → All (λ w. w < q.p) (listed t) → map_three word_of (map_three (of {q = q}) t) ≡ t
-three-words q t (a, (b, (c, _))) = λ i. record { a = word-of q t.a a i; b = word-of q t.b b i; c = word-of q t.c c i }
-
 module _ (q : Prime) (j : Job) (F : JobFits q j) where
   abbrev c : Circuit
   c = j.circuit
@@ -47,6 +43,9 @@ module _ (q : Prime) (j : Job) (F : JobFits q j) where
 
   abbrev t : Challenges (Elem q)
   t = drawn q j
+
+  three-words : (t : Three ℕ) → All (λ w. w < q.p) (listed t) → map_three word_of (map_three (of {q = q}) t) ≡ t
+  three-words t (a, (b, (c, _))) = λ i. record { a = word-of q t.a a i; b = word-of q t.b b i; c = word-of q t.c c i }
 
   drawn-words : map_challenges word_of t ≡ challenges j
   drawn-words =
@@ -58,9 +57,9 @@ module _ (q : Prime) (j : Job) (F : JobFits q j) where
       λ i.
       record {
         α = word-of q j.α α i;
-        η = three-words q j.η η i;
+        η = three-words j.η η i;
         β = word-of q j.β β i;
-        δ = three-words q j.δ δ i;
+        δ = three-words j.δ δ i;
         γ = word-of q j.γ γ i;
       }
 

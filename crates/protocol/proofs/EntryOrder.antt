@@ -286,17 +286,17 @@ pub with_with :
     × (entries_with e (entries_with d es) ≡ entries_with d (entries_with e es)))
 with_with d e es rising free_d free-e =
     let (not_at, free) = all_with (λ f. at_e f ≡ false) d es (none_any at_e (entries_with d es) free-e) in
-    let not-at-d : at-d e ≡ false =
-    test_fails (at-d e) (λ t. let same = stands_true d.row d.column e t in
+    let not-at-d : at_d e ≡ false =
+    test_fails (at_d e) (λ t. let same = stands_true d.row d.column e t in
     true≢false (sym (true_stands e.row e.column d (sym same.0) (sym same.1)) ∙ not_at)) in
-    let free-too : All (λ f. at-d f ≡ false) (entries_with e es) = with_all (λ f. at-d f ≡ false) e es not-at-d (none_any at-d es free_d) in
-    (any_none at_e es free, (any_none at-d (entries_with e es) free-too, go not_at (rises d e) refl))
+    let free-too : All (λ f. at_d f ≡ false) (entries_with e es) = with_all (λ f. at_d f ≡ false) e es not-at-d (none_any at_d es free_d) in
+    (any_none at_e es free, (any_none at_d (entries_with e es) free-too, go not_at (rises d e) refl))
   where
     at_e : Entry → Bool
     at_e = stands_at e.row e.column
 
-    at-d : Entry → Bool
-    at-d = stands_at d.row d.column
+    at_d : Entry → Bool
+    at_d = stands_at d.row d.column
 
     go : at_e d ≡ false → (b : Bool) → rises d e ≡ b → entries_with e (entries_with d es) ≡ entries_with d (entries_with e es)
     go not_at true t = let before = rises-true d e t in with_after d e es before ∙ sym (with_before d e es before)

@@ -29,20 +29,20 @@ use Rattle.protocol.proofs.CallAnswers.{jobs, round_refuses}
 use Rattle.protocol.proofs.Honest.{rules-kept, honest-accepted}
 
 -- conditions of two lists, and a condition for each member of one
-pub hold_append : (P Q : List (Type 0)) → Hold P → Hold Q → Hold (P ++ Q)
+hold_append : (P Q : List (Type 0)) → Hold P → Hold Q → Hold (P ++ Q)
 hold_append [] Q left right = right
 hold_append (p ∷ P) Q left right = (left.0, hold_append P Q left.1 right)
 
-pub append_hold : (P Q : List (Type 0)) → Hold (P ++ Q) → Hold P × Hold Q
+append_hold : (P Q : List (Type 0)) → Hold (P ++ Q) → Hold P × Hold Q
 append_hold [] Q h = (tt, h)
 append_hold (p ∷ P) Q h = let (left, right) = append_hold P Q h.1 in ((h.0, left), right)
 
 module _ {T : Type 0} (P : T → Type 0) where
-  pub hold_all : (l : List T) → Hold (map P l) → All P l
+  hold_all : (l : List T) → Hold (map P l) → All P l
   hold_all [] h = tt
   hold_all (a ∷ l) h = (h.0, hold_all l h.1)
 
-  pub all_hold : (l : List T) → All P l → Hold (map P l)
+  all_hold : (l : List T) → All P l → Hold (map P l)
   all_hold [] h = tt
   all_hold (a ∷ l) h = (h.0, all_hold l h.1)
 

@@ -33,10 +33,10 @@ module _ {q : Prime} where
   words-below [] = tt
   words-below (a ∷ l) = (word_below a, words-below l)
 
-  pub three_back : (t : Three (Elem q)) → map_three of (map_three word_of t) ≡ t
+  three_back : (t : Three (Elem q)) → map_three of (map_three word_of t) ≡ t
   three_back t = λ i. record { a = of_word t.a i; b = of_word t.b i; c = of_word t.c i }
 
-  pub transcript_back : (t : Transcript (Elem q)) → map_transcript of (map_transcript word_of t) ≡ t
+  transcript_back : (t : Transcript (Elem q)) → map_transcript of (map_transcript word_of t) ≡ t
   transcript_back t = λ i.
       record {
         α = of_word t.α i;
@@ -51,7 +51,7 @@ module _ {q : Prime} where
   index_back : (v : Index (Elem q)) → map_index of (map_index word_of v) ≡ v
   index_back v = λ i. record { row = of_word v.row i; col = of_word v.col i; rowcol = of_word v.rowcol i; rowcolval = of_word v.rowcolval i }
 
-  pub openings_back : (o : Openings (Elem q)) → map_openings of (map_openings word_of o) ≡ o
+  openings_back : (o : Openings (Elem q)) → map_openings of (map_openings word_of o) ≡ o
   openings_back o = λ i.
       record {
         witness = of_word o.witness i;

@@ -26,8 +26,8 @@ use Rattle.protocol.proofs.AllowedSizes.{size_within}
 use Rattle.protocol.proofs.IndexPolynomials.{K-size}
 use Rattle.protocol.proofs.MessagePolynomials.{eval_minus}
 
-length-difference : {q : Prime} (f g : Poly q) → length (f ⊟ g) ≡ max (length f) (length g)
-length-difference {q} f g = omega (arith, length-add (prime_ring q) f (neg 𝟙 · g), length-scale (prime_ring q) (neg 𝟙) g)
+length_difference : {q : Prime} (f g : Poly q) → length (f ⊟ g) ≡ max (length f) (length g)
+length_difference {q} f g = omega (arith, length-add (prime_ring q) f (neg 𝟙 · g), length-scale (prime_ring q) (neg 𝟙) g)
 
 -- |K_M|
 abbrev pub sizeK : Circuit → MatrixName → ℕ
@@ -99,8 +99,8 @@ module _ {q : Prime} (c : Circuit) (α β : Elem q) (M : MatrixName) where
         sizeK_positive c M,
         length-scale R (of c.|R| ⊗ of c.|C|) (without ⊟ β · row ⊞ rowcol),
         length-add R (without ⊟ β · row) rowcol,
-        length-difference without (β · row),
-        length-difference corner (α · col),
+        length_difference without (β · row),
+        length_difference corner (α · col),
         length-scale R β row,
         length-scale R α col,
         length-placed c M 𝟙 (row_element {q = q} c),
@@ -131,7 +131,7 @@ module _ {q : Prime} (c : Circuit) (α β : Elem q) (M : MatrixName) where
       omega (
         arith,
         sizeK_positive c M,
-        length-difference a (b ⊠ G),
+        length_difference a (b ⊠ G),
         product,
         length-numerator,
         length-denominator,

@@ -16,7 +16,7 @@ use Rattle.protocol.specs.Calls.{write_call, place_call}
 use Rattle.protocol.specs.Table.{Row, row, Answers}
 use Rattle.protocol.specs.Rows.{six_size_conditions, equal_conditions, end_row, trailer_rows, words_row}
 use Rattle.protocol.specs.Demand1.{record_rows, write_rows}
-use Rattle.protocol.proofs.TableLaws.{Told, ToldAll, told, told_append, first-joined, answers-first}
+use Rattle.protocol.proofs.TableLaws.{Told, ToldAll, told, told_append, first_together, answers-first}
 use Rattle.protocol.proofs.TableLaws.{tell_append, tells_equal, tells_less, tells_most, tells_both, tells_as}
 use Rattle.protocol.proofs.RowTests.{tell_six_sizes, sizes-told, lists-told, tell_same, words-told}
 
@@ -88,7 +88,7 @@ module _ (q : Prime) where
     record_answers l between result all =
         let rest : List (Option Refusal) = l ++ (word_row bytes q ∷ []) in
         let last : Row = words_row q (words_in (take (n - trailer_bytes) bytes)) in
-        subst (λ o. Answers (record_rows q bytes between) (judged o result)) (sym (first-joined (end_refusal n (trailer_word bytes 17) ∷ []) trailer rest))
+        subst (λ o. Answers (record_rows q bytes between) (judged o result)) (sym (first_together (end_refusal n (trailer_word bytes 17)) trailer rest))
         (answers-first (end_refusal n (trailer_word bytes 17) ∷ (trailer ++ rest)) (record_rows q bytes between) result (
           end_told,
           told_append trailer rest (trailer_rows bytes) (between ++ (last ∷ [])) trailer-told

@@ -70,35 +70,35 @@ module _ {q : Prime} (T : Attempt q) where
     all_gammas : AtMost (q.p - largest s.|K|) Inγ
     all_gammas = exactly_at_most (exactly_outside Q (largest s.|K|) (largest_size c))
 
-    all-triples : AtMost (q.p * q.p * q.p) Any
-    all-triples = exactly_at_most (exactly_triples q)
+    all_triples : AtMost (q.p * q.p * q.p) Any
+    all_triples = exactly_at_most (exactly_triples q)
 
     pub saved_by_α : AtMost (saved_byα q s) (OfKind byα)
     unfolding saved_byα sizes_of
     saved_by_α =
-        at_most_tuples byα _ _ _ _ _ (few_alphas T demand3 Q) (λ α _. all-triples) (λ α η _ _. all_betas) (λ α η β _ _ _. all-triples)
+        at_most_tuples byα _ _ _ _ _ (few_alphas T demand3 Q) (λ α _. all_triples) (λ α η _ _. all_betas) (λ α η β _ _ _. all_triples)
         (λ α η β δ _ _ _ _. all_gammas)
 
     pub saved_by_η : AtMost (saved_byη q s) (OfKind byη)
     unfolding saved_byη sizes_of
     saved_by_η =
         at_most_tuples byη _ _ _ _ _ (at_most_of (λ α a. a.0) all_alphas) (λ α a. few_etas T demand3 Q α a.0 a.1)
-        (λ α η _ _. all_betas) (λ α η β _ _ _. all-triples) (λ α η β δ _ _ _ _. all_gammas)
+        (λ α η _ _. all_betas) (λ α η β _ _ _. all_triples) (λ α η β δ _ _ _ _. all_gammas)
 
     pub saved_by_β : AtMost (saved_byβ q s) (OfKind byβ)
     unfolding saved_byβ sizes_of
     saved_by_β =
-        at_most_tuples byβ _ _ _ _ _ all_alphas (λ α _. at_most_of (λ η e. tt) all-triples)
-        (λ α η a. few_betas T demand3 Q α a η) (λ α η β _ _ _. all-triples) (λ α η β δ _ _ _ _. all_gammas)
+        at_most_tuples byβ _ _ _ _ _ all_alphas (λ α _. at_most_of (λ η e. tt) all_triples)
+        (λ α η a. few_betas T demand3 Q α a η) (λ α η β _ _ _. all_triples) (λ α η β δ _ _ _ _. all_gammas)
 
     pub saved_by_δ : AtMost (saved_byδ q s) (OfKind byδ)
     unfolding saved_byδ sizes_of
     saved_by_δ =
-        at_most_tuples byδ _ _ _ _ _ all_alphas (λ α _. all-triples) (λ α η _ _. at_most_of (λ β b. b.0) all_betas)
+        at_most_tuples byδ _ _ _ _ _ all_alphas (λ α _. all_triples) (λ α η _ _. at_most_of (λ β b. b.0) all_betas)
         (λ α η β a _ b. few_deltas T demand3 Q α a η β b.0 b.1) (λ α η β δ _ _ _ _. all_gammas)
 
     pub saved_by_γ : AtMost (saved_byγ q s) (OfKind byγ)
     unfolding saved_byγ sizes_of
     saved_by_γ =
-        at_most_tuples byγ _ _ _ _ _ all_alphas (λ α _. all-triples) (λ α η _ _. all_betas)
-        (λ α η β _ _ _. at_most_of (λ δ d. tt) all-triples) (λ α η β δ _ _ _. few_gammas T α η β δ)
+        at_most_tuples byγ _ _ _ _ _ all_alphas (λ α _. all_triples) (λ α η _ _. all_betas)
+        (λ α η β _ _ _. at_most_of (λ δ d. tt) all_triples) (λ α η β δ _ _ _. few_gammas T α η β δ)

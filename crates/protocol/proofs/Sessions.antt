@@ -265,19 +265,12 @@ steps_pass q steps turn =
     kept-passes q s (kept-steps q steps unopened (kept-unopened q)) (in_turn_lem 6 s.stage s.sizes turn).stage_is
 
 -- words that all are 0
-pub zeros_are : (l : List ℕ) → All (λ t. t ≡ true) (map (λ w. eqb w 0) l) → l ≡ replicate (length l) 0
+zeros_are : (l : List ℕ) → All (λ t. t ≡ true) (map (λ w. eqb w 0) l) → l ≡ replicate (length l) 0
 zeros_are [] h = refl
 zeros_are (w ∷ l) h = ap₂ ◌∷◌ (eqb-true w 0 h.0) (zeros_are l h.1)
 
--- the first n of a list, filled up to its length, are the list where d alone follows them
-pub filled-whole : {T : Type 0} (n most : ℕ) (d : T) (l : List T) → length l ≡ most → length (take n l) ≡ n → drop n l ≡ replicate (length (drop n l)) d
-    → take n l ++ replicate (most - length (take n l)) d ≡ l
-filled-whole n most d l long number rest =
-    let size : most - length (take n l) ≡ length (drop n l) = omega (arith, length-drop n l) in
-    ap (λ end. take n l ++ end) (ap (λ k. replicate k d) size ∙ sym rest) ∙ take-append-drop n l
-
 -- lengths of 0 are within every table
-abbrev pub nothing : MessageLengths
+abbrev nothing : MessageLengths
 nothing =
     record {
       witness = 0;
@@ -289,7 +282,7 @@ nothing =
       joined_quotient = 0;
     }
 
-pub nothing_short : (s : Sizes) → Short s nothing
+nothing_short : (s : Sizes) → Short s nothing
 nothing_short s =
     record {
       witness-short = omega arith;
@@ -311,8 +304,9 @@ only_steps_pass q s x-length turn passes =
     let public : PublicWords q n x = left_public q s x-length now.sizes-allowed left in
     let fits : Fitting q n x s.transcript nothing =
     record { sizes-allowed = now.sizes-allowed; public = public; heard = left.heard; short = nothing_short n } in
+    let size : max_size - length x ≡ length rest = omega (arith, length-drop n.|X| s.x, public.x-length) in
     let whole : x ++ replicate (max_size - length x) 0 ≡ s.x =
-    filled-whole n.|X| max_size 0 s.x x-length public.x-length (zeros_are rest left.zeros-after) in (
+    ap (λ zeros. x ++ zeros) (ap (λ k. replicate k 0) size ∙ sym (zeros_are rest left.zeros-after)) ∙ take-append-drop n.|X| s.x in (
       hearing n x s.transcript nothing,
       hearing-taken q n x s.transcript nothing fits
           ∙ (λ i. record { stage = sym now.stage_is i; sizes = n; x = whole i; transcript = s.transcript }),

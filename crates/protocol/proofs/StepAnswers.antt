@@ -1,5 +1,5 @@
 -- Demand 1 for the steps of the session: which refuses first, and at which position. Assumes nothing.
-use mathlib.Core.Path.{◌≡◌, refl, sym, ap, ◌∙◌}
+use mathlib.Core.Path.{◌≡◌, refl, ap, ◌∙◌}
 use mathlib.Core.Logic.{◌≢◌}
 use mathlib.Core.Bool.{Bool, not, ◌&&◌}
 use mathlib.Core.List.{List, [], ◌∷◌, ◌++◌, map}
@@ -19,45 +19,35 @@ use Rattle.protocol.specs.Messages.{MessageLengths, lengths}
 use Rattle.protocol.specs.Refusals.{Refusal, first, pairs, begins_with_one, six_size_tests, turn_refusal, word_refusal, challenge_refusal, length_refusal}
 use Rattle.protocol.specs.Session.{Session, Stepped, Answer, Taken, Judged, Refused, unless, all, in_turn, all_below, public_fits, transcript_fits, left_by_steps, open_refusals, open_refusal}
 use Rattle.protocol.specs.Session.{alpha_refusal, eta_refusal, beta_refusal, delta_refusal, gamma_refusal, openings_refusal, open_step, alpha_step, eta_step, beta_step, delta_step, gamma_step, ask_step, commit_step, verdict_of}
-use Rattle.protocol.specs.Table.{Row, row, Hold, Refuses, StepAnswers}
-use Rattle.protocol.specs.Rows.{NoElement, six_size_conditions, InTurn, declared_row, words_row, challenged_rows}
-use Rattle.protocol.specs.Demand1.{Steps, open_rows, Left, openings_rows}
+use Rattle.protocol.specs.Table.{Row, row, Hold, Refuses}
+use Rattle.protocol.specs.Rows.{NoElement, six_size_conditions, InTurn, declared_row, words_row}
+use Rattle.protocol.specs.Demand1.{Steps, open_rows, challenged_rows, Left, openings_rows}
 use Rattle.protocol.proofs.TableLaws.{Tells, TellAll, Told, told, refuses, tells_equal, tells_less, tells_both, tells_as}
 use Rattle.protocol.proofs.RowTests.{tell_six_sizes, sizes-told, lists-told, constant-told, declared_told, words-told, tells_outside, challenge_told}
 
 -- a step that is judged by rows; what it answers where nothing refuses it is no refusal
-pub step_answers :
-    {S : Type 0} (rows : List Row) (o : Option Refusal) (answer : Answer) (s next : S) (given : Answer) → Refuses rows o
-    → (o ≡ none → given ≡ answer) → ((f : Refusal) → o ≡ some f → (next ≡ s) × (given ≡ Refused f)) → ((f : Refusal) → answer ≢ Refused f)
-    → StepAnswers rows answer s next given
-step_answers rows none answer s next given R free stays other =
-    record {
-      met = λ h. free refl;
-      taken = λ e. R.unrefused refl;
-      first = λ f failing. stays f (R.first f failing);
-      refused = λ f e. absurd (other f (sym (free refl) ∙ e));
-    }
-step_answers rows (some r) answer s next given R free stays other =
-    let is : given ≡ Refused r = (stays r refl).1 in
-    record {
-      met = λ h. free (R.met h);
-      taken = λ e. absurd (other r (sym e ∙ is));
-      first = λ f failing. stays f (R.first f failing);
-      refused = λ f e. R.refused f (cc (is, e));
-    }
-
 steps :
     (rows : List Row) (o : Option Refusal) (answer : Answer) (s : Session) (next : Stepped) → Refuses rows o → next.answer ≡ answer
     → ((f : Refusal) → answer ≢ Refused f) → Steps rows answer s (unless o s next)
-steps rows o answer s next R is other =
-    step_answers rows o answer s (unless o s next).session (unless o s next).answer R
-    (λ e. ap (λ o. (unless o s next).answer) e ∙ is)
-    (λ f e. (ap (λ o. (unless o s next).session) e, ap (λ o. (unless o s next).answer) e)) other
+steps rows none answer s next R is other =
+    record {
+      met = λ h. is;
+      taken = λ e. R.unrefused refl;
+      first = λ f failing. ap (λ o. unless o s next) (R.first f failing);
+      refused = λ f e. absurd (other f (cc (is, e)));
+    }
+steps rows (some r) answer s next R is other =
+    record {
+      met = λ h. ap (λ o. (unless o s next).answer) (R.met h) ∙ is;
+      taken = λ e. absurd (other r (cc e));
+      first = λ f failing. ap (λ o. unless o s next) (R.first f failing);
+      refused = λ f e. R.refused f (cc e);
+    }
 
-pub taken_other : (f : Refusal) → Taken ≢ Refused f
+taken_other : (f : Refusal) → Taken ≢ Refused f
 taken_other f e = let z : ◌≡◌ {A = ℕ} 0 1 = cc in omega arith
 
-pub judged_other : (v : Verdict) (f : Refusal) → Judged v ≢ Refused f
+judged_other : (v : Verdict) (f : Refusal) → Judged v ≢ Refused f
 judged_other v f e = let z : ◌≡◌ {A = ℕ} 0 1 = cc in omega arith
 
 -- all tests of a list
@@ -67,17 +57,18 @@ tells_all [] (P ∷ k) told = absurd told
 tells_all (t ∷ l) [] told = absurd told
 tells_all (t ∷ l) (P ∷ k) told = tells_both t (all l) told.0 (tells_all l k told.1)
 
-pub tells_every : {T : Type 0} (test : T → Bool) (P : T → Type 0) → ((a : T) → Tells (test a) (P a)) → (l : List T) → Tells (all (map test l)) (All P l)
+tells_every : {T : Type 0} (test : T → Bool) (P : T → Type 0) → ((a : T) → Tells (test a) (P a)) → (l : List T) → Tells (all (map test l)) (All P l)
 tells_every test P tells [] = (λ e. tt, λ h. refl)
 tells_every test P tells (a ∷ l) = tells_both (test a) (all (map test l)) (tells a) (tells_every test P tells l)
 
 -- 1: the turn
-pub tells_turn : (n stage : ℕ) (s : Sizes) → Tells (in_turn n stage s) ((stage ≡ n) × Hold (six_size_conditions s))
+tells_turn : (n : ℕ) (s : Session) → Tells (in_turn n s.stage s.sizes) (InTurn n s)
 unfolding in_turn
-tells_turn n stage s =
-    tells_both (eqb stage n) (all (six_size_tests s)) (tells_equal stage n) (tells_all (six_size_tests s) (six_size_conditions s) (tell_six_sizes s))
+tells_turn n s =
+    tells_both (eqb s.stage n) (all (six_size_tests s.sizes)) (tells_equal s.stage n)
+    (tells_all (six_size_tests s.sizes) (six_size_conditions s.sizes) (tell_six_sizes s.sizes))
 
-pub turn_told : (t : Bool) (P : Type 0) → Tells t P → Told (turn_refusal t) (row 1 0 (P ∷ []))
+turn_told : (t : Bool) (P : Type 0) → Tells t P → Told (turn_refusal t) (row 1 0 (P ∷ []))
 unfolding turn_refusal
 turn_told t P tells = told 1 0 (t ∷ []) (P ∷ []) (tells, tt)
 
@@ -85,56 +76,30 @@ module _ (q : Prime) where
   tells_below : (ws : List ℕ) → Tells (all_below q ws) (All (λ w. w < q.p) ws)
   tells_below = tells_every (λ w. ltb w q.p) (λ w. w < q.p) (λ w. tells_less w q.p)
 
-  -- n field words and then zeros
-  pub tells_filled : (n : ℕ) (ws : List ℕ)
-      → Tells (all_below q (take n ws) && all (map (λ w. eqb w 0) (drop n ws))) (All (λ w. w < q.p) (take n ws) × All (λ w. w ≡ 0) (drop n ws))
-  tells_filled n ws =
-      tells_both (all_below q (take n ws)) (all (map (λ w. eqb w 0) (drop n ws))) (tells_below (take n ws))
-      (tells_every (λ w. eqb w 0) (λ w. w ≡ 0) (λ w. tells_equal w 0) (drop n ws))
-
-  -- a transcript as steps leave it
-  abbrev pub outside_conditions : Sizes → Transcript ℕ → List (Type 0)
-  outside_conditions s t =
-      NoElement {q = q} s.|R| (of t.α) ∷ NoElement {q = q} s.|C| (of t.β) ∷ NoElement {q = q} (largest s.|K|) (of t.γ) ∷ []
-
-  pub tells_transcript : (s : Sizes) (t : Transcript ℕ) → Tells (transcript_fits q s t) (All (λ w. w < q.p) (list_transcript t) × Hold (outside_conditions s t))
-  unfolding transcript_fits
-  tells_transcript s t =
-      let outside : List Bool =
-      pairs (λ n y. not (inside {q = q} n y)) (s.|R| ∷ s.|C| ∷ largest s.|K| ∷ []) (of t.α ∷ of t.β ∷ of t.γ ∷ []) in
-      tells_both (all_below q (list_transcript t)) (all outside) (tells_below (list_transcript t))
-      (tells_all outside (outside_conditions s t) (
-        tells_outside q s.|R| (of t.α),
-        (tells_outside q s.|C| (of t.β), (tells_outside q (largest s.|K|) (of t.γ), tt)),
-      ))
-
   tells_left : (s : Session) → Tells (left_by_steps q s) (Left q s)
-  unfolding left_by_steps public_fits
+  unfolding left_by_steps public_fits transcript_fits
   tells_left s =
       let n : ℕ = s.sizes.|X| in
       let t : Transcript ℕ = s.transcript in
-      let filled : Bool = all_below q (take n s.x) && all (map (λ w. eqb w 0) (drop n s.x)) in
+      let domains : List ℕ = s.sizes.|R| ∷ s.sizes.|C| ∷ largest s.sizes.|K| ∷ [] in
+      let outside : List Bool = pairs (λ n y. not (inside {q = q} n y)) domains (of t.α ∷ of t.β ∷ of t.γ ∷ []) in
+      let apart : List (Type 0) =
+      NoElement {q = q} s.sizes.|R| (of t.α) ∷ NoElement {q = q} s.sizes.|C| (of t.β)
+      ∷ NoElement {q = q} (largest s.sizes.|K|) (of t.γ) ∷ [] in
       tells_as (public_fits q n s.x && transcript_fits q s.sizes t)
       (tells_both (public_fits q n s.x) (transcript_fits q s.sizes t)
-      (tells_both (begins_with_one s.x) filled (tells_equal (get_or s.x 0 0) 1) (tells_filled n s.x)) (tells_transcript s.sizes t))
+      (tells_both (begins_with_one s.x) (all_below q (take n s.x) && all (map (λ w. eqb w 0) (drop n s.x))) (tells_equal (get_or s.x 0 0) 1)
+      (tells_both (all_below q (take n s.x)) (all (map (λ w. eqb w 0) (drop n s.x))) (tells_below (take n s.x))
+      (tells_every (λ w. eqb w 0) (λ w. w ≡ 0) (λ w. tells_equal w 0) (drop n s.x))))
+      (tells_both (all_below q (list_transcript t)) (all outside) (tells_below (list_transcript t))
+      (tells_all outside apart (
+        tells_outside q s.sizes.|R| (of t.α),
+        (tells_outside q s.sizes.|C| (of t.β), (tells_outside q (largest s.sizes.|K|) (of t.γ), tt)),
+      ))))
       (λ ((one, (below, zero)), (words, (α, (β, (γ, _))))).
       record { constant = one; public_words_lem = below; zeros = zero; transcript-words = words; α-outside = α; β-outside = β; γ-outside = γ })
       (λ h.
       ((h.constant, (h.public_words_lem, h.zeros)), (h.transcript-words, (h.α-outside, (h.β-outside, (h.γ-outside, tt))))))
-
-  -- a step with a challenge and declared lengths
-  pub challenged :
-      (turn : Bool) (P : Type 0) (position d y : ℕ) (declared table : List ℕ) → Tells turn P
-      → Refuses (challenged_rows q P position d y declared table)
-      (first
-      (turn_refusal turn ∷ word_refusal q (y ∷ []) ∷ challenge_refusal {q = q} position (d ∷ []) (of y ∷ []) ∷ length_refusal declared table ∷ []))
-  challenged turn P position d y declared table tells =
-      refuses
-      (turn_refusal turn ∷ word_refusal q (y ∷ []) ∷ challenge_refusal {q = q} position (d ∷ []) (of y ∷ []) ∷ length_refusal declared table ∷ [])
-      (challenged_rows q P position d y declared table) (
-        turn_told turn P tells,
-        (words-told q (y ∷ []), (challenge_told q position (d ∷ []) (y ∷ []), (declared_told declared table, tt))),
-      )
 
   module _ (s : Session) where
     pub opens : (n : Sizes) (x : List ℕ) → Steps (open_rows q n x) Taken s (open_step q s n x)
@@ -150,46 +115,56 @@ module _ (q : Prime) where
         ))
         refl taken_other
 
-    abbrev turn : ℕ → Bool
-    turn n = in_turn n s.stage s.sizes
-
-    in_turn_lem : (n : ℕ) → Tells (turn n) (InTurn n s)
-    in_turn_lem n = tells_turn n s.stage s.sizes
+    -- a step with a challenge and declared lengths
+    challenged :
+        (n position d y : ℕ) (declared table : List ℕ)
+        → Refuses (challenged_rows q s n position d y declared table)
+        (first
+        (turn_refusal (in_turn n s.stage s.sizes)
+        ∷ word_refusal q (y ∷ []) ∷ challenge_refusal {q = q} position (d ∷ []) (of y ∷ []) ∷ length_refusal declared table ∷ []))
+    challenged n position d y declared table =
+        refuses
+        (turn_refusal (in_turn n s.stage s.sizes)
+        ∷ word_refusal q (y ∷ []) ∷ challenge_refusal {q = q} position (d ∷ []) (of y ∷ []) ∷ length_refusal declared table ∷ [])
+        (challenged_rows q s n position d y declared table) (
+          turn_told (in_turn n s.stage s.sizes) (InTurn n s) (tells_turn n s),
+          (words-told q (y ∷ []), (challenge_told q position (d ∷ []) (y ∷ []), (declared_told declared table, tt))),
+        )
 
     abbrev most : MessageLengths
     most = lengths s.sizes
 
     pub hears_α :
         (ŵ m h0 α : ℕ)
-        → Steps (challenged_rows q (InTurn 1 s) 0 s.sizes.|R| α (ŵ ∷ m ∷ h0 ∷ []) (most.witness ∷ most.mask ∷ most.row_quotient ∷ [])) Taken s
+        → Steps (challenged_rows q s 1 0 s.sizes.|R| α (ŵ ∷ m ∷ h0 ∷ []) (most.witness ∷ most.mask ∷ most.row_quotient ∷ [])) Taken s
         (alpha_step q s ŵ m h0 α)
     unfolding alpha_step alpha_refusal
     hears_α ŵ m h0 α =
         steps _ (alpha_refusal q s.stage s.sizes ŵ m h0 α) Taken s _
-        (challenged (turn 1) (InTurn 1 s) 0 s.sizes.|R| α (ŵ ∷ m ∷ h0 ∷ []) (most.witness ∷ most.mask ∷ most.row_quotient ∷ []) (in_turn_lem 1)) refl taken_other
+        (challenged 1 0 s.sizes.|R| α (ŵ ∷ m ∷ h0 ∷ []) (most.witness ∷ most.mask ∷ most.row_quotient ∷ [])) refl taken_other
 
     pub hears_β :
         (g1 h1 β : ℕ)
-        → Steps (challenged_rows q (InTurn 3 s) 1 s.sizes.|C| β (g1 ∷ h1 ∷ []) (most.line_remainder ∷ most.line_quotient ∷ [])) Taken s (beta_step q s g1 h1 β)
+        → Steps (challenged_rows q s 3 1 s.sizes.|C| β (g1 ∷ h1 ∷ []) (most.line_remainder ∷ most.line_quotient ∷ [])) Taken s (beta_step q s g1 h1 β)
     unfolding beta_step beta_refusal
     hears_β g1 h1 β =
         steps _ (beta_refusal q s.stage s.sizes g1 h1 β) Taken s _
-        (challenged (turn 3) (InTurn 3 s) 1 s.sizes.|C| β (g1 ∷ h1 ∷ []) (most.line_remainder ∷ most.line_quotient ∷ []) (in_turn_lem 3)) refl taken_other
+        (challenged 3 1 s.sizes.|C| β (g1 ∷ h1 ∷ []) (most.line_remainder ∷ most.line_quotient ∷ [])) refl taken_other
 
     pub hears_γ :
-        (h2 γ : ℕ) → Steps (challenged_rows q (InTurn 5 s) 2 (largest s.sizes.|K|) γ (h2 ∷ []) (most.joined_quotient ∷ [])) Taken s (gamma_step q s h2 γ)
+        (h2 γ : ℕ) → Steps (challenged_rows q s 5 2 (largest s.sizes.|K|) γ (h2 ∷ []) (most.joined_quotient ∷ [])) Taken s (gamma_step q s h2 γ)
     unfolding gamma_step gamma_refusal
     hears_γ h2 γ =
         steps _ (gamma_refusal q s.stage s.sizes h2 γ) Taken s _
-        (challenged (turn 5) (InTurn 5 s) 2 (largest s.sizes.|K|) γ (h2 ∷ []) (most.joined_quotient ∷ []) (in_turn_lem 5)) refl taken_other
+        (challenged 5 2 (largest s.sizes.|K|) γ (h2 ∷ []) (most.joined_quotient ∷ [])) refl taken_other
 
     pub hears_η : (σ η : Three ℕ) → Steps (row 1 0 (InTurn 2 s ∷ []) ∷ words_row q (listed σ ++ listed η) ∷ []) Taken s (eta_step q s σ η)
     unfolding eta_step eta_refusal
     hears_η σ η =
         let rows : List Row = row 1 0 (InTurn 2 s ∷ []) ∷ words_row q (listed σ ++ listed η) ∷ [] in
         steps rows (eta_refusal q s.stage s.sizes σ η) Taken s _
-        (refuses (turn_refusal (turn 2) ∷ word_refusal q (listed σ ++ listed η) ∷ []) rows
-        (turn_told (turn 2) (InTurn 2 s) (in_turn_lem 2), (words-told q (listed σ ++ listed η), tt)))
+        (refuses (turn_refusal (in_turn 2 s.stage s.sizes) ∷ word_refusal q (listed σ ++ listed η) ∷ []) rows
+        (turn_told (in_turn 2 s.stage s.sizes) (InTurn 2 s) (tells_turn 2 s), (words-told q (listed σ ++ listed η), tt)))
         refl taken_other
 
     pub hears_δ :
@@ -202,10 +177,10 @@ module _ (q : Prime) where
         row 1 0 (InTurn 4 s ∷ []) ∷ words_row q (listed ω ++ listed δ) ∷ declared_row (listed g) (listed most.matrix_remainders) ∷ [] in
         steps rows (delta_refusal q s.stage s.sizes ω g δ) Taken s _
         (refuses
-        (turn_refusal (turn 4)
+        (turn_refusal (in_turn 4 s.stage s.sizes)
         ∷ word_refusal q (listed ω ++ listed δ) ∷ length_refusal (listed g) (listed most.matrix_remainders) ∷ [])
         rows (
-          turn_told (turn 4) (InTurn 4 s) (in_turn_lem 4),
+          turn_told (in_turn 4 s.stage s.sizes) (InTurn 4 s) (tells_turn 4 s),
           (words-told q (listed ω ++ listed δ), (declared_told (listed g) (listed most.matrix_remainders), tt)),
         ))
         refl taken_other
@@ -214,8 +189,9 @@ module _ (q : Prime) where
       openings-refuse : Refuses (openings_rows q s o) (openings_refusal q s o)
       unfolding openings_refusal
       openings-refuse =
-          refuses (turn_refusal (turn 6 && left_by_steps q s) ∷ word_refusal q (list_openings o) ∷ []) (openings_rows q s o) (
-            turn_told (turn 6 && left_by_steps q s) (InTurn 6 s × Left q s) (tells_both (turn 6) (left_by_steps q s) (in_turn_lem 6) (tells_left s)),
+          let turn : Bool = in_turn 6 s.stage s.sizes in
+          refuses (turn_refusal (turn && left_by_steps q s) ∷ word_refusal q (list_openings o) ∷ []) (openings_rows q s o) (
+            turn_told (turn && left_by_steps q s) (InTurn 6 s × Left q s) (tells_both turn (left_by_steps q s) (tells_turn 6 s) (tells_left s)),
             (words-told q (list_openings o), tt),
           )
 

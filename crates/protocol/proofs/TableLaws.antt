@@ -133,11 +133,6 @@ told_append [] k (r ∷ rows) more left right = absurd left
 told_append (o ∷ l) k [] more left right = absurd left
 told_append (o ∷ l) k (r ∷ rows) more left right = (left.0, told_append l k rows more left.1 right)
 
-pub told-map :
-    {T : Type 0} (refusal : T → Option Refusal) (r : T → Row) → ((a : T) → Told (refusal a) (r a)) → (l : List T) → ToldAll (map refusal l) (map r l)
-told-map refusal r all [] = tt
-told-map refusal r all (a ∷ l) = (all a, told-map refusal r all l)
-
 pub refuses : (l : List (Option Refusal)) (rows : List Row) → ToldAll l rows → Refuses rows (first l)
 refuses l rows all =
     record { met = rows-met l rows all; unrefused = met-rows l rows all; first = first_refuses l rows all; refused = refuses_first l rows all }
@@ -150,17 +145,11 @@ refuses_one o r one = subst (Refuses (r ∷ [])) (alone o) (refuses (o ∷ []) (
     alone none = refl
     alone (some f) = refl
 
-pub first-joined : (before l rest : List (Option Refusal)) → first (before ++ (first l ∷ rest)) ≡ first (before ++ (l ++ rest))
-first-joined [] [] rest = refl
-first-joined [] (none ∷ l) rest = first-joined [] l rest
-first-joined [] (some f ∷ l) rest = refl
-first-joined (none ∷ before) l rest = first-joined before l rest
-first-joined (some f ∷ before) l rest = refl
-
--- a row that is judged again refuses nothing new
-pub first_again : (o : Option Refusal) (l rest : List (Option Refusal)) → first (o ∷ (l ++ (o ∷ rest))) ≡ first (o ∷ (l ++ rest))
-first_again none l rest = first-joined l [] rest
-first_again (some f) l rest = refl
+pub first_together : (o : Option Refusal) (l k : List (Option Refusal)) → first (o ∷ (first l ∷ k)) ≡ first (o ∷ (l ++ k))
+first_together (some f) l k = refl
+first_together none [] k = refl
+first_together none (none ∷ l) k = first_together none l k
+first_together none (some f ∷ l) k = refl
 
 -- the answer of a call that is judged by them
 pub answers : {T : Type 0} (rows : List Row) (o : Option Refusal) (result : T) → Refuses rows o → Answers rows (judged o result)

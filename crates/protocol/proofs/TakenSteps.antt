@@ -88,7 +88,7 @@ module _ (q : Prime) (s : Sizes) (t : Transcript ℕ) where
             (all_true outside (ap not heard.α-outside, (ap not heard.β-outside, (ap not heard.γ-outside, tt)))),
       )
 
-pub zeros_pass : (n : ℕ) → All (λ t. t ≡ true) (map (λ w. eqb w 0) (replicate n 0))
+zeros_pass : (n : ℕ) → All (λ t. t ≡ true) (map (λ w. eqb w 0) (replicate n 0))
 zeros_pass zero = tt
 zeros_pass (suc n) = (eq-eqb 0 0 refl, zeros_pass n)
 

@@ -37,7 +37,7 @@ module _ (n stage : ℕ) (s : Sizes) where
       let (same, sized) = and-true (eqb stage n) (all (six_size_tests s)) e in
       record { stage_is = eqb-true stage n same; sizes-allowed = true-all (six_size_tests s) sized }
 
-  pub turn_true : InTurn n stage s → in_turn n stage s ≡ true
+  turn_true : InTurn n stage s → in_turn n stage s ≡ true
   unfolding in_turn
   turn_true turn = ap₂ ◌&&◌ (eq-eqb stage n turn.stage_is) (all_true (six_size_tests s) turn.sizes-allowed)
 

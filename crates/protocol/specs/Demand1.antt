@@ -1,8 +1,8 @@
 -- Demand 1: "The answer of every public call, for all words, slices and orders of session steps, is a complete result or the first refusal
 -- in document 01's table that applies; a refusal changes no lent slice and no session". For each call and each step, what is asked of its
 -- inputs, row by row and in words: it is done, or taken, exactly when all of this holds, and else refused by the first condition that
--- fails, with that row's number and that condition's position. (What is done then is in Calls, Session, Grown, Blinded, BatchCalls and
--- BatchSession; a lent slice of a refused call stays by the contracts of the code.) Statements only; the proofs are in proofs/. Assumes nothing.
+-- fails, with that row's number and that condition's position. (What is done then is in Calls, Session, Grown and Blinded; a lent slice of
+-- a refused call stays by the contracts of the code.) Statements only; the proofs are in proofs/. Assumes nothing.
 use Rattle.std.specs.Prelude.{◌≡◌, ◌≢◌, ◌↔◌, ℕ, ◌+◌, ◌-◌, ◌<◌, ◌≤◌, length, get_or, take, drop}
 use mathlib.Core.List.{List, [], ◌∷◌, ◌++◌, map, foldr}
 use Rattle.algebra.specs.Counting.{All, MoreThan, Member}
@@ -15,9 +15,9 @@ use Rattle.protocol.specs.Circuit.{Entry, Circuit, Sizes, sizes_of, largest}
 use Rattle.protocol.specs.Index.{Index, list_index}
 use Rattle.protocol.specs.Checks.{Openings, list_transcript, list_openings}
 use Rattle.protocol.specs.Messages.{lengths}
-use Rattle.protocol.specs.Refusals.{trailer_bytes}
+use Rattle.protocol.specs.Refusals.{Refusal, trailer_bytes}
 use Rattle.protocol.specs.Admission.{Admitted}
-use Rattle.protocol.specs.Session.{Session, Stepped, Answer, Taken, Judged, open_step, alpha_step, eta_step, beta_step, delta_step, gamma_step, ask_step, commit_step, verdict_of}
+use Rattle.protocol.specs.Session.{Session, Stepped, Answer, Taken, Judged, Refused, open_step, alpha_step, eta_step, beta_step, delta_step, gamma_step, ask_step, commit_step, verdict_of}
 use Rattle.protocol.specs.Record.{section_lengths, section_bytes, words_in, read_record}
 use Rattle.protocol.specs.Calls.{CircuitWords, ProverInput, max_words, circuit_of, operation_call, power_call, inverse_call, domain_call, evaluate_call, evaluate_part_call, interpolate_call, evaluate_on_domain_call, index_call, write_call, place_call}
 use Rattle.protocol.specs.Calls.{first_round_call, second_round_call, third_round_call, fourth_round_call, fifth_round_call, openings_call}
@@ -26,14 +26,16 @@ use Rattle.protocol.specs.Grown.{grown_lists, grown_circuit, begin_call, begin_f
 use Rattle.protocol.specs.Growing.{number, Correct}
 use Rattle.protocol.specs.Blinded.{reserved_row, reserved_columns, Blindable, blind_call}
 use Rattle.protocol.specs.Blinding.{Public}
-use Rattle.protocol.specs.Table.{Row, row, Met, Refuses, Answers, StepAnswers}
+use Rattle.protocol.specs.Table.{Row, row, Met, FirstRefusal, Refuses, Answers}
 use Rattle.protocol.specs.Rows.{Size, NoElement, size_conditions, six_size_conditions, InTurn, equal_conditions, end_row, trailer_rows, lists_row, entry_lists, assignment_conditions, Stands, constant_row, declared_row}
-use Rattle.protocol.specs.Rows.{words_row, circuit_rows, prover_rows, challenged_rows, Formed, job_rows}
-use Rattle.protocol.specs.BatchRows.{BatchDemand1}
+use Rattle.protocol.specs.Rows.{words_row, challenge_row, circuit_rows, prover_rows, Formed, job_rows}
 
--- what is asked of a step of the single proof's session
-abbrev pub Steps : List Row → Answer → Session → Stepped → Type 0
-Steps rows answer s stepped = StepAnswers rows answer s stepped.session stepped.answer
+-- a step answers this exactly when every row is met, and is else refused by the first refusal, which leaves the session
+pub record Steps (rows : List Row) (answer : Answer) (s : Session) (stepped : Stepped) : Type 0 where
+  pub met : Met rows → stepped.answer ≡ answer
+  pub taken : stepped.answer ≡ answer → Met rows
+  pub first : (f : Refusal) → FirstRefusal rows f → stepped ≡ record { session = s; answer = Refused f }
+  pub refused : (f : Refusal) → stepped.answer ≡ Refused f → FirstRefusal rows f
 
 -- an entry stands at row i, column j
 abbrev pub Occupied : ℕ → ℕ → List Entry → Type 0
@@ -91,6 +93,12 @@ module _ (q : Prime) where
   -- "open (the six sizes in trailer order, x)"
   abbrev pub open_rows : Sizes → List ℕ → List Row
   open_rows n x = row 4 0 (six_size_conditions n) ∷ lists_row ((length x ≡ n.|X|) ∷ []) ∷ words_row q x ∷ constant_row x ∷ []
+
+  -- a step with declared lengths and a challenge y, which is forbidden the domain of size d: 1 comes first, then 6, then 10, then 11; a
+  -- length counts within its step
+  abbrev pub challenged_rows : Session → ℕ → ℕ → ℕ → ℕ → List ℕ → List ℕ → List Row
+  challenged_rows s n position d y declared table =
+      row 1 0 (InTurn n s ∷ []) ∷ words_row q (y ∷ []) ∷ challenge_row q position (d ∷ []) (y ∷ []) ∷ declared_row declared table ∷ []
 
   -- a record to write, into lent bytes
   abbrev pub write_rows : Sizes → List (List ℕ) → ℕ → List Row
@@ -168,14 +176,14 @@ pub record Demand1 (q : Prime) : Type 0 where
   pub hears_α :
       (s : Session) (ŵ m h0 α : ℕ)
       → let most = lengths s.sizes in
-      Steps (challenged_rows q (InTurn 1 s) 0 s.sizes.|R| α (ŵ ∷ m ∷ h0 ∷ []) (most.witness ∷ most.mask ∷ most.row_quotient ∷ [])) Taken s
+      Steps (challenged_rows q s 1 0 s.sizes.|R| α (ŵ ∷ m ∷ h0 ∷ []) (most.witness ∷ most.mask ∷ most.row_quotient ∷ [])) Taken s
       (alpha_step q s ŵ m h0 α)
   pub hears_η :
       (s : Session) (σ η : Three ℕ) → Steps (row 1 0 (InTurn 2 s ∷ []) ∷ words_row q (listed σ ++ listed η) ∷ []) Taken s (eta_step q s σ η)
   pub hears_β :
       (s : Session) (g1 h1 β : ℕ)
       → let most = lengths s.sizes in
-      Steps (challenged_rows q (InTurn 3 s) 1 s.sizes.|C| β (g1 ∷ h1 ∷ []) (most.line_remainder ∷ most.line_quotient ∷ [])) Taken s
+      Steps (challenged_rows q s 3 1 s.sizes.|C| β (g1 ∷ h1 ∷ []) (most.line_remainder ∷ most.line_quotient ∷ [])) Taken s
       (beta_step q s g1 h1 β)
   pub hears_δ :
       (s : Session) (ω g δ : Three ℕ)
@@ -187,7 +195,7 @@ pub record Demand1 (q : Prime) : Type 0 where
       Taken s (delta_step q s ω g δ)
   pub hears_γ :
       (s : Session) (h2 γ : ℕ)
-      → Steps (challenged_rows q (InTurn 5 s) 2 (largest s.sizes.|K|) γ (h2 ∷ []) ((lengths s.sizes).joined_quotient ∷ [])) Taken s
+      → Steps (challenged_rows q s 5 2 (largest s.sizes.|K|) γ (h2 ∷ []) ((lengths s.sizes).joined_quotient ∷ [])) Taken s
       (gamma_step q s h2 γ)
   pub asks : (s : Session) (o : Openings ℕ) → Steps (openings_rows q s o) (Judged (verdict_of q s o)) s (ask_step q s o)
   pub commits : (s : Session) (o : Openings ℕ) → Steps (openings_rows q s o) (Judged (verdict_of q s o)) s (commit_step q s o)
@@ -215,5 +223,3 @@ pub record Demand1 (q : Prime) : Type 0 where
       (c : Circuit)
       → Blindable q c
       ↔ Met (circuit_rows q c (map (λ (es : List Entry). length es < max_size) (listed c.matrices)) [] ++ (blinding_row c ∷ []))
-  -- a batch of assignments: its jobs, calls and steps
-  pub batch : BatchDemand1 q

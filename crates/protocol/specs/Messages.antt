@@ -101,15 +101,11 @@ module _ {q : Prime} (c : Circuit) where
   unfoldable pub image : Poly q → MatrixName → Elem q → Elem q
   image ẑ M y = sum_over c.|C| (λ u. extension c M y u ⊗ eval ẑ u)
 
-  -- ẑ_A ẑ_B - ẑ_C, whose values on R are the row differences
-  abbrev pub row_difference : Poly q → Poly q
-  row_difference ẑ =
-      let ẑ_M : MatrixName → Poly q = λ M. agreeing c.|R| (image ẑ M) in
-      ẑ_M A ⊠ ẑ_M B ⊟ ẑ_M C
-
   -- h0: "ẑ_A ẑ_B - ẑ_C = h0 v_R"
   unfoldable pub row_quotient : Poly q → Poly q
-  row_quotient ẑ = quotient c.|R| (row_difference ẑ)
+  row_quotient ẑ =
+      let ẑ_M : MatrixName → Poly q = λ M. agreeing c.|R| (image ẑ M) in
+      quotient c.|R| (ẑ_M A ⊠ ẑ_M B ⊟ ẑ_M C)
 
   -- σ_M: "ẑ_M(α)"
   unfoldable pub sums : Poly q → Elem q → Three (Elem q)

@@ -1,5 +1,5 @@
 -- The rows of the table of refusals as conditions, in document 01's words and not by tests ("Refusals by place of check"; document 02 adds
--- rows), and the rows that calls with a circuit, and steps with a challenge, have in common. Assumes nothing.
+-- rows), and the rows that calls with a circuit have in common. Assumes nothing.
 use Rattle.std.specs.Prelude.{◌≡◌, ◌≢◌, ◌⊎◌, List, [], ◌∷◌, ◌++◌, map, ℕ, ◌-◌, ◌*◌, ◌^◌, ◌<◌, ◌≤◌, length, get_or}
 use Rattle.algebra.specs.Lists.{tabulate}
 use Rattle.field.specs.Prime.{Prime}
@@ -54,10 +54,6 @@ trailer_rows bytes =
     ∷ row 3 0 (equal_conditions (tabulate 11 (trailer_word bytes)) (starts_from 0 (section_lengths s)))
     ∷ row 3 17 ((length bytes - trailer_bytes ≡ section_bytes s) ∷ [])
     ∷ []
-
--- 4, sizes of a circuit
-abbrev pub sizes_row : Circuit → Row
-sizes_row c = row 4 0 (size_conditions c.|R| c.|C| c.|X| [])
 
 -- 5, lists: each of the lists, and then of the lent slices, has the length that it must have
 abbrev pub lists_row : List (Type 0) → Row
@@ -129,16 +125,12 @@ module _ (q : Prime) where
   abbrev pub challenge_row : ℕ → List ℕ → List ℕ → Row
   challenge_row position ns ys = row 10 position (for_pairs (λ n y. NoElement {q = q} n (of y)) ns ys)
 
-  -- 5, 6 and 7 of a circuit, with what is asked of the lists of the call, and with the words that it has after the circuit's, which are
-  -- the entries' values
-  abbrev pub rows_after_sizes : Circuit → List (Type 0) → List ℕ → List Row
-  rows_after_sizes c lists ws =
-      let values : List ℕ = map (λ (e : Entry). e.value) (c.matrices.a ++ (c.matrices.b ++ c.matrices.c)) in
-      lists_row lists ∷ words_row (values ++ ws) ∷ entries_row c ∷ []
-
-  -- 4, and then these
+  -- 4, 5, 6 and 7 of a circuit, with what is asked of the lists of the call, and with the words that it has after the circuit's, which
+  -- are the entries' values
   abbrev pub circuit_rows : Circuit → List (Type 0) → List ℕ → List Row
-  circuit_rows c lists ws = sizes_row c ∷ rows_after_sizes c lists ws
+  circuit_rows c lists ws =
+      let values : List ℕ = map (λ (e : Entry). e.value) (c.matrices.a ++ (c.matrices.b ++ c.matrices.c)) in
+      row 4 0 (size_conditions c.|R| c.|C| c.|X| []) ∷ lists_row lists ∷ words_row (values ++ ws) ∷ entries_row c ∷ []
 
   -- 4 to 8, 13, 9 and 10: z, r and m, all challenge words in order, and those of α, β, γ among them
   abbrev pub prover_rows : Circuit → List (Type 0) → List ℕ → ℕ → List ℕ → List ℕ → List ℕ → List Row
@@ -149,12 +141,6 @@ module _ (q : Prime) where
       ∷ assignment_row c z
       ∷ challenge_row 0 (c.|R| ∷ c.|C| ∷ largest (sizes_of c).|K| ∷ []) points
       ∷ [])
-
-  -- a step with declared lengths and a challenge y, which is forbidden the domain of size d: 1 comes first, then 6, then 10, then 11; a
-  -- length counts within its step
-  abbrev pub challenged_rows : Type 0 → ℕ → ℕ → ℕ → List ℕ → List ℕ → List Row
-  challenged_rows turn position d y declared table =
-      row 1 0 (turn ∷ []) ∷ words_row (y ∷ []) ∷ challenge_row position (d ∷ []) (y ∷ []) ∷ declared_row declared table ∷ []
 
   -- a circuit is well formed: its sizes are allowed, each matrix has at most 1,024 entries, their values are field words, and each entry
   -- stands within its matrix, is not 0 and comes after the one before it

@@ -4,7 +4,6 @@
 use Rattle.std.specs.Prelude.{◌≡◌, ◌⊎◌, List, [], ◌∷◌, ℕ, zero, suc}
 use Rattle.std.proofs.Math.Option.{Option, none, some}
 use Rattle.protocol.specs.Refusals.{Refusal, Outcome, Done, Refused}
-use Rattle.protocol.specs.Session as session
 
 -- a row as a call has it: its number, the position of its first condition, and the conditions in the order of their positions
 pub record Row : Type 1 where
@@ -52,14 +51,6 @@ pub record Answers {T : Type 0} (rows : List Row) (outcome : Outcome T) : Type 0
   pub done : (other : T) → outcome ≡ Done other → Met rows
   pub first : (f : Refusal) → FirstRefusal rows f → outcome ≡ Refused f
   pub refused : (f : Refusal) → outcome ≡ Refused f → FirstRefusal rows f
-
--- a step that had the session s and left next: it answers this exactly when every row is met, and is else refused by the first refusal, which
--- leaves the session
-pub record StepAnswers {S : Type 0} (rows : List Row) (answer : session.Answer) (s next : S) (given : session.Answer) : Type 0 where
-  pub met : Met rows → given ≡ answer
-  pub taken : given ≡ answer → Met rows
-  pub first : (f : Refusal) → FirstRefusal rows f → (next ≡ s) × (given ≡ session.Refused f)
-  pub refused : (f : Refusal) → given ≡ session.Refused f → FirstRefusal rows f
 
 -- the condition for each number below n
 abbrev pub for_each : ℕ → (ℕ → Type 0) → List (Type 0)

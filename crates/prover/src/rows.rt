@@ -67,23 +67,7 @@ fn entries_sum(p: u32, entries: &[u32], rows: &[u32], z: &[u32]) -> u32
     sum
 }
 
-// The three σ_M = ẑ_M(α), for every ẑ whose values on C are z. The rows have their Lagrange values at α.
-pub fn sums_from(p: u32, rows: &[u32], ea: &[u32], eb: &[u32], ec: &[u32], z: &[u32]) -> Triple
-    requires p_nonzero { 0 < p }
-    requires each_within { EachWithin (length rows.now) (length z.now) ea.now eb.now ec.now }
-    ensures { (q : Prime) → Qualifies q → q.p ≡ p → (k : Circuit) → WellFormed p k
-        → k.matrices ≡ entry_lists ea.now eb.now ec.now → (α : Elem q)
-        → rows.now ≡ words (tabulate k.|R| (λ i. lagrange k.|R| (element k.|R| i) α))
-        → (ẑ : Poly q) → values_on k.|C| ẑ ≡ map of z.now → three result ≡ map_three word_of (sums k ẑ α) }
-{
-    Triple {
-        a: entries_sum(p, ea, rows, z),
-        b: entries_sum(p, eb, rows, z),
-        c: entries_sum(p, ec, rows, z),
-    }
-}
-
-// The same from α: the rows' Lagrange values are made first.
+// The three σ_M = ẑ_M(α), for every ẑ whose values on C are z: L of each row at α is computed once.
 pub fn sums_at(p: u32, r: u32, ea: &[u32], eb: &[u32], ec: &[u32], z: &[u32], alpha: u32) -> Triple
     requires lt_p { 1 < p }
     requires r_value { is_size r ≡ true }
@@ -95,5 +79,9 @@ pub fn sums_at(p: u32, r: u32, ea: &[u32], eb: &[u32], ec: &[u32], z: &[u32], al
     let n = r as usize;
     let mut rows = [0u32; 1024];
     domain::lagrange_values_into(p, alpha, &mut rows[..n]);
-    sums_from(p, &rows[..n], ea, eb, ec, z)
+    Triple {
+        a: entries_sum(p, ea, &rows[..n], z),
+        b: entries_sum(p, eb, &rows[..n], z),
+        c: entries_sum(p, ec, &rows[..n], z),
+    }
 }

@@ -43,9 +43,9 @@ pub laid : (bytes : List ℕ) → layout_refusal bytes ≡ none → Laid bytes
 unfolding layout_refusal starts_refusal
 laid bytes free =
     let s : Sizes = sizes_read bytes in
-    let sizes_row : Option Refusal = refuse 3 11 (six_size_tests s) in
+    let sizesRow : Option Refusal = refuse 3 11 (six_size_tests s) in
     let rows = first-none (end_row bytes ∷ trailer_row bytes ∷ []) free in
-    let trails = first-none (sizes_row ∷ starts_refusal bytes s ∷ []) (sym (trailer-rows bytes) ∙ rows.1.0) in
+    let trails = first-none (sizesRow ∷ starts_refusal bytes s ∷ []) (sym (trailer-rows bytes) ∙ rows.1.0) in
     let lasts = first-none (starts_row bytes s ∷ total_row bytes s ∷ []) trails.1.0 in
     record {
       long = end_long (length bytes) (trailer_word bytes 17) rows.0;

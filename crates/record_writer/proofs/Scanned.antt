@@ -18,10 +18,10 @@ pub record Scanned (p : ℕ) (before : List ℕ) (found : Option Refusal) (count
 pub scanned-none : (p : ℕ) → Scanned p [] none 0
 scanned-none p = record { all = refl; same = refl }
 
-pub scanned-more : {p : ℕ} {before : List ℕ} {o : Option Refusal} {n : ℕ} → Scanned p before o n →
+pub scanned_more : {p : ℕ} {before : List ℕ} {o : Option Refusal} {n : ℕ} → Scanned p before o n →
     (ws : List ℕ) {found : Option Refusal} {count : ℕ}
     → count ≡ n + length ws → found ≡ first (o ∷ refuse_words p n ws ∷ []) → Scanned p (before ++ ws) found count
-scanned-more {p} {before} {o} {n} s ws {found} {count} counted e =
+scanned_more {p} {before} {o} {n} s ws {found} {count} counted e =
     let place : n ≡ 0 + length before = omega (arith, s.all) in
     record {
       all = omega (arith, counted, s.all, length-append before ws);

@@ -29,5 +29,5 @@ module _ {T : Type 0} (f : Fault) {o : Option Refusal} (says : fault_refusal f �
       go fault.Fine s e = let z : ◌≡◌ {A = ℕ} 0 1 = cc in absurd (omega arith)
       go (fault.Refused number position) s e = lent_refuses result before (record { number = number; position = position }) e
 
-  pub lent-filled : {after : T} → is_fine f ≡ true → after ≡ result → LentAnswer (judged o result) none before after
-  lent-filled fine e = lent-fills result before (sym (fine_none f says fine)) e
+  pub lent_filled : {after : T} → is_fine f ≡ true → after ≡ result → LentAnswer (judged o result) none before after
+  lent_filled fine e = lent-fills result before (sym (fine_none f says fine)) e

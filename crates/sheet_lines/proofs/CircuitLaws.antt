@@ -109,13 +109,13 @@ module _ (text : List ℕ) (start end : ℕ) (e : LineEnd text start end) (f : F
   pub wrong_later : (n : ℕ) → is_wrong f ≡ false → wrong (n + 1) rest ≡ wrong n (map line_of (lines_of (drop start text)))
   wrong_later n t = sym (not-wrong n f rest t) ∙ sym (ap (wrong n) lines-found)
 
-  pub one_line-more : (gs : List Given)
+  pub one_line_more : (gs : List Given)
       → (gs ++ circuits (found_line f ∷ [])) ++ circuits rest ≡ gs ++ circuits (map line_of (lines_of (drop start text)))
-  one_line-more gs =
+  one_line_more gs =
       append_assoc gs (circuits (found_line f ∷ [])) (circuits rest)
       ∙ ap (λ l. gs ++ l) (sym (circuits-after (found_line f) rest) ∙ sym (ap circuits lines-found))
 
 -- no line is left
-pub no_more-lines : (text : List ℕ) (start : ℕ) → length text ≤ start → map line_of (lines_of (drop start text)) ≡ []
+pub no_more_lines : (text : List ℕ) (start : ℕ) → length text ≤ start → map line_of (lines_of (drop start text)) ≡ []
 unfolding lines_of
-no_more-lines text start past = ap (λ l. map line_of (lines_of l)) (drop_of_length-le text past)
+no_more_lines text start past = ap (λ l. map line_of (lines_of l)) (drop_of_length-le text past)

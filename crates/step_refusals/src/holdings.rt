@@ -24,13 +24,13 @@ pub fn transcript_words(t: Transcript) -> [u32; 15]
     ]
 }
 
-pub fn all_below(p: u32, words: &[u32]) -> bool
+fn all_below(p: u32, words: &[u32]) -> bool
     ensures { result ≡ all (map (λ w. ltb w p) words.now) }
 {
     is_fine(judge_words(p, 0, words))
 }
 
-pub fn all_zero(words: &[u32]) -> bool
+fn all_zero(words: &[u32]) -> bool
     ensures { result ≡ all (map (λ w. eqb w 0) words.now) }
 {
     let mut i = 0;
@@ -59,7 +59,7 @@ fn public_fits(p: u32, n: u32, x: &[u32]) -> bool
 }
 
 // The transcript holds field words, with α outside R, β outside C and γ outside K.
-pub fn transcript_fits(p: u32, s: Sizes, t: Transcript) -> bool
+fn transcript_fits(p: u32, s: Sizes, t: Transcript) -> bool
     requires lt_p { 1 < p }
     requires s_value { all (six_size_tests (sizes s)) ≡ true }
     ensures { (q : Prime) → Qualifies q → q.p ≡ p → result ≡ transcript_fits q (sizes s) (transcript t) }

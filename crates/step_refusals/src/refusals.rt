@@ -20,7 +20,7 @@ use shared::six_sizes::{judge_sizes, largest};
 use shared::{Fault, Opened, Sizes, Transcript, Triple, is_fine};
 
 // The step after the first n is in turn.
-pub fn in_turn(n: u32, stage: u32, s: Sizes) -> bool
+fn in_turn(n: u32, stage: u32, s: Sizes) -> bool
     ensures { result ≡ in_turn n stage (sizes s) }
 {
     if stage != n {
@@ -57,7 +57,7 @@ fn judge_lengths(declared: &[u32], most: &[usize]) -> Fault
 
 // 1, 6, 10 and 11 of a step with a challenge, the one after the first `taken`: it is out of turn; y is no field word, or lies in the domain
 // of size n; a declared length is above the table's.
-pub fn judge_challenge(
+fn judge_challenge(
     p: u32,
     taken: u32,
     stage: u32,

@@ -85,9 +85,9 @@ pub written_as : {b c s t : List ℕ} {at place : ℕ} → s ≡ t → Written b
 written_as {b} {c} {s} {t} {at} {place} e w = rw e at w
 
 -- one byte more of a text
-pub written-more : {b c : List ℕ} (t : List ℕ) (at i : ℕ) → i < length t → Written b at (take i t) (at + i) c → at + i < length c
+pub written_more : {b c : List ℕ} (t : List ℕ) (at i : ℕ) → i < length t → Written b at (take i t) (at + i) c → at + i < length c
     → Written b at (take (i + 1) t) (at + (i + 1)) (set c (at + i) (get_or t i 0))
-written-more {b} {c} t at i h before room =
+written_more {b} {c} t at i h before room =
     let more : take i t ++ (get_or t i 0 ∷ []) ≡ take (i + 1) t = sym (ap (λ n. take n t) (add-one i) ∙ take-suc t i 0 h) in
     let w = written_then before (written_byte c (at + i) (get_or t i 0) room) in
     let e : at + i + 1 ≡ at + (i + 1) = omega arith in

@@ -1,31 +1,30 @@
 -- Words that the code computes on the way to a coset and back: running powers, the shift that it uses, and what products of values and
 -- differences of remainders stand for. Assumes nothing.
-use mathlib.Core.Path.{◌≡◌, refl, sym, ap, ap₂, ◌∙◌, subst⁻¹}
+use mathlib.Core.Path.{◌≡◌, sym, ap, ap₂, ◌∙◌, subst⁻¹}
 use mathlib.Core.Logic.{◌≢◌}
 use mathlib.Core.Bool.{true, not}
-use mathlib.Core.List.{List, [], ◌∷◌, map}
-use Prim.Native.Nat.{ℕ, zero, suc, ◌+◌, ◌-◌, ◌≤◌, ◌<◌}
+use mathlib.Core.List.{List, map}
+use Prim.Native.Nat.{ℕ, ◌+◌, ◌-◌, ◌≤◌, ◌<◌}
 use native.Mathlib.Omega.{arith}
 use native.Mathlib.Numerals.{add-one}
 use lib.Dec.{T, T_not, eqb, lit<}
-use lib.ListN.{length, get_or, take, length-replicate}
+use lib.ListN.{length, get_or}
 use borrow.Author.Tests.{eq-eqb}
 use Rattle.algebra.specs.Lists.{tabulate}
 use Rattle.algebra.specs.Ring.{pow}
 use Rattle.algebra.specs.Polynomial.{twist}
 use Rattle.algebra.proofs.RingLaws.{sub_zero→eq, one_mul}
-use Rattle.algebra.proofs.Division.{length-quotient, length-remainder}
-use Rattle.algebra.proofs.PolynomialLaws.{length-tabulate, get_d_tabulate, eval_add, eval_mul}
-use Rattle.algebra.proofs.TwistLaws.{eval-twist}
+use Rattle.algebra.proofs.Division.{length-quotient}
+use Rattle.algebra.proofs.PolynomialLaws.{length-tabulate, get_d_tabulate}
 use Rattle.field.specs.Prime.{Prime}
-use Rattle.field.specs.Element.{Elem, of, 𝟘, 𝟙, ◌⊕◌, ◌⊗◌, ◌⊖◌, words}
+use Rattle.field.specs.Element.{Elem, of, 𝟘, 𝟙, ◌⊗◌, ◌⊖◌, words}
 use Rattle.field.specs.Power.{power, reciprocal, ◌⊘◌, field_computes}
-use Rattle.field.proofs.ElementLaws.{prime_ring, add_comm, mul_comm, of-not-zero}
+use Rattle.field.proofs.ElementLaws.{prime_ring, mul_comm, of-not-zero}
 use Rattle.field.proofs.Field.{power-is-pow}
 use Rattle.field.proofs.Words.{of-result, of_results, nonzero_by_value}
 use Rattle.domain.specs.Size.{is_size, max_size}
-use Rattle.domain.specs.Domain.{element, vanishing}
-use Rattle.domain.specs.Polynomial.{Poly, eval, ◌⊞◌, ◌⊠◌, quotient, remainder, values_on, interpolate}
+use Rattle.domain.specs.Domain.{vanishing}
+use Rattle.domain.specs.Polynomial.{Poly, ◌⊠◌, quotient, remainder, values_on, interpolate}
 use Rattle.domain.specs.Qualifies.{Qualifies}
 use Rattle.domain.specs.Known.{Known, KnownPrime, OutsideDomain}
 use Rattle.domain.specs.BabyBear.{baby_bear}
@@ -33,11 +32,9 @@ use Rattle.domain.proofs.ListLaws.{equal-entries}
 use Rattle.domain.proofs.SizeLaws.{power-is_size, size_positive, size_bound}
 use Rattle.domain.proofs.DomainLaws.{vanishing-outside, outside-vanishing, outside_subgroup}
 use Rattle.domain.proofs.Qualification.{one_word, baby_bear-qualifies}
-use Rattle.domain.proofs.Products.{eval-remainder}
-use Rattle.domain.proofs.Interpolation.{length-values_on, getD_values_on, interpolate-unique}
-use Rattle.poly.proofs.LentParts.{array, returned, back_is, back_length}
-use Rattle.poly.proofs.WordLists.{element-at, of-zeros, replicate-at}
-use Rattle.transform.specs.Product.{Shift, OnBoth, shifted}
+use Rattle.domain.proofs.Products.{product-remainder}
+use Rattle.poly.proofs.WordLists.{element-at}
+use Rattle.transform.specs.Product.{Shift}
 use Rattle.transform.proofs.CosetLaws.{coset_quotient}
 
 -- the next power from the last one
@@ -88,21 +85,25 @@ shift_not-zero k q e =
 pub reciprocal_word : (q : Prime) (a : ℕ) {r : ℕ} → r ≡ (𝟙 ⊘ of {q = q} a).word → r ≡ (reciprocal (of {q = q} a)).word
 reciprocal_word q a made = made ∙ ap (λ (x : Elem q). x.word) (one_mul (prime_ring q) (reciprocal (of a)))
 
-module _ {q : Prime} (Q : Qualifies q) (n : ℕ) (size : is_size n ≡ true) (t : Poly q) where
-  -- the remainder from values on the domain
-  pub remainder-of-values : interpolate n (values_on n t) ≡ remainder n t
-  remainder-of-values =
-      sym (interpolate-unique Q n size (remainder n t) (values_on n t) (length-remainder (prime_ring q) n t) (λ i l.
-      eval-remainder Q n size t i ∙ sym (getD_values_on n i t l)))
+module _ {q : Prime} (Q : Qualifies q) (n : ℕ) (size : is_size n ≡ true) (f g : Poly q) where
+  -- products of the words of values on the domain
+  pub product-words : (left right : List ℕ) → map of left ≡ values_on n f → map of right ≡ values_on n g
+      → interpolate n (tabulate n (λ i. of {q = q} (get_or left i 0) ⊗ of (get_or right i 0))) ≡ remainder n (f ⊠ g)
+  product-words left right of_left of_right =
+      product-remainder Q n size f g _ (λ i l.
+      get_d_tabulate n i (λ i. of {q = q} (get_or left i 0) ⊗ of (get_or right i 0)) 𝟘 l
+      ∙ ap₂ (λ (x y : Elem q). x ⊗ y)
+      (element-at left i ∙ ap (λ (vs : List (Elem q)). get_or vs i 𝟘) of_left)
+      (element-at right i ∙ ap (λ (vs : List (Elem q)). get_or vs i 𝟘) of_right))
 
   -- the quotient's words from those of the two remainders
-  pub quotient-words : (m s turn share v : ℕ) → Shift n (of {q = q} s) → length t ≡ m + n → m ≤ n → (plain turned : List ℕ)
-      → plain ≡ words (remainder n t) → turned ≡ words (remainder n (twist (prime_ring q) (of s) t))
+  pub quotient-words : (m s turn share v : ℕ) → Shift n (of {q = q} s) → length (f ⊠ g) ≡ m + n → m ≤ n → (plain turned : List ℕ)
+      → plain ≡ words (remainder n (f ⊠ g)) → turned ≡ words (remainder n (twist (prime_ring q) (of s) f ⊠ twist (prime_ring q) (of s) g))
       → turn ≡ (reciprocal (of {q = q} s)).word → v ≡ (vanishing n (of {q = q} s)).word → share ≡ (reciprocal (of {q = q} v)).word
-      → tabulate m (λ i. (pow (prime_ring q) (of turn) i ⊗ of (get_or turned i 0) ⊖ of (get_or plain i 0)) ⊗ of share) ≡ quotient n t
+      → tabulate m (λ i. (pow (prime_ring q) (of turn) i ⊗ of (get_or turned i 0) ⊖ of (get_or plain i 0)) ⊗ of share) ≡ quotient n (f ⊠ g)
   quotient-words m s turn share v shift long short plain turned is_plain is_turned is-turn is-v is_share =
       equal-entries 𝟘 _ _
-      (length-tabulate m rule ∙ sym (length-quotient (prime_ring q) n t (size_positive n size) ∙ rest))
+      (length-tabulate m rule ∙ sym (length-quotient (prime_ring q) n (f ⊠ g) (size_positive n size) ∙ rest))
       (λ i l.
       let below : i < m = omega (arith, length-tabulate m rule) in
       get_d_tabulate m i rule 𝟘 below
@@ -110,84 +111,14 @@ module _ {q : Prime} (Q : Qualifies q) (n : ℕ) (size : is_size n ≡ true) (t 
       (ap₂ (λ (x y : Elem q). x ⊖ y)
       (ap₂ (λ (x y : Elem q). pow (prime_ring q) x i ⊗ y) (of-result (reciprocal (of s)) is-turn)
       (element-at turned i
-      ∙ ap (λ (h : Poly q). get_or h i 𝟘) (of_results (remainder n (twist (prime_ring q) (of s) t)) is_turned)))
-      (element-at plain i ∙ ap (λ (h : Poly q). get_or h i 𝟘) (of_results (remainder n t) is_plain)))
+      ∙ ap (λ (h : Poly q). get_or h i 𝟘) (of_results (remainder n (twist (prime_ring q) (of s) f ⊠ twist (prime_ring q) (of s) g)) is_turned)))
+      (element-at plain i ∙ ap (λ (h : Poly q). get_or h i 𝟘) (of_results (remainder n (f ⊠ g)) is_plain)))
       (of-result (reciprocal (of v)) is_share ∙ ap reciprocal (of-result (vanishing n (of s)) is-v))
-      ∙ sym (coset_quotient Q n size (of s) t (omega arith) shift.not-zero
+      ∙ sym (coset_quotient Q n size (of s) f g (omega arith) shift.not-zero
       (vanishing-outside Q n size (of s) shift.outside) i (omega arith)))
     where
       rule : ℕ → Elem q
       rule i = (pow (prime_ring q) (of turn) i ⊗ of (get_or turned i 0) ⊖ of (get_or plain i 0)) ⊗ of share
 
-      rest : length t - n ≡ m
+      rest : length (f ⊠ g) - n ≡ m
       rest = omega arith
-
--- words that stand for the values of t + f·g on a domain, from words of those of t, f and g there
-pub sum-of-values : {q : Prime} (n : ℕ) (t f g : Poly q) (before left right : List ℕ)
-    → map of before ≡ values_on n t → map of left ≡ values_on n f → map of right ≡ values_on n g
-    → tabulate n (λ i. of {q = q} (get_or left i 0) ⊗ of (get_or right i 0) ⊕ of (get_or before i 0)) ≡ values_on n (t ⊞ f ⊠ g)
-sum-of-values {q} n t f g before left right of-before of_left of_right =
-    equal-entries 𝟘 _ _ (length-tabulate n rule ∙ sym (length-values_on n (t ⊞ f ⊠ g))) (λ i l.
-    let below : i < n = omega (arith, length-tabulate n rule) in
-    let x : Elem q = element n i in
-    get_d_tabulate n i rule 𝟘 below
-    ∙ ap₂ (λ (y z : Elem q). y ⊕ z)
-    (ap₂ (λ (y z : Elem q). y ⊗ z) (value left f of_left i below) (value right g of_right i below)
-    ∙ sym (eval_mul (prime_ring q) f g x))
-    (value before t of-before i below)
-    ∙ add_comm (eval (f ⊠ g) x) (eval t x)
-    ∙ sym (eval_add (prime_ring q) t (f ⊠ g) x)
-    ∙ sym (getD_values_on n i (t ⊞ f ⊠ g) below))
-  where
-    rule : ℕ → Elem q
-    rule i = of (get_or left i 0) ⊗ of (get_or right i 0) ⊕ of (get_or before i 0)
-
-    value : (l : List ℕ) (h : Poly q) → map of l ≡ values_on n h → (i : ℕ) → i < n → of (get_or l i 0) ≡ eval h (element n i)
-    value l h of-l i below = element-at l i ∙ ap (λ (vs : List (Elem q)). get_or vs i 𝟘) of-l ∙ getD_values_on n i h below
-
--- (t + f·g)(s·Y) has on a domain the values of t(s·Y) + f(s·Y)·g(s·Y)
-pub twisted_sum : {q : Prime} (n : ℕ) (s : Elem q) (t f g : Poly q)
-    → values_on n (twist (prime_ring q) s t ⊞ twist (prime_ring q) s f ⊠ twist (prime_ring q) s g)
-    ≡ values_on n (twist (prime_ring q) s (t ⊞ f ⊠ g))
-twisted_sum {q} n s t f g =
-    equal-entries 𝟘 _ _ (length-values_on n _ ∙ sym (length-values_on n _)) (λ i l.
-    let below : i < n = omega (arith, length-values_on n (turn t ⊞ turn f ⊠ turn g)) in
-    let x : Elem q = element n i in
-    getD_values_on n i (turn t ⊞ turn f ⊠ turn g) below
-    ∙ eval_add (prime_ring q) (turn t) (turn f ⊠ turn g) x
-    ∙ ap₂ (λ (y z : Elem q). y ⊕ z) (eval-twist (prime_ring q) s t x)
-    (eval_mul (prime_ring q) (turn f) (turn g) x
-    ∙ ap₂ (λ (y z : Elem q). y ⊗ z) (eval-twist (prime_ring q) s f x) (eval-twist (prime_ring q) s g x)
-    ∙ sym (eval_mul (prime_ring q) f g (s ⊗ x)))
-    ∙ sym (eval_add (prime_ring q) t (f ⊠ g) (s ⊗ x))
-    ∙ sym (eval-twist (prime_ring q) s (t ⊞ f ⊠ g) x)
-    ∙ sym (getD_values_on n i (turn (t ⊞ f ⊠ g)) below))
-  where
-    turn : Poly q → Poly q
-    turn = twist (prime_ring q) s
-
-zeros-front : (n s : ℕ) → n ≤ s → take n (array s) ≡ array n
-zeros-front zero s fits = refl
-zeros-front (suc n) (suc s) fits = ap (λ l. 0 ∷ l) (zeros-front n s (omega arith))
-zeros-front (suc n) zero fits = absurd (omega arith)
-
--- zeros are the values of the polynomial of length 0, on the domain and on the coset
-pub zeros_on_both : (q : Prime) (s : ℕ) {n : ℕ} → n ≤ s → OnBoth q n [] (take n (array s)) (take n (array s))
-zeros_on_both q s {n} fits = record { on_domain = zeros; on_coset = zeros }
-  where
-    zeros : map (of {q = q}) (take n (array s)) ≡ values_on n []
-    zeros =
-        ap (map of) (zeros-front n s fits) ∙ of-zeros n
-        ∙ equal-entries 𝟘 _ _ (length-replicate n 𝟘 ∙ sym (length-values_on n [])) (λ i l.
-        replicate-at 𝟘 n i ∙ sym (getD_values_on n i [] (omega (arith, length-replicate {A = Elem q} n 𝟘))))
-
--- values that a call left in the front of two arrays of s words
-pub on_both_lent : (q : Prime) (s : ℕ) {n : ℕ} (fits : n ≤ s) (t : Poly q) (l u : List ℕ) → length l ≡ length (take n (array s))
-    → length u ≡ length (take n (array s)) → OnBoth q n t l u
-    → OnBoth q (length (take n (returned s n l))) t (take n (returned s n l)) (take n (returned s n u))
-on_both_lent q s fits t l u l-kept u-kept both =
-    record {
-      on_domain = ap (map of) (back_is s fits l l-kept) ∙ both.on_domain ∙ ap (λ (k : ℕ). values_on k t) (back_length s fits l l-kept);
-      on_coset =
-          ap (map of) (back_is s fits u u-kept) ∙ both.on_coset ∙ ap (λ (k : ℕ). values_on k (shifted q t)) (back_length s fits l l-kept);
-    }

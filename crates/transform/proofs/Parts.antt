@@ -44,9 +44,9 @@ module _ {q : Prime} (factor : ℕ) (input : List ℕ) where
       omega (arith, mul-add step (i + i) 1, mul-add step i i, native.Mathlib.Nat.mul_one step, add-mul step step i) in
       ap (λ n. of factor ⊗ of (get_or input n 0)) e)
 
-  pub part-single : (w : Elem q) (from step : ℕ) → part 0 w from step ≡ (of factor ⊗ of (get_or input from 0)) ∷ []
+  pub part_single : (w : Elem q) (from step : ℕ) → part 0 w from step ≡ (of factor ⊗ of (get_or input from 0)) ∷ []
   unfolding transform
-  part-single w from step =
+  part_single w from step =
       let e : from + step * 0 ≡ from = omega (arith, mul-zero step) in
       ap (λ n. (of factor ⊗ of (get_or input n 0)) ∷ []) e
 

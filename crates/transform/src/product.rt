@@ -1,20 +1,20 @@
-// Products of two polynomials of length n, given by their values on the domain of size n, and sums of such products, divided by v_D = Y^n - 1:
-// the remainder from values on the domain, and the quotient from values on a coset typeof.s.D too, on which v_D is the constant s^n - 1. Here root
-// is g_n, and powers and quotients are the tables of transforms of length n: for coefficients where nothing else is said.
+// The product of two polynomials of length n, given by their values on the domain of size n, divided by v_D = Y^n - 1: its remainder from
+// values on the domain, and its quotient from values on a coset typeof.s.D too, on which v_D is the constant s^n - 1. Here root is g_n, and
+// powers and quotients are the tables of transforms of length n: for coefficients where nothing else is said.
 ghost use Rattle.std.specs.Prelude.{◌≡◌, true, ◌≢◌, map, ◌+◌, ◌≤◌, ◌<◌, length, get_or};
 ghost use Rattle.algebra.specs.Lists.{tabulate};
 ghost use Rattle.algebra.specs.Ring.{pow};
 ghost use Rattle.algebra.specs.Polynomial.{twist};
 ghost use Rattle.field.specs.Prime.{Prime};
-ghost use Rattle.field.specs.Element.{of, 𝟘, ◌⊕◌, ◌⊗◌, ◌⊖◌, words};
+ghost use Rattle.field.specs.Element.{of, 𝟘, ◌⊗◌, ◌⊖◌, words};
 ghost use Rattle.field.proofs.ElementLaws.{prime_ring};
 ghost use Rattle.domain.specs.Size.{is_size};
 ghost use Rattle.domain.specs.Domain.{root as rootOf};
-ghost use Rattle.domain.specs.Polynomial.{Poly, quotient, remainder, values_on};
+ghost use Rattle.domain.specs.Polynomial.{Poly, ◌⊠◌, quotient, remainder, values_on};
 ghost use Rattle.domain.specs.Qualifies.{Qualifies};
 ghost use Rattle.domain.specs.Known.{Known, Modulus, OutsideDomain};
 ghost use Rattle.transform.specs.Reading.{ValueTables, CoefficientTables};
-ghost use Rattle.transform.specs.Product.{Shift, OnBoth, Turned, ProductAdded, Divided, ProductDivided};
+ghost use Rattle.transform.specs.Product.{Shift, ProductDivided};
 
 use crate::{evaluate_with, fill_inverse_tables, fill_tables, interpolate_with};
 
@@ -35,6 +35,31 @@ pub fn products_into(p: u32, left: &[u32], right: &[u32], out: &mut [u32])
         out[i] = field::multiply(p, left[i], right[i]);
         i += 1;
     }
+}
+
+// The remainder of f·g by v_D into the slice, from the values of f and g.
+fn remainder_from(
+    p: u32,
+    powers: &[u32],
+    quotients: &[u32],
+    left: &[u32],
+    right: &[u32],
+    out: &mut [u32],
+)
+    requires lt_p { 1 < p }
+    requires out_value { is_size (length out.old) ≡ true }
+    requires left_len { (length left.now ≡ length out.old) × (length right.now ≡ length out.old) }
+    requires out_in_bounds { (length out.old ≤ length powers.now) × (length out.old ≤ length quotients.now) }
+    ensures { (q : Prime) → Qualifies q → q.p ≡ p
+        → CoefficientTables q (length out.old) powers.now quotients.now → (f g : Poly q)
+        → map of left.now ≡ values_on (length out.old) f
+        → map of right.now ≡ values_on (length out.old) g
+        → out.new ≡ words (remainder (length out.old) (f ⊠ g)) }
+{
+    let n = out.len();
+    let mut products = [0u32; 1024];
+    products_into(p, left, right, &mut products[..n]);
+    interpolate_with(p, powers, quotients, &products[..n], out);
 }
 
 // f(typeof.s.Y) into the slice.
@@ -68,6 +93,52 @@ fn coset_values_into(p: u32, powers: &[u32], quotients: &[u32], s: u32, f: &[u32
     evaluate_with(p, powers, quotients, &twisted[..n], out);
 }
 
+// The remainder of f(typeof.s.Y)·g(typeof.s.Y) by v_D into the slice.
+fn coset_remainder_into(
+    p: u32,
+    root: u32,
+    powers: &[u32],
+    quotients: &[u32],
+    s: u32,
+    f: &[u32],
+    g: &[u32],
+    out: &mut [u32],
+)
+    requires lt_p { 1 < p }
+    requires out_value { is_size (length out.old) ≡ true }
+    requires f_len { (length f.now ≡ length out.old) × (length g.now ≡ length out.old) }
+    requires out_in_bounds { (length out.old ≤ length powers.now) × (length out.old ≤ length quotients.now) }
+    ensures { (q : Prime) → Qualifies q → q.p ≡ p → root ≡ (rootOf {q = q} (length out.old)).word
+        → CoefficientTables q (length out.old) powers.now quotients.now
+        → out.new
+        ≡ words (remainder (length out.old)
+        (twist (prime_ring q) (of s) (map of f.now) ⊠ twist (prime_ring q) (of s) (map of g.now))) }
+{
+    let n = out.len();
+    let mut value_powers = [0u32; 1024];
+    let mut value_quotients = [0u32; 1024];
+    fill_tables(p, root, &mut value_powers[..n], &mut value_quotients[..n]);
+    let mut left = [0u32; 1024];
+    coset_values_into(
+        p,
+        &value_powers[..n],
+        &value_quotients[..n],
+        s,
+        f,
+        &mut left[..n],
+    );
+    let mut right = [0u32; 1024];
+    coset_values_into(
+        p,
+        &value_powers[..n],
+        &value_quotients[..n],
+        s,
+        g,
+        &mut right[..n],
+    );
+    remainder_from(p, powers, quotients, &left[..n], &right[..n], out);
+}
+
 // The i-th word of the second list times the i-th power of s, less that of the first, times the share.
 fn combine_into(p: u32, s: u32, share: u32, plain: &[u32], turned: &[u32], out: &mut [u32])
     requires lt_p { 1 < p }
@@ -87,149 +158,24 @@ fn combine_into(p: u32, s: u32, share: u32, plain: &[u32], turned: &[u32], out: 
     }
 }
 
-// The quotient of t by v_D from the remainders of t and of t(typeof.s.Y).
+// The quotient of f·g by v_D from its remainder there and on the coset.
 fn quotient_from(p: u32, n: u32, s: u32, plain: &[u32], turned: &[u32], out: &mut [u32])
     requires lt_p { 1 < p }
     requires n_value { is_size n ≡ true }
     requires outside_domain { OutsideDomain p n s × ((q : Prime) → q.p ≡ p → of {q = q} s ≢ 𝟘) }
     requires out_in_bounds { (length out.old ≤ length plain.now) × (length out.old ≤ length turned.now) }
     ensures { (q : Prime) → Qualifies q → q.p ≡ p → Shift n (of {q = q} s)
-        → (t : Poly q) → length t ≡ length out.old + n → length out.old ≤ n
-        → plain.now ≡ words (remainder n t)
-        → turned.now ≡ words (remainder n (twist (prime_ring q) (of s) t))
-        → out.new ≡ words (quotient n t) }
+        → (f g : Poly q) → length (f ⊠ g) ≡ length out.old + n → length out.old ≤ n
+        → plain.now ≡ words (remainder n (f ⊠ g))
+        → turned.now ≡ words (remainder n (twist (prime_ring q) (of s) f ⊠ twist (prime_ring q) (of s) g))
+        → out.new ≡ words (quotient n (f ⊠ g)) }
 {
     let share = field::divide(p, 1, domain::vanishing_value(p, n, s));
     let turn = field::divide(p, 1, s);
     combine_into(p, turn, share, plain, turned, out);
 }
 
-// Adds the products of the words at each place.
-fn add_products(p: u32, left: &[u32], right: &[u32], out: &mut [u32])
-    requires p_nonzero { 0 < p }
-    requires left_len { (length left.now ≡ length out.old) × (length right.now ≡ length out.old) }
-    ensures { (q : Prime) → q.p ≡ p
-        → out.new
-        ≡ words (tabulate (length out.old)
-        (λ i. of {q = q} (get_or left.now i 0) ⊗ of (get_or right.now i 0) ⊕ of (get_or out.old i 0))) }
-{
-    let mut i = 0;
-    while i < out.len() {
-        out[i] = field::multiply_add(p, left[i], right[i], out[i]);
-        i += 1;
-    }
-}
-
-// The coefficients of the polynomial with the given values on the domain, and its values on the coset. The tables are those for
-// coefficients, and then those for values.
-fn turn_into(
-    p: u32,
-    powers: &[u32],
-    quotients: &[u32],
-    valuePowers: &[u32],
-    valueQuotients: &[u32],
-    values: &[u32],
-    coefficients: &mut [u32],
-    out: &mut [u32],
-)
-    requires lt_p { 1 < p }
-    requires values_value { is_size (length values.now) ≡ true }
-    requires values_in_bounds { (length values.now ≤ length powers.now) × (length values.now ≤ length quotients.now) }
-    requires values_in_bounds_2 { (length values.now ≤ length valuePowers.now) × (length values.now ≤ length valueQuotients.now) }
-    requires coefficients_len { (length coefficients.old ≡ length values.now) × (length out.old ≡ length values.now) }
-    ensures { (q : Prime) → Qualifies q → q.p ≡ p
-        → CoefficientTables q (length values.now) powers.now quotients.now
-        → ValueTables q (length values.now) valuePowers.now valueQuotients.now
-        → Turned q values.now coefficients.new out.new }
-{
-    interpolate_with(p, powers, quotients, values, coefficients);
-    coset_values_into(p, valuePowers, valueQuotients, SHIFT, coefficients, out);
-}
-
-// Adds f·g to a polynomial that is given by its values on the domain and on the coset, where f and g are given by their values on the domain;
-// and the coefficients of f. The tables are those for coefficients, and then those for values.
-pub fn add_product(
-    p: u32,
-    powers: &[u32],
-    quotients: &[u32],
-    valuePowers: &[u32],
-    valueQuotients: &[u32],
-    left: &[u32],
-    right: &[u32],
-    factor: &mut [u32],
-    plain: &mut [u32],
-    turned: &mut [u32],
-)
-    requires lt_p { 1 < p }
-    requires left_value { is_size (length left.now) ≡ true }
-    requires left_in_bounds { (length left.now ≤ length powers.now) × (length left.now ≤ length quotients.now) }
-    requires left_in_bounds_2 { (length left.now ≤ length valuePowers.now) × (length left.now ≤ length valueQuotients.now) }
-    requires right_len { (length right.now ≡ length left.now) × (length factor.old ≡ length left.now) }
-    requires plain_len { (length plain.old ≡ length left.now) × (length turned.old ≡ length left.now) }
-    ensures { (q : Prime) → Qualifies q → q.p ≡ p
-        → CoefficientTables q (length left.now) powers.now quotients.now
-        → ValueTables q (length left.now) valuePowers.now valueQuotients.now
-        → (t : Poly q) → OnBoth q (length left.now) t plain.old turned.old
-        → ProductAdded q t left.now right.now factor.new plain.new turned.new }
-{
-    let n = left.len();
-    let mut first = [0u32; 1024];
-    turn_into(
-        p,
-        powers,
-        quotients,
-        valuePowers,
-        valueQuotients,
-        left,
-        factor,
-        &mut first[..n],
-    );
-    let mut other = [0u32; 1024];
-    let mut second = [0u32; 1024];
-    turn_into(
-        p,
-        powers,
-        quotients,
-        valuePowers,
-        valueQuotients,
-        right,
-        &mut other[..n],
-        &mut second[..n],
-    );
-    add_products(p, left, right, plain);
-    add_products(p, &first[..n], &second[..n], turned);
-}
-
-// The remainder (n words) and the quotient (n - 1 words) by v_D of a polynomial of length 2n - 1, which is given by its values on the domain and
-// on the coset.
-pub fn divide_values_into(
-    p: u32,
-    powers: &[u32],
-    quotients: &[u32],
-    plain: &[u32],
-    turned: &[u32],
-    rest: &mut [u32],
-    out: &mut [u32],
-)
-    requires modulus { Modulus p }
-    requires plain_value { is_size (length plain.now) ≡ true }
-    requires plain_in_bounds { (length plain.now ≤ length powers.now) × (length plain.now ≤ length quotients.now) }
-    requires turned_len { (length turned.now ≡ length plain.now) × (length rest.old ≡ length plain.now) }
-    requires out_len { length out.old + 1 ≡ length plain.now }
-    ensures { (q : Prime) → Known q p
-        → CoefficientTables q (length plain.now) powers.now quotients.now
-        → (t : Poly q) → length t ≡ length out.old + length plain.now
-        → OnBoth q (length plain.now) t plain.now turned.now
-        → Divided q (length plain.now) t rest.new out.new }
-{
-    let n = plain.len();
-    interpolate_with(p, powers, quotients, plain, rest);
-    let mut other = [0u32; 1024];
-    interpolate_with(p, powers, quotients, turned, &mut other[..n]);
-    quotient_from(p, n as u32, SHIFT, rest, &other[..n], out);
-}
-
-// The work of the call below, with the tables for coefficients made.
+// The work of the call below, with the tables made.
 fn divide_with(
     p: u32,
     root: u32,
@@ -251,24 +197,22 @@ fn divide_with(
         → ProductDivided q left.now right.now factor.new rest.new out.new }
 {
     let n = left.len();
-    let mut value_powers = [0u32; 1024];
-    let mut value_quotients = [0u32; 1024];
-    fill_tables(p, root, &mut value_powers[..n], &mut value_quotients[..n]);
-    let mut plain = [0u32; 1024];
+    interpolate_with(p, powers, quotients, left, factor);
+    let mut other = [0u32; 1024];
+    interpolate_with(p, powers, quotients, right, &mut other[..n]);
+    remainder_from(p, powers, quotients, left, right, rest);
     let mut turned = [0u32; 1024];
-    add_product(
+    coset_remainder_into(
         p,
+        root,
         powers,
         quotients,
-        &value_powers[..n],
-        &value_quotients[..n],
-        left,
-        right,
+        SHIFT,
         factor,
-        &mut plain[..n],
+        &other[..n],
         &mut turned[..n],
     );
-    divide_values_into(p, powers, quotients, &plain[..n], &turned[..n], rest, out);
+    quotient_from(p, n as u32, SHIFT, rest, &turned[..n], out);
 }
 
 // With f and g given by their values on the domain of size n: the n coefficients of f, and the remainder (n words) and the quotient

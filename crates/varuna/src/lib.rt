@@ -2,8 +2,6 @@
 // refusal of document 01's table that applies, and a refusal changes no lent slice and no session. docs/CALLS.md lists them.
 pub mod answers;
 pub mod arithmetic;
-pub mod batch;
-pub mod batch_session;
 pub mod blinder;
 pub mod circuits;
 pub mod indexer;

@@ -3,8 +3,6 @@
 // sets the position; a refusal changes no other memory, but for the verdict, which refused openings set to 0, none. A slice is a
 // pointer and a length, an array and a number a pointer.
 pub mod arithmetic;
-pub mod batch;
-pub mod batch_session;
 pub mod blinder;
 pub mod circuits;
 pub mod indexer;

@@ -1,2 +1,1 @@
 pub mod SharedInverse
-pub mod FoundTests

@@ -1,17 +1,17 @@
 // The three checks and the verdict. Any words are taken: a word of p or more stands for its remainder. No loop runs over R, C or K.
 // A check's contract is for every x, and for all openings of the index polynomials, where the check reads none.
 ghost use Rattle.std.specs.Prelude.{◌≡◌, true, List, map, ℕ, ◌<◌, length};
-ghost use Rattle.algebra.specs.Lists.{tabulate};
 ghost use Rattle.field.specs.Prime.{Prime};
-ghost use Rattle.field.specs.Element.{Elem, of, words, ◌⊗◌, equal};
+ghost use Rattle.field.specs.Element.{Elem, of, ◌⊗◌};
 ghost use Rattle.domain.specs.Size.{is_size};
-ghost use Rattle.domain.specs.Domain.{vanishing, element, lagrange};
+ghost use Rattle.domain.specs.Domain.{vanishing};
+ghost use Rattle.domain.specs.Polynomial.{eval, interpolate};
 ghost use Rattle.domain.specs.Qualifies.{Qualifies};
-ghost use Rattle.domain.specs.Known.{Known, OutsideDomain};
+ghost use Rattle.domain.specs.Known.{Known, Modulus, OutsideDomain};
 ghost use Rattle.protocol.specs.Three.{MatrixName, at, each, map_three};
 ghost use Rattle.protocol.specs.Circuit.{Sizes as SixSizes, largest as largestSize};
 ghost use Rattle.protocol.specs.Index.{map_index};
-ghost use Rattle.protocol.specs.Checks.{map_transcript, map_openings, row_left, weighted, assignment_value, line_left, line_right};
+ghost use Rattle.protocol.specs.Checks.{map_transcript, map_openings, weighted, assignment_value, line_right};
 ghost use Rattle.protocol.specs.Checks.{denominator_value, matrix_left, Row, Line, Matrix, passes};
 ghost use Rattle.protocol.specs.Checks as checks;
 ghost use Rattle.protocol.specs.Refusals.{six_size_tests};
@@ -25,14 +25,6 @@ use shared::{Check, Opened, Sizes, Transcript, Triple, Verdict};
 // The most public words.
 const MAX_WORDS: usize = 1024;
 
-// σ_A σ_B - σ_C.
-pub fn row_left(p: u32, sums: Triple) -> u32
-    requires { 1 < p }
-    ensures { (q : Prime) → q.p ≡ p → result ≡ (row_left (map_three (of {q = q}) (three sums))).word }
-{
-    field::subtract(p, field::multiply(p, sums.a, sums.b), sums.c)
-}
-
 // Row: σ_A σ_B - σ_C = h0(α) v_R(α), with rows = v_R(α).
 fn row_holds(p: u32, t: Transcript, o: Opened, rows: u32) -> bool
     requires { 1 < p }
@@ -40,11 +32,13 @@ fn row_holds(p: u32, t: Transcript, o: Opened, rows: u32) -> bool
         → rows ≡ (vanishing s.|R| (of {q = q} t.alpha)).word
         → result ≡ passes s x (map_transcript of (transcript t)) (map_openings of (openings o index)) Row }
 {
-    row_left(p, t.sums) == field::multiply(p, o.row_quotient, rows)
+    let sums = t.sums;
+    let left = field::subtract(p, field::multiply(p, sums.a, sums.b), sums.c);
+    left == field::multiply(p, o.row_quotient, rows)
 }
 
 // Σ η_M v_M.
-pub fn weighted_sum(p: u32, eta: Triple, v: Triple) -> u32
+fn weighted_sum(p: u32, eta: Triple, v: Triple) -> u32
     requires { 1 < p }
     ensures { (q : Prime) → q.p ≡ p → result ≡ (weighted (map_three (of {q = q}) (three eta)) (map_three of (three v))).word }
 {
@@ -54,32 +48,30 @@ pub fn weighted_sum(p: u32, eta: Triple, v: Triple) -> u32
     field::add(p, field::add(p, a, b), c)
 }
 
-// ẑ(β) = ŵ(β) v_X(β) + x̂(β), where x̂(β) is the sum of x_i L_i(β) over X, with weights = the L_i(β) and public = v_X(β).
-pub fn assignment_from(p: u32, weights: &[u32], public: u32, x: &[u32], witness: u32) -> u32
-    requires lt_p { 1 < p }
-    requires x_len { length x.now ≡ length weights.now }
-    ensures { (q : Prime) → Qualifies q → q.p ≡ p → (s : SixSizes) → is_size s.|X| ≡ true → (β : Elem q)
-        → weights.now ≡ words (tabulate s.|X| (λ i. lagrange s.|X| (element s.|X| i) β))
-        → public ≡ (vanishing s.|X| β).word
-        → result ≡ (assignment_value s (map of x.now) β (of witness)).word }
+// x̂(y), the sum of x_i L_i(y) over X.
+fn public_value(p: u32, n: u32, x: &[u32], y: u32) -> u32
+    requires modulus { Modulus p }
+    requires n_value { is_size n ≡ true }
+    requires x_len { length x.now ≡ n }
+    ensures { (q : Prime) → Known q p → Qualifies q → result ≡ (eval (interpolate n (map (of {q = q}) x.now)) (of y)).word }
 {
-    let interpolated = domain::interpolated_at(p, weights, x);
-    field::multiply_add(p, witness, public, interpolated)
+    let mut weights = [0u32; MAX_WORDS];
+    let count = n as usize;
+    domain::lagrange_values_into(p, y, &mut weights[..count]);
+    domain::interpolated_at(p, &weights[..count], x)
 }
 
-// The same, from β.
+// ẑ(β) = ŵ(β) v_X(β) + x̂(β).
 fn assignment_value(p: u32, s: Sizes, x: &[u32], beta: u32, witness: u32) -> u32
-    requires lt_p { 1 < p }
+    requires modulus { Modulus p }
     requires x_value { is_size s.x ≡ true }
     requires x_len { length x.now ≡ s.x }
     ensures { (q : Prime) → Known q p → Qualifies q
         → result ≡ (assignment_value (sizes s) (map (of {q = q}) x.now) (of beta) (of witness)).word }
 {
-    let mut weights = [0u32; MAX_WORDS];
-    let count = s.x as usize;
-    domain::lagrange_values_into(p, beta, &mut weights[..count]);
-    let public = domain::vanishing_value(p, s.x, beta);
-    assignment_from(p, &weights[..count], public, x, witness)
+    let vanishing = domain::vanishing_value(p, s.x, beta);
+    let public = public_value(p, s.x, x, beta);
+    field::add(p, field::multiply(p, witness, vanishing), public)
 }
 
 // h1(β) v_C(β) + β g1(β) + σ/|C|, with columns = v_C(β).
@@ -102,24 +94,20 @@ fn line_right(
     field::add(p, field::multiply_add(p, quotient, columns, rest), mean)
 }
 
-// Line: m(β) + (Σ η_M ω_M) ẑ(β) = h1(β) v_C(β) + β g1(β) + σ/|C|, with columns = v_C(β), z = ẑ(β) and sum = σ.
-pub fn line_holds_with(
-    p: u32,
-    s: Sizes,
-    t: Transcript,
-    o: Opened,
-    z: u32,
-    sum: u32,
-    columns: u32,
-) -> bool
-    requires lt_p { 1 < p }
+// Line: m(β) + (Σ η_M ω_M) ẑ(β) = h1(β) v_C(β) + β g1(β) + σ/|C|, with columns = v_C(β).
+fn line_holds(p: u32, s: Sizes, x: &[u32], t: Transcript, o: Opened, columns: u32) -> bool
+    requires modulus { Modulus p }
+    requires x_value { is_size s.x ≡ true }
+    requires x_len { length x.now ≡ s.x }
     requires c_value { is_size s.c ≡ true }
-    ensures { (q : Prime) → Qualifies q → q.p ≡ p → columns ≡ (vanishing s.c (of {q = q} t.beta)).word
-        → result ≡ equal
-        (line_left (map_three of (three t.eta)) (map_three of (three t.values)) (of o.mask) (of z))
-        (line_right (sizes s) (of {q = q} t.beta) (of sum) (of o.line_remainder) (of o.line_quotient)) }
+    ensures { (q : Prime) → Known q p → Qualifies q → (index : List (List ℕ))
+        → columns ≡ (vanishing s.c (of {q = q} t.beta)).word
+        → result ≡ passes (sizes s) (map (of {q = q}) x.now) (map_transcript of (transcript t)) (map_openings of (openings o index)) Line }
 {
-    let values = weighted_sum(p, t.eta, t.values);
+    let eta = t.eta;
+    let values = weighted_sum(p, eta, t.values);
+    let sum = weighted_sum(p, eta, t.sums);
+    let z = assignment_value(p, s, x, t.beta, o.witness);
     let left = field::add(p, o.mask, field::multiply(p, values, z));
     left == line_right(
         p,
@@ -130,21 +118,6 @@ pub fn line_holds_with(
         o.line_quotient,
         columns,
     )
-}
-
-// The same from x and the transcript.
-fn line_holds(p: u32, s: Sizes, x: &[u32], t: Transcript, o: Opened, columns: u32) -> bool
-    requires lt_p { 1 < p }
-    requires x_value { is_size s.x ≡ true }
-    requires x_len { length x.now ≡ s.x }
-    requires c_value { is_size s.c ≡ true }
-    ensures { (q : Prime) → Known q p → Qualifies q → (index : List (List ℕ))
-        → columns ≡ (vanishing s.c (of {q = q} t.beta)).word
-        → result ≡ passes (sizes s) (map (of {q = q}) x.now) (map_transcript of (transcript t)) (map_openings of (openings o index)) Line }
-{
-    let sum = weighted_sum(p, t.eta, t.sums);
-    let z = assignment_value(p, s, x, t.beta, o.witness);
-    line_holds_with(p, s, t, o, z, sum, columns)
 }
 
 // b_M = |R||C|(αβ - α col_M - β row_M + rowcol_M).
@@ -242,7 +215,7 @@ fn matrix_term(
 }
 
 // Matrix: Σ δ_M s_M (a_M - b_M (γ g_M + ω_M/|K_M|)) = h2(γ) v_K(γ), with scale = v_R(α) v_C(β).
-pub fn matrix_holds(
+fn matrix_holds(
     p: u32,
     s: Sizes,
     t: Transcript,

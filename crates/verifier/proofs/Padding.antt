@@ -23,8 +23,8 @@ module _ (m : ℕ) (words : List ℕ) where
       let e : 0 + i ≡ i = omega arith in
       ap (λ k. take i words ++ drop k (replicate m 0)) e ∙ ap (λ l. take i words ++ l) (drop-replicate i m 0)
 
-  pub padded-more : (i : ℕ) → i < length words → i < m → set (Padded m words i) i (get_or words i 0) ≡ Padded m words (i + 1)
-  padded-more i in_words_lem below =
+  pub padded_more : (i : ℕ) → i < length words → i < m → set (Padded m words i) i (get_or words i 0) ≡ Padded m words (i + 1)
+  padded_more i in_words_lem below =
       let e : i ≡ 0 + i = omega arith in
       ap (λ l. set l i (get_or words i 0)) (sym (padded-paste i)) ∙ ap (λ k. set (paste (replicate m 0) 0 words i) k (get_or words i 0)) e
       ∙ paste-suc (replicate m 0) 0 words i 0 (omega (arith, length-replicate {A = ℕ} m 0)) in_words_lem ∙ ap (paste (replicate m 0) 0 words) (sym (add-one i))

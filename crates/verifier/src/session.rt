@@ -58,7 +58,7 @@ const X_START: usize = 7;
 const TRANSCRIPT_START: usize = 1031;
 
 // A transcript before anything is heard.
-pub fn nothing_heard() -> Transcript
+fn nothing_heard() -> Transcript
     ensures { transcript result ≡ blank }
 {
     let zeros = Triple { a: 0, b: 0, c: 0 };
@@ -88,7 +88,7 @@ fn padded(words: &[u32]) -> [u32; 1024]
 }
 
 // The source's words from a place on.
-pub fn put_words(out: &mut [u32], at: usize, source: &[u32])
+fn put_words(out: &mut [u32], at: usize, source: &[u32])
     requires { at + length source.now ≤ length out.old }
     ensures { out.new ≡ paste out.old at source.now (length source.now) }
 {

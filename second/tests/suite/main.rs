@@ -4,8 +4,6 @@
 //!     SEED=7 COUNT=100 cargo test --release         another seed, and the random part of each test a hundred times as long
 
 mod arithmetic;
-mod batch;
-mod batch_session;
 mod blinding;
 mod calls;
 mod case;

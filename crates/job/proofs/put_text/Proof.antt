@@ -1,7 +1,7 @@
 -- `job::put_text` meets its contract. Assumes nothing.
 use mathlib.Core.Path.{sym, ap, ◌∙◌}
 use lib.ListN.{length}
-use Rattle.poly.proofs.LentParts.{part_length, filled_within, filled-part, filled-length}
+use Rattle.poly.proofs.LentParts.{part_length, filled_within, filled_part, filled_length}
 use Rattle.text.proofs.WrittenLaws.{written_as}
 use Rattle.job.specs.Parts.{words_text}
 use Rattle.job.proofs.HeadLaws.{few_words, text_long, text_short, text_words}
@@ -50,14 +50,14 @@ slice-aggregate-put-words-text : tie.Need-slice-aggregate-put-words-text
 slice-aggregate-put-words-text c =
     let start = c.before.before.before.before.before.before.before.before in
     let call = c.before.before.words-into in
-    filled-length _ _ (few_words (length start.args.bytes.now) (search rules)) call.new.1.0 call.auto.1.0
+    filled_length _ _ (few_words (length start.args.bytes.now) (search rules)) call.new.1.0 call.auto.1.0
 
 put-words-text-requires : tie.Need-put-words-text-requires
 put-words-text-requires c κs =
     let at-words-into = c.before.before.before in
     let start = at-words-into.before.before.before.before.before.before in
     let call = at-words-into.words-into in
-    (sym (filled-length _ _ (few_words (length start.args.bytes.now) (search rules)) call.new.1.0 call.auto.1.0), (search rules, search rules))
+    (sym (filled_length _ _ (few_words (length start.args.bytes.now) (search rules)) call.new.1.0 call.auto.1.0), (search rules, search rules))
 
 same-length-3 : tie.Need-same-length-3
 same-length-3 c = search rules
@@ -66,7 +66,7 @@ returns-3 : tie.Need-returns-3
 returns-3 c =
     let bytes = c.before.before.before.before.before.before.before.before.before.before.before.before.args.bytes.now in
     let call = c.before.before.before.before.before.before.words-into in
-    let words = filled-part _ _ (few_words (length bytes) (search rules)) call.new.1.0 call.auto.1.0 ∙ call.ensures in
+    let words = filled_part _ _ (few_words (length bytes) (search rules)) call.new.1.0 call.auto.1.0 ∙ call.ensures in
     written_as (ap (words_text (length bytes)) words ∙ text_words bytes (search rules) (search rules)) c.before.before.put-words-text.ensures
 
 pub put-text-spec : {M : Type 1} → statement M

@@ -6,7 +6,7 @@ use lib.ListN.{length, length-append}
 use borrow.Author.Rules.{rules}
 use Rattle.text.specs.Decimal.{digit, decimal}
 use Rattle.text.proofs.WrittenLaws.{written_then, written-length, written_as}
-use Rattle.text.proofs.DecimalLaws.{decimal_digit, decimal-more}
+use Rattle.text.proofs.DecimalLaws.{decimal_digit, decimal_more}
 use Prim.Native.Nat.{ℕ, ◌/◌, ◌%◌, ◌<◌, ◌≤◌}
 use borrow.Fn.Kinds.{In}
 use borrow.Fn.PlainCycle.{Measures, is, falls, and}
@@ -88,7 +88,7 @@ put-decimal-put-decimal_requires t c κs =
     let s = c.before.before.before in
     let large : 10 ≤ s.args.n = search rules in (
       omega (arith, s.requires.0),
-      omega (arith, s.requires.1, ap length (decimal-more s.args.n large), length-append (decimal (s.args.n / 10)) (digit (s.args.n % 10) ∷ [])),
+      omega (arith, s.requires.1, ap length (decimal_more s.args.n large), length-append (decimal (s.args.n / 10)) (digit (s.args.n % 10) ∷ [])),
     )
 
 put-decimal-digit-code_requires_2 : (t : ℕ) → put-decimal-lts.Need-digit-code-requires-2 (
@@ -119,7 +119,7 @@ put-decimal-put_byte_requires_2 t c κs =
       s.requires.1,
       w.next,
       written-length w,
-      ap length (decimal-more s.args.n large),
+      ap length (decimal_more s.args.n large),
       length-append (decimal (s.args.n / 10)) (digit (s.args.n % 10) ∷ []),
     )
 
@@ -147,7 +147,7 @@ put-decimal_returns_2 t c =
     let s = d.before.before.before.before in
     let large : 10 ≤ s.args.n = search rules in
     let last = written_as (ap (λ d. d ∷ []) c.before.before.before.before.digit-code2.ensures) c.before.before.put-byte2.ensures in
-    written_as (sym (decimal-more s.args.n large)) (written_then d.put-decimal.ensures last)
+    written_as (sym (decimal_more s.args.n large)) (written_then d.put-decimal.ensures last)
 
 pub +put-decimal-spec : {M : Type 1} → statement M
 +put-decimal-spec = close μ_put-decimal λ t. put-decimal-lts.spec (

@@ -6,7 +6,7 @@ use lib.ListN.{length, take}
 use lib.Seq.{take_all}
 use borrow.Author.Rules.{rules}
 use Rattle.text.specs.Written.{Written}
-use Rattle.text.proofs.WrittenLaws.{written_none, written-more, written-length, written_as}
+use Rattle.text.proofs.WrittenLaws.{written_none, written_more, written-length, written_as}
 use Rattle.text.proofs.put_bytes.Statement.{statement}
 use Rattle.text.proofs.put_bytes.Tie as tie
 
@@ -41,7 +41,7 @@ loop-again : tie.Need-loop-preserved invariant-loop decreases-loop
 loop-again c =
     let l = c.before.before.loop in
     let a = c.before.before.before.args in
-    (search rules, written-more a.text.now a.at l.i (search rules) l.invariant.1 (omega (arith, written-length l.invariant.1)))
+    (search rules, written_more a.text.now a.at l.i (search rules) l.invariant.1 (omega (arith, written-length l.invariant.1)))
 
 add-result : tie.Need-overflow-add-result invariant-loop decreases-loop
 add-result c = search rules

@@ -15,7 +15,7 @@ use Rattle.field.proofs.multiply.Reads as multiply-reads
 use Rattle.domain.specs.Size.{is_size}
 use Rattle.transform.specs.Reading.{Levels}
 use Rattle.transform.proofs.Halves.{Halved, halved, exponent_none, exponent_less, one_set, second-length, both_halves}
-use Rattle.transform.proofs.Parts.{part, part-single, halves_joined}
+use Rattle.transform.proofs.Parts.{part, part_single, halves_joined}
 use Rattle.transform.proofs.join.Reads as join-reads
 use Rattle.transform.proofs.transform.Reads as transform
 use Rattle.transform.proofs.transform.Kinds as transform-kinds
@@ -116,7 +116,7 @@ module _ (t : ℕ) where
       let one : length a.out.now ≡ 1 = c.before.before.if1.true in
       one_set a.out.now c.multiply.result one
       ∙ ap (λ (word : ℕ). word ∷ []) (c.multiply.ensures q e)
-      ∙ ap words (sym (part-single a.factor a.input.now w a.from a.step))
+      ∙ ap words (sym (part_single a.factor a.input.now w a.from a.step))
       ∙ ap (λ (j : ℕ). words (part a.factor a.input.now j w a.from a.step)) (sym (exponent_none k (sym size ∙ one)))
 
   add_twice : lts.Need-overflow-add-twice (claims t) (at t) transform.Post

@@ -13,7 +13,7 @@ use Rattle.algebra.proofs.RingLaws.{one_mul}
 use Rattle.field.specs.Prime.{Prime}
 use Rattle.field.specs.Element.{Elem, 𝟘, ◌⊕◌, ◌⊗◌, ◌⊖◌, words}
 use Rattle.field.proofs.ElementLaws.{prime_ring}
-use Rattle.field.proofs.Words.{result-below, result-product, result-sum, result-difference}
+use Rattle.field.proofs.Words.{result-below, result-product, result-sum, result_difference}
 use Rattle.domain.proofs.Fill.{length-words, word-at, length_rule_words, rule_word-at}
 use Rattle.transform.specs.Reading.{LevelOf, Prepared}
 use Rattle.transform.proofs.FilledHalves.{halves, halves_none, halves_all, even_at, odd_at, halves_turn}
@@ -226,7 +226,7 @@ loop-again c =
           let minus = c.subtract-reduced2 in
           ap (λ (r : List ℕ). set (set r i plus.result) (h + i) minus.result) before
           ∙ turned h w es os even-length odd-length i below plus.result minus.result
-          (result-sum e x y even product (plus.ensures q e)) (result-difference e x y even product (minus.ensures q e)),
+          (result-sum e x y even product (plus.ensures q e)) (result_difference e x y even product (minus.ensures q e)),
     )
 
 same_length : tie.Need-same-length invariant-loop decreases-loop
@@ -248,7 +248,7 @@ returns c q e small w level prepared es os even-length odd-length split =
     let one : set (set d 0 plus.result) h minus.result ≡ so_far w es os h 1 =
     ap (λ (r : List ℕ). set (set r 0 plus.result) h minus.result) split
     ∙ first_turned h w es os even-length odd-length some plus.result minus.result
-    (result-sum e x y even odd (plus.ensures q e)) (result-difference e x y even odd (minus.ensures q e)) in
+    (result-sum e x y even odd (plus.ensures q e)) (result_difference e x y even odd (minus.ensures q e)) in
     l.invariant.3 q e small w level prepared es os even-length odd-length one
     ∙ joined_words h w es os even-length odd-length l.i (omega arith)
 

@@ -58,8 +58,8 @@ module _ (c : tie.After-vanishing-value3) (q : Prime) (e : q.p ≡ c.before.befo
   b-some : b ≢ 𝟘
   b-some = not-zero start B _ q e c.before.vanishing-value2.ensures
 
-  d-some : d ≢ 𝟘
-  d-some = not-zero start C _ q e c.vanishing-value3.ensures
+  d_some : d ≢ 𝟘
+  d_some = not-zero start C _ q e c.vanishing-value3.ensures
 
   both_some : (x y : Elem q) → x ≢ 𝟘 → y ≢ 𝟘 → x ⊗ y ≢ 𝟘
   both_some = mul-not-zero (prime_ring q) (prime_field q)
@@ -104,7 +104,7 @@ divide-requires c κs =
       search rules,
       λ q e z.
           let two = both_some v q e (a v q e) (b v q e) (a-some v q e) (b-some v q e) in
-          both_some v q e (a v q e ⊗ b v q e) (d v q e) two (d-some v q e) (sym (product_is m q e) ∙ z),
+          both_some v q e (a v q e ⊗ b v q e) (d v q e) two (d_some v q e) (sym (product_is m q e) ∙ z),
     )
 
 multiply-requires-4 : tie.Need-multiply-requires-4
@@ -157,14 +157,14 @@ returns c q Q e is_whole =
     ∙ ap (λ (u : Elem q). of size ⊗ whole ⊘ (n ⊗ u)) is-own) in
     let first = c.before.before.before.multiply-three.ensures q e
     ∙ other k.a _ x (y ⊗ z) (of-result (y ⊗ z) (c.before.before.before.before.multiply4.ensures q e)) (a-some v q e)
-    (both_some v q e y z (b-some v q e) (d-some v q e)) (mul_assoc x y z)
+    (both_some v q e y z (b-some v q e) (d_some v q e)) (mul_assoc x y z)
     (of-result (vanishing k.a γ) (v.before.before.vanishing-value.ensures q e)) in
     let second = c.before.multiply-three2.ensures q e
     ∙ other k.b _ y (x ⊗ z) (of-result (x ⊗ z) (c.before.before.multiply5.ensures q e)) (b-some v q e)
-    (both_some v q e x z (a-some v q e) (d-some v q e)) (ap (λ (u : Elem q). u ⊗ z) (mul_comm x y) ∙ mul_assoc y x z)
+    (both_some v q e x z (a-some v q e) (d_some v q e)) (ap (λ (u : Elem q). u ⊗ z) (mul_comm x y) ∙ mul_assoc y x z)
     (of-result (vanishing k.b γ) (v.before.vanishing-value2.ensures q e)) in
     let third = c.multiply-three3.ensures q e
-    ∙ other k.c _ z (x ⊗ y) (of-result (x ⊗ y) (m.before.multiply.ensures q e)) (d-some v q e)
+    ∙ other k.c _ z (x ⊗ y) (of-result (x ⊗ y) (m.before.multiply.ensures q e)) (d_some v q e)
     (both_some v q e x y (a-some v q e) (b-some v q e)) (mul_comm (x ⊗ y) z)
     (of-result (vanishing k.c γ) (v.vanishing-value3.ensures q e)) in λ i.
     record { a = first i; b = second i; c = third i }

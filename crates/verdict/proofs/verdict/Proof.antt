@@ -12,12 +12,19 @@ use Rattle.shared.specs.Meanings.{sizes, transcript, openings}
 use Rattle.protocol.proofs.AllowedSizes.{allowed}
 use Rattle.verdict.specs.Scale.{scale_word}
 use borrow.Author.Rules.{rules}
-use mathlib.Core.Bool.{Bool, true}
+use borrow.Author.Tests.{not-true, not-false}
+use mathlib.Core.Bool.{Bool, true, false, not}
 use mathlib.Core.List.{[], map}
 use mathlib.Core.Path.{◌≡◌, sym, ap₂, ◌∙◌}
-use Rattle.verdict.proofs.FoundTests.{fails, holds}
 use Rattle.verdict.proofs.verdict.Statement.{statement}
 use Rattle.verdict.proofs.verdict.Tie as tie
+
+-- a test that was found to fail, or to pass
+fails : {found test : Bool} → found ≡ test → not found ≡ true → test ≡ false
+fails e n = sym e ∙ not-true _ n
+
+holds : {found test : Bool} → found ≡ test → not found ≡ false → test ≡ true
+holds e n = sym e ∙ not-false _ n
 
 vanishing-value-requires : tie.Need-vanishing-value-requires
 vanishing-value-requires c κs = search rules
@@ -40,7 +47,7 @@ line-holds-requires : tie.Need-line-holds-requires
 line-holds-requires c κs =
     let start = c.before.before.before.before.before in
     let W = allowed (sizes start.args.s) start.requires.1.0 in
-    (start.requires.0, (W.X-size, (start.requires.1.1.0, W.C-size)))
+    ((start.requires.0, start.requires.1.1.1.over), (W.X-size, (start.requires.1.1.0, W.C-size)))
 
 -- the test of a check
 abbrev test : (s : tie.Start) (q : Prime) → Check → Bool

@@ -10,7 +10,7 @@ use Rattle.shared.specs.Meanings.{three}
 use Rattle.circuit.specs.Given.{given}
 use Rattle.blinding.specs.Given.{Reserving, Fitting}
 use Rattle.blinding.proofs.Reserved.{columns-below}
-use Rattle.blinding.proofs.Filling.{all-filled}
+use Rattle.blinding.proofs.Filling.{all_filled}
 use borrow.Author.Rules.{rules}
 use Rattle.blinding.proofs.blinded.blind_into.Statement.{statement}
 use Rattle.blinding.proofs.blinded.blind_into.Tie as tie
@@ -74,7 +74,7 @@ returns c =
     let first = second.before.before.before.before in
     let r = first.before.before in
     let F = (start r).requires.shaped in
-    all-filled (circuit r) (start r).args.z.now (three (start r).args.rho) (three r.reserved-columns.result) (columns r)
+    all_filled (circuit r) (start r).args.z.now (three (start r).args.rho) (three r.reserved-columns.result) (columns r)
     F.list-a.whole F.list-b.whole F.list-c.whole
     first.entries-into.ensures second.entries-into2.ensures third.entries-into3.ensures filled.assignment-into.ensures
 

@@ -7,7 +7,7 @@ use Rattle.domain.specs.BabyBear.{baby_bear}
 use Rattle.sheet_lines.specs.Meanings.{given}
 use Rattle.figures.specs.Figures.{Figure, size_figures, length_figures, check_figures}
 use Rattle.figures.specs.Placed.{figure_at}
-use Rattle.figures.proofs.TableLaws.{size_row_lem, length-row, check_row, number_of}
+use Rattle.figures.proofs.TableLaws.{size_row, length-row, check_row, number_of}
 use borrow.Author.Rules.{rules}
 use Rattle.figures.proofs.column.number.Statement.{statement}
 use Rattle.figures.proofs.column.number.Tie as tie
@@ -29,7 +29,7 @@ returns c =
     let a = c.before.before.args in
     let g = given a.g in
     ap (λ l. get_or l a.row 0) c.size-numbers.ensures ∙ number_of size_figures g a.row
-    ∙ ap (λ (f : Figure). f.number g) (sym (size_row_lem baby_bear a.row (search rules)))
+    ∙ ap (λ (f : Figure). f.number g) (sym (size_row baby_bear a.row (search rules)))
 
 length-numbers-requires : tie.Need-length-numbers-requires
 length-numbers-requires c κs = search rules

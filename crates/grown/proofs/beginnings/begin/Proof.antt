@@ -4,7 +4,7 @@ use borrow.Author.Rules.{rules}
 use borrow.Author.Tests.{not-true, not-false}
 use lib.ListN.{length}
 use Rattle.protocol.specs.Grown.{stored, empty_circuit, begin_call}
-use Rattle.shared.proofs.LentAnswers.{lent-refused, lent-filled}
+use Rattle.shared.proofs.LentAnswers.{lent-refused, lent_filled}
 use Rattle.grown.proofs.BeginningLaws.{nothing_stored}
 use Rattle.grown.proofs.beginnings.begin.Statement.{statement}
 use Rattle.grown.proofs.beginnings.begin.Tie as tie
@@ -46,7 +46,7 @@ returns-2 c =
     let j = d.before.before in
     let s = j.before.before in
     let a = s.args in
-    lent-filled j.check-sizes.result j.check-sizes.ensures (stored (empty_circuit a.r a.c a.x)) a.circuit.now
+    lent_filled j.check-sizes.result j.check-sizes.ensures (stored (empty_circuit a.r a.c a.x)) a.circuit.now
     (sym d.before.is-fine.ensures ∙ not-false _ d.if1.false)
     (nothing_stored cleared.clear.new.0 a.r a.c a.x (length a.circuit.now) cleared.clear.ensures s.requires)
 

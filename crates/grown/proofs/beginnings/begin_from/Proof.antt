@@ -12,7 +12,7 @@ use Rattle.circuit.specs.Given.{given}
 use Rattle.circuit.specs.Judgement.{circuit_refusal}
 use Rattle.circuit.proofs.Fitting.{CircuitFits, circuit-fits}
 use Rattle.shared.proofs.EarlyReturns.{fine_none}
-use Rattle.shared.proofs.LentAnswers.{lent-refused, lent-filled}
+use Rattle.shared.proofs.LentAnswers.{lent-refused, lent_filled}
 use Rattle.grown.proofs.BeginningLaws.{rows-below}
 use Rattle.grown.proofs.beginnings.begin_from.Statement.{statement}
 use Rattle.grown.proofs.beginnings.begin_from.Tie as tie
@@ -82,7 +82,7 @@ returns-2 c q e =
     let filled = c.before.before in
     let d = filled.before.before in
     let j = judged d in
-    lent-filled j.judge-circuit.result {o = circuit_refusal q (circuit j)} (j.judge-circuit.ensures q e)
+    lent_filled j.judge-circuit.result {o = circuit_refusal q (circuit j)} (j.judge-circuit.ensures q e)
     (stored (circuit_of (circuit j))) (start j).args.circuit.now (fine d) filled.store.ensures
 
 pub begin-from-spec : {M : Type 1} → statement M

@@ -7,7 +7,7 @@ use native.Mathlib.Omega.{arith}
 use lib.ListN.{length, take, drop, set, length-set}
 use borrow.Author.Rules.{rules}
 use borrow.Rule.Slice.PartMut.{put_mid, same_len_mid, mid_len}
-use Rattle.grown.proofs.BeginningLaws.{circuit-filled, circuit-stored}
+use Rattle.grown.proofs.BeginningLaws.{circuit_filled, circuit-stored}
 use Rattle.grown.proofs.beginnings.store.Statement.{statement}
 use Rattle.grown.proofs.beginnings.store.Tie as tie
 
@@ -117,7 +117,7 @@ returns c =
     let ma : List ℕ = a.store-matrix.last.1.0 in
     let mb : List ℕ = b.store-matrix2.new.1.0 in
     let mc : List ℕ = last.new.1.0 in
-    circuit-filled given.circuit.now given.r given.c given.x ma mb mc 4097 (start a).pre.0
+    circuit_filled given.circuit.now given.r given.c given.x ma mb mc 4097 (start a).pre.0
     (a.store-matrix.kept.1.0 ∙ part-a (start a)) (b.store-matrix2.auto.1.0 ∙ part-b a)
     ∙ circuit-stored given.circuit.now given.r given.c given.x given.ea.now given.eb.now given.ec.now ma mb mc
     a.store-matrix.ensures b.store-matrix2.ensures last.ensures

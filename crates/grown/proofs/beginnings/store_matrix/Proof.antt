@@ -10,7 +10,7 @@ use borrow.Rule.Slice.PartMut.{put_mid, same_len_mid, mid_len}
 use Rattle.algebra.specs.Counting.{All}
 use Rattle.protocol.specs.Circuit.{Entry}
 use Rattle.protocol.specs.Calls.{entries_of}
-use Rattle.grown.proofs.BeginningLaws.{matrix-filled, matrix-stored}
+use Rattle.grown.proofs.BeginningLaws.{matrix_filled, matrix-stored}
 use Rattle.grown.proofs.beginnings.store_matrix.Statement.{statement}
 use Rattle.grown.proofs.beginnings.store_matrix.Tie as tie
 
@@ -84,7 +84,7 @@ returns c =
     let a = (start m).args in
     let counts : List ℕ = m.count-rows.new.1.0 in
     let words : List ℕ = copied.new.1.0 in
-    matrix-filled a.out.now counts words (length a.entries.now / 3) 1024 3072 (start m).requires.0
+    matrix_filled a.out.now counts words (length a.entries.now / 3) 1024 3072 (start m).requires.0
     (m.count-rows.auto.1.0 ∙ rows (start m))
     ∙ matrix-stored a.entries.now counts words (length (take 1024 (drop 1 (begun (start m)))))
     (length (take 3072 (drop 1025 (counted m))))

@@ -9,7 +9,7 @@ use Rattle.field.specs.Element.{Elem, of, words}
 use Rattle.domain.specs.Size.{is_size}
 use Rattle.domain.specs.Domain.{element, lagrange}
 use Rattle.domain.proofs.SizeLaws.{size_bound}
-use Rattle.poly.proofs.LentParts.{part_length, filled_within, filled-length, of-filled}
+use Rattle.poly.proofs.LentParts.{part_length, filled_within, filled_length, of_filled}
 use Rattle.prover.proofs.RowLaws.{row_values}
 use Rattle.prover.proofs.LineLaws.{each_within}
 use Rattle.prover.proofs.line.column_weights_into.Statement.{statement}
@@ -44,13 +44,13 @@ array-share-prefix-rows c =
 slice-aggregate-weights-from : tie.Need-slice-aggregate-weights-from
 slice-aggregate-weights-from c =
     let r = c.before.before in
-    filled-length _ _ (bound (start r)) (left r) r.lagrange-values-into.auto.1.1.0
+    filled_length _ _ (bound (start r)) (left r) r.lagrange-values-into.auto.1.1.0
 
 weights-from-requires : tie.Need-weights-from-requires
 weights-from-requires c κs =
     let r = c.before.before.before in
     let s = start r in
-    (omega arith, each_within (filled-length _ _ (bound s) (left r) r.lagrange-values-into.auto.1.1.0) refl s.pre.1.1)
+    (omega arith, each_within (filled_length _ _ (bound s) (left r) r.lagrange-values-into.auto.1.1.0) refl s.pre.1.1)
 
 same_length : tie.Need-same-length
 same_length c = search rules
@@ -61,9 +61,9 @@ returns c q known k eR matrices =
     let s = start r in
     let a = s.args in
     let α : Elem q = of a.alpha in
-    let long = filled-length _ _ (bound s) (left r) r.lagrange-values-into.auto.1.1.0 in
+    let long = filled_length _ _ (bound s) (left r) r.lagrange-values-into.auto.1.1.0 in
     c.before.before.weights-from.ensures q known.value k (eR ∙ long) matrices α
-    (of-filled _ _ (bound s) (left r) r.lagrange-values-into.auto.1.1.0 (row_values a.r α)
+    (of_filled _ _ (bound s) (left r) r.lagrange-values-into.auto.1.1.0 (row_values a.r α)
     (r.lagrange-values-into.ensures q known
     ∙ ap (λ (n : ℕ). words (tabulate n (λ i. lagrange n (element n i) α))) (sym (part_length _ _ (bound s))))
     ∙ ap (λ (n : ℕ). row_values n α) long)

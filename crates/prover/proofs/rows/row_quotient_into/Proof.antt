@@ -11,7 +11,7 @@ use Rattle.domain.proofs.SizeLaws.{size_positive, size_bound}
 use Rattle.protocol.specs.Three.{A, B}
 use Rattle.protocol.specs.Circuit.{row_sum}
 use Rattle.protocol.specs.Calls.{entries_of}
-use Rattle.poly.proofs.LentParts.{part_length, filled_within, filled-length, of-filled, lent_length}
+use Rattle.poly.proofs.LentParts.{part_length, filled_within, filled_length, of_filled, lent_length}
 use Rattle.prover.proofs.ProductLaws.{quotient_made}
 use Rattle.prover.proofs.RowLaws.{known_formed, rows-within, row-quotient_made}
 use Rattle.prover.proofs.rows.row_quotient_into.Statement.{statement}
@@ -63,7 +63,7 @@ array-share-prefix-left c =
 slice-aggregate-divide-product-into : tie.Need-slice-aggregate-divide-product-into
 slice-aggregate-divide-product-into c =
     let a = at_a c.before.before in
-    filled-length _ _ (bound (start a)) (sums-a a) a.row-sums.kept.1.1.1.0
+    filled_length _ _ (bound (start a)) (sums-a a) a.row-sums.kept.1.1.1.0
 
 array-share-prefix-right : tie.Need-array-share-prefix-right
 array-share-prefix-right c =
@@ -73,7 +73,7 @@ array-share-prefix-right c =
 slice-aggregate-divide-product-into-2 : tie.Need-slice-aggregate-divide-product-into-2
 slice-aggregate-divide-product-into-2 c =
     let b = c.before.before.before in
-    filled-length _ _ (bound (start (at_a b))) (sums-b b) b.row-sums2.auto.1.1.1.0
+    filled_length _ _ (bound (start (at_a b))) (sums-b b) b.row-sums2.auto.1.1.1.0
 
 array-borrow-prefix-factor : tie.Need-array-borrow-prefix-factor
 array-borrow-prefix-factor c = bound (start (at_a c.before.before.before))
@@ -92,8 +92,8 @@ divide-product-into-requires c κs =
     let b = c.before.before.before.before.before.before in
     let a = at_a b in
     let s = start a in
-    let left = filled-length _ _ (bound s) (sums-a a) a.row-sums.kept.1.1.1.0 in
-    let right = filled-length _ _ (bound s) (sums-b b) b.row-sums2.auto.1.1.1.0 in
+    let left = filled_length _ _ (bound s) (sums-a a) a.row-sums.kept.1.1.1.0 in
+    let right = filled_length _ _ (bound s) (sums-b b) b.row-sums2.auto.1.1.1.0 in
     let lent = sym (part_length _ _ (bound s)) ∙ left in
     let whole : length s.args.out.now + 1 ≡ s.args.r = omega (arith, size_positive s.args.r s.pre.1.0) in
     (s.pre.0, (ap is_size (sym left) ∙ s.pre.1.0, ((sym right ∙ left, lent), (lent, whole ∙ left))))
@@ -111,10 +111,10 @@ returns c q known Q k W eR ea eb ẑ values =
     let z : List (Elem q) = map of s.args.z.now in
     let whole = part_length _ _ (bound s) in
     quotient_made (d.divide-product-into.ensures q known)
-    (sym (filled-length _ _ (bound s) (sums-a a) a.row-sums.kept.1.1.1.0))
-    (of-filled _ _ (bound s) (sums-a a) a.row-sums.kept.1.1.1.0 (tabulate r (row_sum k A z))
+    (sym (filled_length _ _ (bound s) (sums-a a) a.row-sums.kept.1.1.1.0))
+    (of_filled _ _ (bound s) (sums-a a) a.row-sums.kept.1.1.1.0 (tabulate r (row_sum k A z))
     (a.row-sums.ensures q known.value k A ea ∙ ap (λ (n : ℕ). words (tabulate n (row_sum k A z))) (sym whole)))
-    (of-filled _ _ (bound s) (sums-b b) b.row-sums2.auto.1.1.1.0 (tabulate r (row_sum k B z))
+    (of_filled _ _ (bound s) (sums-b b) b.row-sums2.auto.1.1.1.0 (tabulate r (row_sum k B z))
     (b.row-sums2.ensures q known.value k B eb ∙ ap (λ (n : ℕ). words (tabulate n (row_sum k B z))) (sym whole)))
     ∙ ap words (row-quotient_made q Q k (known_formed known W) eR ẑ z values)
 

@@ -15,7 +15,7 @@ use Rattle.protocol.specs.Three.{MatrixName, A, B, C, Three, at}
 use Rattle.protocol.specs.Circuit.{Entry}
 use Rattle.protocol.specs.Calls.{entries_of}
 use Rattle.protocol.specs.Messages.{image, sums}
-use Rattle.poly.proofs.LentParts.{part_length, filled_within, filled-length, of-filled}
+use Rattle.poly.proofs.LentParts.{part_length, filled_within, filled_length, of_filled}
 use Rattle.prover.specs.EntrySums.{entry_total}
 use Rattle.prover.proofs.RowLaws.{known_formed, rows-within, row_values, row-sum_made}
 use Rattle.prover.proofs.rows.sums_at.Statement.{statement}
@@ -39,14 +39,14 @@ part_again : (c : tie.After-lagrange-values-into) → (start c).args.r ≤ lengt
 part_again c = filled_within _ (replicate 1024 0) (bound (start c)) (left c) c.lagrange-values-into.auto.1.1.0
 
 whole_again : (c : tie.After-lagrange-values-into) → (start c).args.r ≡ length (take (start c).args.r (again c))
-whole_again c = filled-length _ (replicate 1024 0) (bound (start c)) (left c) c.lagrange-values-into.auto.1.1.0
+whole_again c = filled_length _ (replicate 1024 0) (bound (start c)) (left c) c.lagrange-values-into.auto.1.1.0
 
 rows_made : (c : tie.After-lagrange-values-into) {q : Prime} → Known q (start c).args.p
     → map of (take (start c).args.r (again c)) ≡ row_values {q = q} (start c).args.r (of (start c).args.alpha)
 rows_made c {q} known =
     let s = start c in
     let α : Elem q = of s.args.alpha in
-    of-filled _ (replicate 1024 0) (bound s) (left c) c.lagrange-values-into.auto.1.1.0 (row_values s.args.r α)
+    of_filled _ (replicate 1024 0) (bound s) (left c) c.lagrange-values-into.auto.1.1.0 (row_values s.args.r α)
     (c.lagrange-values-into.ensures q known
     ∙ ap (λ (n : ℕ). words (tabulate n (λ i. lagrange n (element n i) α))) (sym (part_length _ (replicate 1024 0) (bound s))))
 

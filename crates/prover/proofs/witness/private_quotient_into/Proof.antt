@@ -11,7 +11,7 @@ use Rattle.domain.specs.Domain.{root}
 use Rattle.domain.specs.Polynomial.{Poly, quotient, interpolate}
 use Rattle.domain.proofs.Qualification.{known-qualifies}
 use Rattle.domain.proofs.SizeLaws.{size_positive, size_bound}
-use Rattle.poly.proofs.LentParts.{part_length, filled_within, filled-length, of-filled}
+use Rattle.poly.proofs.LentParts.{part_length, filled_within, filled_length, of_filled}
 use Rattle.prover.proofs.witness.private_quotient_into.Statement.{statement}
 use Rattle.prover.proofs.witness.private_quotient_into.Tie as tie
 
@@ -45,13 +45,13 @@ array-share-prefix-whole c =
 slice-aggregate-quotient-into : tie.Need-slice-aggregate-quotient-into
 slice-aggregate-quotient-into c =
     let v = c.before.before in
-    filled-length _ _ (bound (start v)) v.interpolate-into.new.1.1.1.0 v.interpolate-into.auto.1.1.1.0
+    filled_length _ _ (bound (start v)) v.interpolate-into.new.1.1.1.0 v.interpolate-into.auto.1.1.1.0
 
 quotient-into-requires : tie.Need-quotient-into-requires
 quotient-into-requires c κs =
     let v = c.before.before.before in
     let s = start v in
-    let size = filled-length _ _ (bound s) v.interpolate-into.new.1.1.1.0 v.interpolate-into.auto.1.1.1.0 in
+    let size = filled_length _ _ (bound s) v.interpolate-into.new.1.1.1.0 v.interpolate-into.auto.1.1.1.0 in
     (omega arith, (size_positive _ s.pre.1.0.1, s.pre.1.1.1 ∙ ap (λ (n : ℕ). n - s.args.x) size))
 
 same_length : tie.Need-same-length
@@ -66,7 +66,7 @@ returns c q known =
     let size : length s.args.z.now ≡ s.args.c = s.pre.1.1.0 in
     c.before.before.quotient-into.ensures q known.value
     ∙ ap (λ (l : Poly q). words (quotient s.args.x l))
-    (of-filled _ _ (bound s) values.new.1.1.1.0 values.auto.1.1.1.0 (interpolate s.args.c z)
+    (of_filled _ _ (bound s) values.new.1.1.1.0 values.auto.1.1.1.0 (interpolate s.args.c z)
     (values.ensures q (known-qualifies known) known.value
     (v.before.before.root-of.ensures q known ∙ ap (λ (n : ℕ). (root {q = q} n).word) (sym size))
     ∙ ap (λ (n : ℕ). words (interpolate {q = q} n z)) size))

@@ -6,7 +6,7 @@ use lib.ListN.{length}
 use Rattle.field.specs.Element.{words}
 use Rattle.domain.specs.Polynomial.{Poly, quotient, vanishing_poly}
 use Rattle.domain.proofs.SizeLaws.{size_positive, size_bound}
-use Rattle.poly.proofs.LentParts.{part_length, filled_within, filled-length, above_one, one_less, of-filled}
+use Rattle.poly.proofs.LentParts.{part_length, filled_within, filled_length, above_one, one_less, of_filled}
 use Rattle.prover.proofs.witness.vanishing_ratio_into.Statement.{statement}
 use Rattle.prover.proofs.witness.vanishing_ratio_into.Tie as tie
 
@@ -42,7 +42,7 @@ array-share-prefix-vanishing c =
 slice-aggregate-quotient-into : tie.Need-slice-aggregate-quotient-into
 slice-aggregate-quotient-into c =
     let f = c.before.before in
-    filled-length _ _ (bound (start f)) f.fill-vanishing.new.1.0 f.fill-vanishing.auto.1.0
+    filled_length _ _ (bound (start f)) f.fill-vanishing.new.1.0 f.fill-vanishing.auto.1.0
 
 quotient-into-requires : tie.Need-quotient-into-requires
 quotient-into-requires c κs =
@@ -50,7 +50,7 @@ quotient-into-requires c κs =
     let s = start f in
     let x : ℕ = s.args.x in
     let length-out : length s.args.out.now ≡ s.args.c + 1 - x = omega arith in
-    let whole = filled-length _ _ (bound s) f.fill-vanishing.new.1.0 f.fill-vanishing.auto.1.0 in
+    let whole = filled_length _ _ (bound s) f.fill-vanishing.new.1.0 f.fill-vanishing.auto.1.0 in
     (omega arith, (size_positive _ s.pre.1.0.1, length-out ∙ ap (λ (n : ℕ). n - x) whole))
 
 same_length : tie.Need-same-length
@@ -64,7 +64,7 @@ returns c q e =
     let n : ℕ = s.args.c in
     c.before.before.quotient-into.ensures q e
     ∙ ap (λ (l : Poly q). words (quotient s.args.x l))
-    (of-filled _ _ (bound s) fill.new.1.0 fill.auto.1.0 (vanishing_poly n)
+    (of_filled _ _ (bound s) fill.new.1.0 fill.auto.1.0 (vanishing_poly n)
     (fill.ensures q e ∙ ap (λ (k : ℕ). words (vanishing_poly {q = q} k)) (one_less n (part_length _ _ (bound s)))))
 
 pub vanishing-ratio-into-spec : {M : Type 1} → statement M

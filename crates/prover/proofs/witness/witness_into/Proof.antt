@@ -9,7 +9,7 @@ use Rattle.field.specs.Element.{of}
 use Rattle.domain.specs.Polynomial.{quotient, vanishing_poly}
 use Rattle.domain.proofs.SizeLaws.{size_positive, size_bound}
 use Rattle.domain.proofs.Division.{length_vanishing_ratio}
-use Rattle.poly.proofs.LentParts.{part_length, filled_within, filled-length, part_order, of-filled}
+use Rattle.poly.proofs.LentParts.{part_length, filled_within, filled_length, part_order, of_filled}
 use Rattle.prover.proofs.WitnessLaws.{padded, witness_made}
 use Rattle.prover.proofs.witness.witness_into.Statement.{statement}
 use Rattle.prover.proofs.witness.witness_into.Tie as tie
@@ -79,7 +79,7 @@ slice-aggregate-add-scaled : tie.Need-slice-aggregate-add-scaled
 slice-aggregate-add-scaled c =
     let r = c.before.before.before in
     let ratio = r.vanishing-ratio-into in
-    filled-length _ _ (bound (start (at_quotient r))) ratio.new.1.1.1.0 ratio.auto.1.1.1.0
+    filled_length _ _ (bound (start (at_quotient r))) ratio.new.1.1.1.0 ratio.auto.1.1.1.0
 
 add-scaled-requires : tie.Need-add-scaled-requires
 add-scaled-requires c κs =
@@ -88,7 +88,7 @@ add-scaled-requires c κs =
     let ratio = r.vanishing-ratio-into in
     let first = (at_quotient r).private-quotient-into in (
       omega arith,
-      part_order (filled-length _ _ (bound s) ratio.new.1.1.1.0 ratio.auto.1.1.1.0)
+      part_order (filled_length _ _ (bound s) ratio.new.1.1.1.0 ratio.auto.1.1.1.0)
           (omega (arith, padded-length s first.last.1.1.1.1.0 first.kept.1.1.1.1.0)),
     )
 
@@ -112,7 +112,7 @@ returns c q known k eC eX =
     ∙ witness_made q k (map of a.z.now) (of a.mask) eC eX sizes.2
     (padded n a.out.now first.last.1.1.1.1.0 s.pre.1.1.1 (first.kept.1.1.1.1.0 ∙ sym part))
     (first.ensures q known)
-    (of-filled _ _ (bound s) ratio.new.1.1.1.0 ratio.auto.1.1.1.0 (quotient a.x (vanishing_poly a.c)) (ratio.ensures q known.value))
+    (of_filled _ _ (bound s) ratio.new.1.1.1.0 ratio.auto.1.1.1.0 (quotient a.x (vanishing_poly a.c)) (ratio.ensures q known.value))
     (omega (arith, first.kept.1.1.1.1.0, part, length_vanishing_ratio q a.x a.c sizes.1 sizes.0 sizes.2))
 
 pub witness-into-spec : {M : Type 1} → statement M

@@ -3,7 +3,7 @@ use mathlib.Core.Path.{ap, ◌∙◌}
 use native.Mathlib.Omega.{arith}
 use borrow.Author.Rules.{rules}
 use Rattle.record_writer.proofs.Writing.{eleven-joined}
-use Rattle.record_writer.proofs.Scanned.{scanned-none, scanned-more}
+use Rattle.record_writer.proofs.Scanned.{scanned-none, scanned_more}
 use Rattle.record_writer.specs.Sections.{refuse_words}
 use Rattle.record_writer.proofs.judging.sections_fault.Statement.{statement}
 use Rattle.record_writer.proofs.judging.sections_fault.Tie as tie
@@ -149,17 +149,17 @@ returns c =
     let c2 = c3.before in
     let c1 = c2.before in
     let a = c1.before.before.before.before.before.before.before.before.before.before.before.before.args in
-    let s1 = scanned-more (scanned-none a.p) a.w.now c1.scan-words.ensures.0 c1.scan-words.ensures.1 in
-    let s2 = scanned-more s1 a.m.now c2.scan-words2.ensures.0 c2.scan-words2.ensures.1 in
-    let s3 = scanned-more s2 a.h0.now c3.scan-words3.ensures.0 c3.scan-words3.ensures.1 in
-    let s4 = scanned-more s3 a.s.now c4.scan-words4.ensures.0 c4.scan-words4.ensures.1 in
-    let s5 = scanned-more s4 a.g1.now c5.scan-words5.ensures.0 c5.scan-words5.ensures.1 in
-    let s6 = scanned-more s5 a.h1.now c6.scan-words6.ensures.0 c6.scan-words6.ensures.1 in
-    let s7 = scanned-more s6 a.o.now c7.scan-words7.ensures.0 c7.scan-words7.ensures.1 in
-    let s8 = scanned-more s7 a.ga.now c8.scan-words8.ensures.0 c8.scan-words8.ensures.1 in
-    let s9 = scanned-more s8 a.gb.now c9.scan-words9.ensures.0 c9.scan-words9.ensures.1 in
-    let s10 = scanned-more s9 a.gc.now c10.scan-words10.ensures.0 c10.scan-words10.ensures.1 in
-    let s11 = scanned-more s10 a.h2.now c.scan-words11.ensures.0 c.scan-words11.ensures.1 in
+    let s1 = scanned_more (scanned-none a.p) a.w.now c1.scan-words.ensures.0 c1.scan-words.ensures.1 in
+    let s2 = scanned_more s1 a.m.now c2.scan-words2.ensures.0 c2.scan-words2.ensures.1 in
+    let s3 = scanned_more s2 a.h0.now c3.scan-words3.ensures.0 c3.scan-words3.ensures.1 in
+    let s4 = scanned_more s3 a.s.now c4.scan-words4.ensures.0 c4.scan-words4.ensures.1 in
+    let s5 = scanned_more s4 a.g1.now c5.scan-words5.ensures.0 c5.scan-words5.ensures.1 in
+    let s6 = scanned_more s5 a.h1.now c6.scan-words6.ensures.0 c6.scan-words6.ensures.1 in
+    let s7 = scanned_more s6 a.o.now c7.scan-words7.ensures.0 c7.scan-words7.ensures.1 in
+    let s8 = scanned_more s7 a.ga.now c8.scan-words8.ensures.0 c8.scan-words8.ensures.1 in
+    let s9 = scanned_more s8 a.gb.now c9.scan-words9.ensures.0 c9.scan-words9.ensures.1 in
+    let s10 = scanned_more s9 a.gc.now c10.scan-words10.ensures.0 c10.scan-words10.ensures.1 in
+    let s11 = scanned_more s10 a.h2.now c.scan-words11.ensures.0 c.scan-words11.ensures.1 in
     s11.same
     ∙ ap (refuse_words a.p 0)
     (eleven-joined a.w.now a.m.now a.h0.now a.s.now a.g1.now a.h1.now a.o.now a.ga.now a.gb.now

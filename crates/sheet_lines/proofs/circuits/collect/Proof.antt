@@ -6,7 +6,7 @@ use Prim.Native.Nat.{◌-◌}
 use lib.ListN.{length, drop}
 use Rattle.sheet_lines.specs.Lines.{Given, lines_of, line_of, circuits}
 use Rattle.sheet_lines.specs.Meanings.{found_line, Kept}
-use Rattle.sheet_lines.proofs.CircuitLaws.{kept-none, one_line-more, no_more-lines}
+use Rattle.sheet_lines.proofs.CircuitLaws.{kept-none, one_line_more, no_more_lines}
 use borrow.Author.Rules.{rules}
 use Rattle.sheet_lines.proofs.circuits.collect.Statement.{statement}
 use Rattle.sheet_lines.proofs.circuits.collect.Tie as tie
@@ -54,7 +54,7 @@ loop-again c =
     let text = c1.before.before.before.before.args.text.now in
     let (gs, all, kept) = l.invariant in (
       gs ++ circuits (found_line c2.read-line.result ∷ []),
-      one_line-more text l.start c1.line-end.result c1.line-end.ensures c2.read-line.result c2.read-line.ensures gs ∙ all,
+      one_line_more text l.start c1.line-end.result c1.line-end.ensures c2.read-line.result c2.read-line.ensures gs ∙ all,
       c.keep-found.ensures gs kept,
     )
 
@@ -64,7 +64,7 @@ returns c =
     let text = c.before.before.before.args.text.now in
     let (gs, all, kept) = l.invariant in
     let same : gs ≡ circuits (map line_of (lines_of text)) =
-    sym (append-nil gs) ∙ ap (λ ls. gs ++ circuits ls) (sym (no_more-lines text l.start (search rules))) ∙ all in
+    sym (append-nil gs) ∙ ap (λ ls. gs ++ circuits ls) (sym (no_more_lines text l.start (search rules))) ∙ all in
     rw same at kept
 
 pub collect-spec : {M : Type 1} → statement M

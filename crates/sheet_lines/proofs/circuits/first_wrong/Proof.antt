@@ -4,7 +4,7 @@ use mathlib.Core.List.{map}
 use Prim.Native.Nat.{◌+◌, ◌-◌, ◌≤◌}
 use lib.ListN.{length, drop}
 use Rattle.sheet_lines.specs.Lines.{lines_of, line_of, wrong}
-use Rattle.sheet_lines.proofs.CircuitLaws.{wrong_here, wrong_later, no_more-lines}
+use Rattle.sheet_lines.proofs.CircuitLaws.{wrong_here, wrong_later, no_more_lines}
 use borrow.Author.Rules.{rules}
 use Rattle.sheet_lines.proofs.circuits.first_wrong.Statement.{statement}
 use Rattle.sheet_lines.proofs.circuits.first_wrong.Tie as tie
@@ -71,7 +71,7 @@ returns-2 : tie.Need-returns-2 invariant-loop decreases-loop
 returns-2 c =
     let l = c.before.loop in
     let text = c.before.before.before.args.text.now in
-    sym l.invariant.1 ∙ ap (wrong l.line) (no_more-lines text l.start (search rules))
+    sym l.invariant.1 ∙ ap (wrong l.line) (no_more_lines text l.start (search rules))
 
 pub first-wrong-spec : {M : Type 1} → statement M
 first-wrong-spec =

@@ -1,172 +1,196 @@
 -- `transform::product::divide_with` meets its contract. Assumes nothing.
 use borrow.Author.Rules.{rules}
-use mathlib.Core.Path.{◌≡◌, sym, ap, ◌∙◌, subst}
+use mathlib.Core.Path.{◌≡◌, sym, ap, ap₂, ◌∙◌, subst}
 use mathlib.Core.Bool.{true}
-use mathlib.Core.List.{List, [], map}
+use mathlib.Core.List.{List, map}
 use Prim.Native.Nat.{ℕ, ◌+◌, ◌≤◌, ◌<◌}
 use native.Mathlib.Omega.{arith}
-use lib.ListN.{length, take}
+use lib.ListN.{length, take, length-map}
+use Rattle.algebra.specs.Polynomial.{twist}
 use Rattle.algebra.proofs.PolynomialLaws.{length-product}
 use Rattle.field.specs.Prime.{Prime}
-use Rattle.field.specs.Element.{of}
+use Rattle.field.specs.Element.{of, words}
 use Rattle.field.proofs.ElementLaws.{prime_ring}
+use Rattle.field.proofs.Words.{of_results}
 use Rattle.domain.specs.Size.{is_size}
-use Rattle.domain.specs.Polynomial.{Poly, ◌⊠◌, interpolate}
+use Rattle.domain.specs.Domain.{root}
+use Rattle.domain.specs.Polynomial.{Poly, ◌⊠◌, remainder, values_on, interpolate}
 use Rattle.domain.proofs.SizeLaws.{size_positive, size_bound}
-use Rattle.domain.proofs.Interpolation.{length-interpolate}
+use Rattle.domain.proofs.Interpolation.{length-interpolate, values-interpolate}
 use Rattle.domain.proofs.Qualification.{known-qualifies}
-use Rattle.poly.proofs.LentParts.{part_order, returned, lent_length, back_holds, back_length}
-use Rattle.transform.specs.Reading.{ValueTables, CoefficientTables}
-use Rattle.transform.specs.Product.{Divided}
-use Rattle.transform.proofs.TableLaws.{values-lent}
-use Rattle.transform.proofs.CosetWords.{zeros_on_both, on_both_lent}
+use Rattle.poly.proofs.LentParts.{part_order, returned, lent_length, back_holds, back_length, back_is, back_list}
+use Rattle.transform.specs.Reading.{CoefficientTables}
+use Rattle.transform.proofs.CosetWords.{known_shift, shift_outside, shift_not-zero}
 use Rattle.transform.proofs.product.divide_with.Statement.{statement}
 use Rattle.transform.proofs.product.divide_with.Tie as tie
 
 -- the way back from a place in the code to an earlier one
-abbrev start-from-fill-tables : tie.After-fill-tables → tie.Start
-start-from-fill-tables c = c.before.before.before.before.before.before.before.before.before.before
+abbrev start-from-interpolate-with : tie.After-interpolate-with → tie.Start
+start-from-interpolate-with c = c.before.before.before.before.before.before.before.before.before
 
-abbrev fill-tables-from-add-product : tie.After-add-product → tie.After-fill-tables
-fill-tables-from-add-product c = c.before.before.before.before.before.before.before.before
+abbrev start-from-interpolate-with2 : tie.After-interpolate-with2 → tie.Start
+start-from-interpolate-with2 c = start-from-interpolate-with c.before.before.before.before
 
-abbrev add-product-from-divide-values-into : tie.After-divide-values-into → tie.After-add-product
-add-product-from-divide-values-into c = c.before.before.before.before.before.before.before.before.before
+abbrev interpolate-with2-from-remainder-from : tie.After-remainder-from → tie.After-interpolate-with2
+interpolate-with2-from-remainder-from c = c.before.before.before
+
+abbrev interpolate-with2-from-coset-remainder-into : tie.After-coset-remainder-into → tie.After-interpolate-with2
+interpolate-with2-from-coset-remainder-into c = interpolate-with2-from-remainder-from c.before.before.before.before.before.before
+
+abbrev start-from-remainder-from : tie.After-remainder-from → tie.Start
+start-from-remainder-from c = start-from-interpolate-with2 c.before.before.before
+
+abbrev interpolate-with-from-remainder-from : tie.After-remainder-from → tie.After-interpolate-with
+interpolate-with-from-remainder-from c = c.before.before.before.before.before.before.before
+
+abbrev start-from-coset-remainder-into : tie.After-coset-remainder-into → tie.Start
+start-from-coset-remainder-into c = start-from-remainder-from c.before.before.before.before.before.before
+
+abbrev remainder-from-from-coset-remainder-into : tie.After-coset-remainder-into → tie.After-remainder-from
+remainder-from-from-coset-remainder-into c = c.before.before.before.before.before.before
+
+abbrev interpolate-with2-from-quotient-from : tie.After-quotient-from → tie.After-interpolate-with2
+interpolate-with2-from-quotient-from c = interpolate-with2-from-coset-remainder-into c.before.before.before.before.before
+
+abbrev interpolate-with-from-coset-remainder-into : tie.After-coset-remainder-into → tie.After-interpolate-with
+interpolate-with-from-coset-remainder-into c = interpolate-with-from-remainder-from c.before.before.before.before.before.before
+
+abbrev interpolate-with-from-quotient-from : tie.After-quotient-from → tie.After-interpolate-with
+interpolate-with-from-quotient-from c = interpolate-with-from-coset-remainder-into c.before.before.before.before.before
+
+abbrev remainder-from-from-quotient-from : tie.After-quotient-from → tie.After-remainder-from
+remainder-from-from-quotient-from c = remainder-from-from-coset-remainder-into c.before.before.before.before.before
+
+abbrev coset-remainder-into-from-quotient-from : tie.After-quotient-from → tie.After-coset-remainder-into
+coset-remainder-into-from-quotient-from c = c.before.before.before.before.before
 
 bound : (c : tie.Start) → length c.args.left.now ≤ 1024
 bound c = size_bound (length c.args.left.now) c.requires.1.0
 
+fewer : {k m : ℕ} → k + 1 ≡ m → k ≤ m
+fewer e = omega arith
+
 product-length : {q : Prime} (f g : Poly q) (k m : ℕ) → length f ≡ m → length g ≡ m → 0 < m → k + 1 ≡ m → length (f ⊠ g) ≡ k + m
 product-length {q} f g k m f_length g-length positive e = omega (arith, length-product (prime_ring q) f g (omega arith) (omega arith))
 
--- the tables for values, in their arrays
-module _ (c : tie.After-fill-tables) where
+-- the coefficients of g in their array, and their length
+module _ (c : tie.After-interpolate-with2) where
   abbrev start : tie.Start
-  start = start-from-fill-tables c
+  start = start-from-interpolate-with2 c
 
   abbrev n : ℕ
   n = length start.args.left.now
 
-  abbrev value-powers : List ℕ
-  value-powers = c.fill-tables.new.1.1.0
+  abbrev other : List ℕ
+  other = c.interpolate-with2.new.1.1.1.1.0
 
-  abbrev value-quotients : List ℕ
-  value-quotients = c.fill-tables.new.1.1.1.0
+  other_length : n ≡ length (take n (returned 1024 n other))
+  other_length = back_length 1024 (bound start) other c.interpolate-with2.auto.1.1.1.1.0
 
-  value-powers-length : n ≡ length (take n (returned 1024 n value-powers))
-  value-powers-length = back_length 1024 (bound start) value-powers c.fill-tables.auto.1.1.0
-
-  value-quotients-length : n ≡ length (take n (returned 1024 n value-quotients))
-  value-quotients-length = back_length 1024 (bound start) value-quotients c.fill-tables.auto.1.1.1.0
-
--- the values of f·g on the domain and on the coset, in theirs
-module _ (c : tie.After-add-product) where
-  abbrev at-tables : tie.After-fill-tables
-  at-tables = fill-tables-from-add-product c
-
-  abbrev plain : List ℕ
-  plain = c.add-product.new.1.1.1.1.1.1.1.1.0
+-- the remainder on the coset, and its length
+module _ (c : tie.After-coset-remainder-into) where
+  abbrev at_other : tie.After-interpolate-with2
+  at_other = interpolate-with2-from-coset-remainder-into c
 
   abbrev turned : List ℕ
-  turned = c.add-product.new.1.1.1.1.1.1.1.1.1.0
+  turned = c.coset-remainder-into.new.1.1.1.1.1.1.1.0
 
-  plain_length : n at-tables ≡ length (take (n at-tables) (returned 1024 (n at-tables) plain))
-  plain_length = back_length 1024 (bound (start at-tables)) plain c.add-product.auto.1.1.1.1.1.1.1.1.0
+  turned_length : n at_other ≡ length (take (n at_other) (returned 1024 (n at_other) turned))
+  turned_length = back_length 1024 (bound (start at_other)) turned c.coset-remainder-into.auto.1.1.1.1.1.1.1.0
 
-  turned_length : n at-tables ≡ length (take (n at-tables) (returned 1024 (n at-tables) turned))
-  turned_length = back_length 1024 (bound (start at-tables)) turned c.add-product.auto.1.1.1.1.1.1.1.1.1.0
+interpolate-with-requires : tie.Need-interpolate-with-requires
+interpolate-with-requires c κs = search rules
 
-array-borrow-prefix-value-powers : tie.Need-array-borrow-prefix-value-powers
-array-borrow-prefix-value-powers c = bound c.before.before.before.before.before.before.before
+array-borrow-prefix-other : tie.Need-array-borrow-prefix-other
+array-borrow-prefix-other c = bound (start-from-interpolate-with c.before.before)
 
-slice-aggregate-fill-tables : tie.Need-slice-aggregate-fill-tables
-slice-aggregate-fill-tables c = lent_length 1024 (bound c.before.before.before.before.before.before.before.before)
+slice-aggregate-interpolate-with : tie.Need-slice-aggregate-interpolate-with
+slice-aggregate-interpolate-with c = lent_length 1024 (bound (start-from-interpolate-with c.before.before.before))
 
-array-borrow-prefix-value-quotients : tie.Need-array-borrow-prefix-value-quotients
-array-borrow-prefix-value-quotients c = bound c.before.before.before.before.before.before.before.before
-
-slice-aggregate-fill-tables-2 : tie.Need-slice-aggregate-fill-tables-2
-slice-aggregate-fill-tables-2 c = lent_length 1024 (bound c.before.before.before.before.before.before.before.before.before)
-
-fill-tables-requires : tie.Need-fill-tables-requires
-fill-tables-requires c κs =
-    let s = c.before.before.before.before.before.before.before.before.before in
-    let part = lent_length 1024 (bound s) in
-    (s.requires.0.0, sym part ∙ part)
-
-array-share-prefix-value-powers : tie.Need-array-share-prefix-value-powers
-array-share-prefix-value-powers c =
-    let t = c.before.before in
-    back_holds 1024 (bound (start t)) (value-powers t) t.fill-tables.auto.1.1.0
-
-slice-aggregate-add-product : tie.Need-slice-aggregate-add-product
-slice-aggregate-add-product c = value-powers-length c.before.before.before
-
-array-share-prefix-value-quotients : tie.Need-array-share-prefix-value-quotients
-array-share-prefix-value-quotients c =
-    let t = c.before.before.before in
-    back_holds 1024 (bound (start t)) (value-quotients t) t.fill-tables.auto.1.1.1.0
-
-slice-aggregate-add-product-2 : tie.Need-slice-aggregate-add-product-2
-slice-aggregate-add-product-2 c = value-quotients-length c.before.before.before.before
-
-array-borrow-prefix-plain : tie.Need-array-borrow-prefix-plain
-array-borrow-prefix-plain c = bound (start-from-fill-tables c.before.before.before.before.before)
-
-slice-aggregate-add-product-3 : tie.Need-slice-aggregate-add-product-3
-slice-aggregate-add-product-3 c = lent_length 1024 (bound (start-from-fill-tables c.before.before.before.before.before.before))
-
-array-borrow-prefix-turned : tie.Need-array-borrow-prefix-turned
-array-borrow-prefix-turned c = bound (start-from-fill-tables c.before.before.before.before.before.before)
-
-slice-aggregate-add-product-4 : tie.Need-slice-aggregate-add-product-4
-slice-aggregate-add-product-4 c = lent_length 1024 (bound (start-from-fill-tables c.before.before.before.before.before.before.before))
-
-add-product-requires : tie.Need-add-product-requires
-add-product-requires c κs =
-    let t = c.before.before.before.before.before.before.before in
-    let s = start t in
-    let part = lent_length 1024 (bound s) in (
+interpolate-with-requires-2 : tie.Need-interpolate-with-requires-2
+interpolate-with-requires-2 c κs =
+    let s = start-from-interpolate-with c.before.before.before in
+    let right : length s.args.right.now ≡ length s.args.left.now = s.pre.1.1.1.0.0 in (
       s.pre.0.0,
       (
-        s.pre.1.0,
+        (sym (lent_length 1024 (bound s)) ∙ sym right, ap is_size right ∙ s.pre.1.0),
+        (part_order (sym right) s.pre.1.1.0.0, part_order (sym right) s.pre.1.1.0.1),
+      ),
+    )
+
+remainder-from-requires : tie.Need-remainder-from-requires
+remainder-from-requires c κs =
+    let s = start-from-interpolate-with2 c.before.before in
+    let rest : length s.args.rest.now ≡ length s.args.left.now = s.pre.1.1.1.1.0 in (
+      s.pre.0.0,
+      (
+        ap is_size rest ∙ s.pre.1.0,
         (
-          s.pre.1.1.0,
-          (
-            (omega (arith, value-powers-length t), omega (arith, value-quotients-length t)),
-            (s.pre.1.1.1.0, (sym part, sym part)),
-          ),
+          (sym rest, s.pre.1.1.1.0.0 ∙ sym rest),
+          (part_order (sym rest) s.pre.1.1.0.0, part_order (sym rest) s.pre.1.1.0.1),
         ),
       ),
     )
 
-array-share-prefix-plain : tie.Need-array-share-prefix-plain
-array-share-prefix-plain c =
-    let t = c.before.before.before.before in
-    back_holds 1024 (bound (start (at-tables t))) (plain t) t.add-product.auto.1.1.1.1.1.1.1.1.0
+array-share-prefix-other : tie.Need-array-share-prefix-other
+array-share-prefix-other c =
+    let o = interpolate-with2-from-remainder-from c.before.before.before in
+    back_holds 1024 (bound (start o)) (other o) o.interpolate-with2.kept.1.1.1.1.0
 
-slice-aggregate-divide-values-into : tie.Need-slice-aggregate-divide-values-into
-slice-aggregate-divide-values-into c = plain_length c.before.before.before.before.before
+slice-aggregate-coset-remainder-into : tie.Need-slice-aggregate-coset-remainder-into
+slice-aggregate-coset-remainder-into c = other_length (interpolate-with2-from-remainder-from c.before.before.before.before)
+
+array-borrow-prefix-turned : tie.Need-array-borrow-prefix-turned
+array-borrow-prefix-turned c = bound (start-from-remainder-from c.before.before.before.before)
+
+slice-aggregate-coset-remainder-into-2 : tie.Need-slice-aggregate-coset-remainder-into-2
+slice-aggregate-coset-remainder-into-2 c = lent_length 1024 (bound (start-from-remainder-from c.before.before.before.before.before))
+
+coset-remainder-into-requires : tie.Need-coset-remainder-into-requires
+coset-remainder-into-requires c κs =
+    let s = start-from-remainder-from c.before.before.before.before.before in
+    let part = lent_length 1024 (bound s) in (
+      s.pre.0.0,
+      (
+        ap is_size (sym part) ∙ s.pre.1.0,
+        (
+          (
+            (interpolate-with-from-remainder-from c.before.before.before.before.before).interpolate-with.auto.1.1.1.1.0
+                ∙ s.pre.1.1.1.0.1 ∙ part,
+            sym (other_length (interpolate-with2-from-remainder-from c.before.before.before.before.before)) ∙ part,
+          ),
+          (part_order part s.pre.1.1.0.0, part_order part s.pre.1.1.0.1),
+        ),
+      ),
+    )
+
+cast-quotient-from : tie.Need-overflow-cast-quotient-from
+cast-quotient-from c = omega (arith, bound (start-from-coset-remainder-into c.before))
 
 array-share-prefix-turned : tie.Need-array-share-prefix-turned
 array-share-prefix-turned c =
-    let t = c.before.before.before.before.before in
-    back_holds 1024 (bound (start (at-tables t))) (turned t) t.add-product.auto.1.1.1.1.1.1.1.1.1.0
+    let t = c.before.before in
+    back_holds 1024 (bound (start-from-coset-remainder-into c.before.before)) (turned t)
+    t.coset-remainder-into.auto.1.1.1.1.1.1.1.0
 
-slice-aggregate-divide-values-into-2 : tie.Need-slice-aggregate-divide-values-into-2
-slice-aggregate-divide-values-into-2 c = turned_length c.before.before.before.before.before.before
+slice-aggregate-quotient-from : tie.Need-slice-aggregate-quotient-from
+slice-aggregate-quotient-from c = turned_length c.before.before.before
 
-divide-values-into-requires : tie.Need-divide-values-into-requires
-divide-values-into-requires c κs =
-    let t = c.before.before.before.before.before.before.before.before in
-    let s = start (at-tables t) in
-    let same = plain_length t in (
-      s.pre.0,
+quotient-from-requires : tie.Need-quotient-from-requires
+quotient-from-requires c κs =
+    let s = start-from-coset-remainder-into c.before.before.before.before in
+    let m : ℕ = length s.args.out.now in
+    let less : m ≤ length s.args.left.now = fewer s.pre.1.1.1.1.1 in (
+      s.pre.0.0,
       (
-        ap is_size (sym same) ∙ s.pre.1.0,
+        s.pre.1.0,
         (
-          (part_order same s.pre.1.1.0.0, part_order same s.pre.1.1.0.1),
-          ((sym (turned_length t) ∙ same, s.pre.1.1.1.1.0 ∙ same), s.pre.1.1.1.1.1 ∙ same),
+          (shift_outside s.pre.0.1 _ s.pre.1.0, shift_not-zero s.pre.0.1),
+          (
+            subst (λ (k : ℕ). m ≤ k) (sym ((remainder-from-from-coset-remainder-into
+                c.before.before.before.before).remainder-from.auto.1.1.1.1.1.0 ∙ s.pre.1.1.1.1.0)) less,
+            subst (λ (k : ℕ). m ≤ k) (turned_length c.before.before.before.before) less,
+          ),
         ),
       ),
     )
@@ -182,61 +206,71 @@ same-length-3 c = search rules
 
 returns : tie.Need-returns
 returns c q known root-word tables =
-    let u = add-product-from-divide-values-into c.before.before.before.before in
-    let v = at-tables u in
-    let s = start v in
+    let o = interpolate-with2-from-quotient-from c.before.before in
+    let s = start o in
     let a = s.args in
-    let m : ℕ = n v in
-    let fits = bound s in
+    let m : ℕ = n o in
     let size : is_size m ≡ true = s.pre.1.0 in
+    let right-length : length a.right.now ≡ m = s.pre.1.1.1.0.0 in
+    let rest-length : length a.rest.now ≡ m = s.pre.1.1.1.1.0 in
+    let out-length : length a.out.now + 1 ≡ m = s.pre.1.1.1.1.1 in
     let Q = known-qualifies known in
     let e = known.value in
+    let at : (k : ℕ) → m ≡ k → CoefficientTables q k a.powers.now a.quotients.now =
+    λ k same. subst (λ (k : ℕ). CoefficientTables q k a.powers.now a.quotients.now) same tables in
+    let part : m ≡ _ = lent_length 1024 (bound s) in
     let f : Poly q = interpolate m (map of a.left.now) in
     let g : Poly q = interpolate m (map of a.right.now) in
-    let value-tables : ValueTables q m (take m (returned 1024 m (value-powers v))) (take m (returned 1024 m (value-quotients v))) =
-    values-lent q 1024 fits (value-powers v) (value-quotients v) v.fill-tables.kept.1.1.0 v.fill-tables.kept.1.1.1.0
-    a.root root-word (v.fill-tables.ensures q e) in
-    let added = u.add-product.ensures q Q e tables value-tables [] (zeros_on_both q 1024 fits) in
+    let factor : List ℕ = (interpolate-with-from-quotient-from c.before.before).interpolate-with.new.1.1.1.1.0 in
+    let is_factor : factor ≡ words f = (interpolate-with-from-quotient-from c.before.before).interpolate-with.ensures q Q e tables in
+    let is-other : map of (take m (returned 1024 m (other o))) ≡ g =
+    back_list 1024 (bound s) (other o) o.interpolate-with2.kept.1.1.1.1.0 g
+    (o.interpolate-with2.ensures q Q e (at _ (sym right-length))
+    ∙ ap (λ (k : ℕ). words {q = q} (interpolate k (map of a.right.now))) right-length) in
+    let is-rest : _ ≡ words (remainder m (f ⊠ g)) =
+    (remainder-from-from-quotient-from c.before.before).remainder-from.ensures q Q e (at _ (sym rest-length)) f g
+    (sym (ap (λ (k : ℕ). values_on k f) rest-length ∙ values-interpolate Q m size (map of a.left.now)
+    (length-map a.left.now (of {q = q}))))
+    (sym (ap (λ (k : ℕ). values_on k g) rest-length
+    ∙ values-interpolate Q m size (map of a.right.now) (length-map a.right.now (of {q = q}) ∙ right-length)))
+    ∙ ap (λ (k : ℕ). words (remainder k (f ⊠ g))) rest-length in
+    let t = coset-remainder-into-from-quotient-from c.before.before in
+    let twisted : Poly q → Poly q = twist (prime_ring q) (of 31) in
+    let is_turned : take m (returned 1024 m (turned t)) ≡ words (remainder m (twisted f ⊠ twisted g)) =
+    back_is 1024 (bound s) (turned t) t.coset-remainder-into.kept.1.1.1.1.1.1.1.0
+    ∙ t.coset-remainder-into.ensures q Q e (root-word ∙ ap (λ (k : ℕ). (root {q = q} k).word) part) (at _ part)
+    ∙ ap (λ (k : ℕ). words {q = q} (remainder k (twisted (map of factor) ⊠ twisted (map of (take m (returned 1024 m (other o)))))))
+    (sym part)
+    ∙ ap₂ (λ (x y : Poly q). words (remainder m (twisted x ⊠ twisted y))) (of_results f is_factor) is-other in
     let long : length (f ⊠ g) ≡ length a.out.now + m =
     product-length f g (length a.out.now) m (length-interpolate m (map of a.left.now))
     (length-interpolate m (map of a.right.now))
-    (size_positive m size) s.pre.1.1.1.1.1 in
-    let same = plain_length u in
-    let last = c.before.before.before.before.divide-values-into in
-    let rest : List ℕ = last.new.1.1.1.1.1.0 in
-    let out : List ℕ = last.new.1.1.1.1.1.1.0 in
-    let divided : Divided q m (f ⊠ g) rest out =
-    subst (λ (k : ℕ). Divided q k (f ⊠ g) rest out) (sym same)
-    (last.ensures q known
-    (subst (λ (k : ℕ). CoefficientTables q k a.powers.now a.quotients.now) same tables) (f ⊠ g)
-    (long ∙ ap (λ (k : ℕ). length a.out.now + k) same)
-    (on_both_lent q 1024 fits (f ⊠ g) (plain u) (turned u) u.add-product.kept.1.1.1.1.1.1.1.1.0
-    u.add-product.kept.1.1.1.1.1.1.1.1.1.0 added.is_sum)) in
-    record { is_factor = added.is_factor; is-rest = divided.is-rest; is-quotient = divided.is-quotient }
+    (size_positive m size) out-length in
+    record {
+      is_factor = is_factor;
+      is-rest = is-rest;
+      is-quotient =
+          c.before.before.quotient-from.ensures q Q e (known_shift known m size) f g long (fewer out-length) is-rest is_turned;
+    }
 
 pub divide-with-spec : {M : Type 1} → statement M
 divide-with-spec =
     tie.close
     (tie.spec
-    array-borrow-prefix-value-powers
-    slice-aggregate-fill-tables
-    array-borrow-prefix-value-quotients
-    slice-aggregate-fill-tables-2
-    fill-tables-requires
-    array-share-prefix-value-powers
-    slice-aggregate-add-product
-    array-share-prefix-value-quotients
-    slice-aggregate-add-product-2
-    array-borrow-prefix-plain
-    slice-aggregate-add-product-3
+    interpolate-with-requires
+    array-borrow-prefix-other
+    slice-aggregate-interpolate-with
+    interpolate-with-requires-2
+    remainder-from-requires
+    array-share-prefix-other
+    slice-aggregate-coset-remainder-into
     array-borrow-prefix-turned
-    slice-aggregate-add-product-4
-    add-product-requires
-    array-share-prefix-plain
-    slice-aggregate-divide-values-into
+    slice-aggregate-coset-remainder-into-2
+    coset-remainder-into-requires
+    cast-quotient-from
     array-share-prefix-turned
-    slice-aggregate-divide-values-into-2
-    divide-values-into-requires
+    slice-aggregate-quotient-from
+    quotient-from-requires
     same_length
     same-length-2
     same-length-3

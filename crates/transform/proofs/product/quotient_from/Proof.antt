@@ -28,14 +28,14 @@ same_length : tie.Need-same-length
 same_length c = search rules
 
 returns : tie.Need-returns
-returns c q Q e shift t long short is_plain is_turned =
+returns c q Q e shift f g long short is_plain is_turned =
     let start = c.before.before.before.before.before.before.before.before.before.before in
     let a = start.args in
     let v = c.before.before.before.before.before.before.vanishing-value in
     let share = c.before.before.before.before.before.divide in
     let turn = c.before.before.before.before.divide2 in
     c.before.before.combine-into.ensures q e
-    ∙ ap words (quotient-words Q a.n start.requires.1.0 t (length a.out.now) a.s turn.result share.result v.result
+    ∙ ap words (quotient-words Q a.n start.requires.1.0 f g (length a.out.now) a.s turn.result share.result v.result
     shift long short a.plain.now a.turned.now is_plain is_turned (reciprocal_word q a.s (turn.ensures q e)) (v.ensures q e)
     (reciprocal_word q v.result (share.ensures q e)))
 

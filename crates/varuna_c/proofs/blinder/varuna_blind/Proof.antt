@@ -12,7 +12,7 @@ use Rattle.circuit.specs.Given.{given}
 use Rattle.verifier.specs.Session.{three_at}
 use Rattle.varuna.specs.Answers.{fills}
 use Rattle.varuna.specs.Inputs.{three_of}
-use Rattle.c_numbers.proofs.AnswerLaws.{filled-told}
+use Rattle.c_numbers.proofs.AnswerLaws.{filled_told}
 use borrow.Author.Rules.{rules}
 use Rattle.varuna_c.proofs.blinder.varuna_blind.Statement.{statement}
 use Rattle.varuna_c.proofs.blinder.varuna_blind.Tie as tie
@@ -48,7 +48,7 @@ returns c =
     let before : Three (List ℕ) × List ℕ = (lists, a.blindedZ.now) in
     let call : Three ℕ → Outcome (Three (List ℕ) × List ℕ) = λ ρ.
     blind_call baby_bear circuit a.z.now ρ (map_three length lists) (length a.blindedZ.now) in
-    filled-told before (call (three_at a.rho.now 0)) c.give-filled.ensures
+    filled_told before (call (three_at a.rho.now 0)) c.give-filled.ensures
     (at-blind.blind.ensures ∙ ap (λ ρ. fills (call ρ) before) at-triple.triple.ensures)
 
 pub varuna-blind-spec : {M : Type 1} → statement M

@@ -5,7 +5,7 @@ use Rattle.protocol.specs.Three.{map_three}
 use Rattle.protocol.specs.Index.{map_index}
 use Rattle.protocol.specs.Grown.{grown_index_call}
 use Rattle.varuna.specs.Inputs.{twelve}
-use Rattle.c_numbers.proofs.AnswerLaws.{filled-told}
+use Rattle.c_numbers.proofs.AnswerLaws.{filled_told}
 use borrow.Author.Rules.{rules}
 use Rattle.varuna_c.proofs.circuits.varuna_circuit_index.Statement.{statement}
 use Rattle.varuna_c.proofs.circuits.varuna_circuit_index.Tie as tie
@@ -59,7 +59,7 @@ returns c =
     let before =
     twelve a.rowA.now a.colA.now a.rowcolA.now a.rowcolvalA.now a.rowB.now a.colB.now a.rowcolB.now
     a.rowcolvalB.now a.rowC.now a.colC.now a.rowcolC.now a.rowcolvalC.now in
-    filled-told before (grown_index_call baby_bear a.circuit.now (map_three (map_index length) before)) c.give-filled.ensures
+    filled_told before (grown_index_call baby_bear a.circuit.now (map_three (map_index length) before)) c.give-filled.ensures
     done.index-circuit.ensures
 
 pub varuna-circuit-index-spec : {M : Type 1} → statement M

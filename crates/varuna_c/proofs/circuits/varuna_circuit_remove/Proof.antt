@@ -1,6 +1,6 @@
 -- `varuna_c::circuits::varuna_circuit_remove` meets its contract. Assumes nothing.
 use Rattle.protocol.specs.Grown.{remove_entry_call}
-use Rattle.c_numbers.proofs.AnswerLaws.{filled-told}
+use Rattle.c_numbers.proofs.AnswerLaws.{filled_told}
 use borrow.Author.Rules.{rules}
 use Rattle.varuna_c.proofs.circuits.varuna_circuit_remove.Statement.{statement}
 use Rattle.varuna_c.proofs.circuits.varuna_circuit_remove.Tie as tie
@@ -15,7 +15,7 @@ returns : tie.Need-returns
 returns c =
     let done = c.before.before in
     let a = done.before.before.args in
-    filled-told a.circuit.now (remove_entry_call a.circuit.now a.matrix a.row a.column) c.give-filled.ensures
+    filled_told a.circuit.now (remove_entry_call a.circuit.now a.matrix a.row a.column) c.give-filled.ensures
     done.remove_entry.ensures
 
 pub varuna-circuit-remove-spec : {M : Type 1} → statement M

@@ -6,7 +6,7 @@ use Rattle.protocol.specs.Index.{map_index}
 use Rattle.protocol.specs.Calls.{index_call}
 use Rattle.circuit.specs.Given.{given}
 use Rattle.varuna.specs.Inputs.{twelve}
-use Rattle.c_numbers.proofs.AnswerLaws.{filled-told}
+use Rattle.c_numbers.proofs.AnswerLaws.{filled_told}
 use Rattle.varuna_c.proofs.indexer.varuna_index.Statement.{statement}
 use Rattle.varuna_c.proofs.indexer.varuna_index.Tie as tie
 
@@ -69,7 +69,7 @@ returns c =
     let before =
     twelve a.rowA.now a.colA.now a.rowcolA.now a.rowcolvalA.now a.rowB.now a.colB.now
     a.rowcolB.now a.rowcolvalB.now a.rowC.now a.colC.now a.rowcolC.now a.rowcolvalC.now in
-    filled-told before (index_call baby_bear (given a.r a.c a.x a.ea.now a.eb.now a.ec.now)
+    filled_told before (index_call baby_bear (given a.r a.c a.x a.ea.now a.eb.now a.ec.now)
     (map_three (map_index length) before))
     c.give-filled.ensures (at-index c).index.ensures
 

@@ -2,7 +2,7 @@
 use lib.ListN.{length}
 use Rattle.domain.specs.BabyBear.{baby_bear}
 use Rattle.protocol.specs.Calls.{evaluate_on_domain_call}
-use Rattle.c_numbers.proofs.AnswerLaws.{filled-told}
+use Rattle.c_numbers.proofs.AnswerLaws.{filled_told}
 use borrow.Author.Rules.{rules}
 use Rattle.varuna_c.proofs.polynomials.varuna_evaluate_on_domain.Statement.{statement}
 use Rattle.varuna_c.proofs.polynomials.varuna_evaluate_on_domain.Tie as tie
@@ -21,7 +21,7 @@ returns c =
     let at-evaluate = c.before.before.before.before in
     let start = at-evaluate.before.before.before.before in
     let a = start.args in
-    filled-told a.values.now (evaluate_on_domain_call baby_bear a.n a.coefficients.now (length a.values.now))
+    filled_told a.values.now (evaluate_on_domain_call baby_bear a.n a.coefficients.now (length a.values.now))
     c.give-filled.ensures at-evaluate.evaluate-on-domain.ensures
 
 pub varuna-evaluate-on-domain-spec : {M : Type 1} → statement M

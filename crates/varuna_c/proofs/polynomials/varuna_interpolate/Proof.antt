@@ -2,7 +2,7 @@
 use lib.ListN.{length}
 use Rattle.domain.specs.BabyBear.{baby_bear}
 use Rattle.protocol.specs.Calls.{interpolate_call}
-use Rattle.c_numbers.proofs.AnswerLaws.{filled-told}
+use Rattle.c_numbers.proofs.AnswerLaws.{filled_told}
 use borrow.Author.Rules.{rules}
 use Rattle.varuna_c.proofs.polynomials.varuna_interpolate.Statement.{statement}
 use Rattle.varuna_c.proofs.polynomials.varuna_interpolate.Tie as tie
@@ -21,7 +21,7 @@ returns c =
     let at-interpolate = c.before.before.before.before in
     let start = at-interpolate.before.before.before.before in
     let a = start.args in
-    filled-told a.coefficients.now (interpolate_call baby_bear a.n a.values.now (length a.coefficients.now))
+    filled_told a.coefficients.now (interpolate_call baby_bear a.n a.values.now (length a.coefficients.now))
     c.give-filled.ensures at-interpolate.interpolate.ensures
 
 pub varuna-interpolate-spec : {M : Type 1} → statement M

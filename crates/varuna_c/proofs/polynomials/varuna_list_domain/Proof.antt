@@ -2,7 +2,7 @@
 use lib.ListN.{length}
 use Rattle.domain.specs.BabyBear.{baby_bear}
 use Rattle.protocol.specs.Calls.{domain_call}
-use Rattle.c_numbers.proofs.AnswerLaws.{filled-told}
+use Rattle.c_numbers.proofs.AnswerLaws.{filled_told}
 use borrow.Author.Rules.{rules}
 use Rattle.varuna_c.proofs.polynomials.varuna_list_domain.Statement.{statement}
 use Rattle.varuna_c.proofs.polynomials.varuna_list_domain.Tie as tie
@@ -21,7 +21,7 @@ returns c =
     let at-list-domain = c.before.before.before.before in
     let start = at-list-domain.before.before.before in
     let a = start.args in
-    filled-told a.elements.now (domain_call baby_bear a.n (length a.elements.now))
+    filled_told a.elements.now (domain_call baby_bear a.n (length a.elements.now))
     c.give-filled.ensures at-list-domain.list-domain.ensures
 
 pub varuna-list-domain-spec : {M : Type 1} → statement M

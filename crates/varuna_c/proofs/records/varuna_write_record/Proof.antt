@@ -10,7 +10,7 @@ use Rattle.protocol.specs.Calls.{write_call}
 use Rattle.record_writer.specs.Sections.{each_section}
 use Rattle.varuna.specs.Answers.{fills}
 use Rattle.c_numbers.specs.Inputs.{sizes_in}
-use Rattle.c_numbers.proofs.AnswerLaws.{filled-told}
+use Rattle.c_numbers.proofs.AnswerLaws.{filled_told}
 use borrow.Author.Rules.{rules}
 use Rattle.varuna_c.proofs.records.varuna_write_record.Statement.{statement}
 use Rattle.varuna_c.proofs.records.varuna_write_record.Tie as tie
@@ -37,7 +37,7 @@ returns c =
     each_section a.w.now a.m.now a.h0.now a.s.now a.g1.now a.h1.now
     a.o.now a.ga.now a.gb.now a.gc.now a.h2.now in
     let call : Sizes → Outcome (List ℕ) = λ n. write_call baby_bear n parts (length a.bytes.now) in
-    filled-told a.bytes.now (call (sizes_in a.sizes.now)) c.give-filled.ensures
+    filled_told a.bytes.now (call (sizes_in a.sizes.now)) c.give-filled.ensures
     (at-write-record.write-record.ensures ∙ ap (λ n. fills (call n) a.bytes.now) at-sizes-in.sizes-in.ensures)
 
 pub varuna-write-record-spec : {M : Type 1} → statement M

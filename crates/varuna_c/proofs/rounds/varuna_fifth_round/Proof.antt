@@ -10,7 +10,7 @@ use Rattle.varuna.specs.Answers.{fills}
 use Rattle.protocol.specs.Refusals.{Outcome}
 use mathlib.Core.List.{List}
 use Rattle.protocol.specs.Calls.{fifth_round_call}
-use Rattle.c_numbers.proofs.AnswerLaws.{filled-told}
+use Rattle.c_numbers.proofs.AnswerLaws.{filled_told}
 use borrow.Author.Rules.{rules}
 use Rattle.varuna_c.proofs.rounds.varuna_fifth_round.Statement.{statement}
 use Rattle.varuna_c.proofs.rounds.varuna_fifth_round.Tie as tie
@@ -41,7 +41,7 @@ returns c =
     let before = a.quotient.now in
     let call : Three ℕ → Three ℕ → Outcome (List ℕ) = λ η δ.
     fifth_round_call baby_bear i a.alpha η a.beta δ (length a.quotient.now) in
-    filled-told before (call (three_at a.eta.now 0) (three_at a.delta.now 0)) c.give-filled.ensures
+    filled_told before (call (three_at a.eta.now 0) (three_at a.delta.now 0)) c.give-filled.ensures
     (at-fifth-round.fifth_round.ensures
     ∙ ap₂ (λ η δ. fills (call η δ) before) at-triple.triple.ensures at-triple2.triple2.ensures)
 

@@ -5,7 +5,7 @@ use Rattle.domain.specs.BabyBear.{baby_bear}
 use Prim.Native.Nat.{ℕ}
 use Rattle.circuit.specs.Given.{prover_input}
 use Rattle.protocol.specs.Calls.{first_round_call}
-use Rattle.c_numbers.proofs.AnswerLaws.{filled-told}
+use Rattle.c_numbers.proofs.AnswerLaws.{filled_told}
 use borrow.Author.Rules.{rules}
 use Rattle.varuna_c.proofs.rounds.varuna_first_round.Statement.{statement}
 use Rattle.varuna_c.proofs.rounds.varuna_first_round.Tie as tie
@@ -29,7 +29,7 @@ returns c =
     let a = start.args in
     let i = prover_input a.r a.c a.x a.ea.now a.eb.now a.ec.now a.z.now a.mask a.m.now in
     let before : List ℕ × List ℕ = (a.witness.now, a.row_quotient.now) in
-    filled-told before (first_round_call baby_bear i (length a.witness.now) (length a.row_quotient.now))
+    filled_told before (first_round_call baby_bear i (length a.witness.now) (length a.row_quotient.now))
     c.give-filled.ensures at-first-round.first_round.ensures
 
 pub varuna-first-round-spec : {M : Type 1} → statement M

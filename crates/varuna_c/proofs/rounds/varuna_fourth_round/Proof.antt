@@ -11,7 +11,7 @@ use Rattle.varuna.specs.Answers.{fills_three}
 use Rattle.protocol.specs.Refusals.{Outcome}
 use mathlib.Core.List.{List}
 use Rattle.protocol.specs.Calls.{fourth_round_call}
-use Rattle.c_numbers.proofs.AnswerLaws.{three-filled-told}
+use Rattle.c_numbers.proofs.AnswerLaws.{three_filled_told}
 use borrow.Author.Rules.{rules}
 use Rattle.varuna_c.proofs.rounds.varuna_fourth_round.Statement.{statement}
 use Rattle.varuna_c.proofs.rounds.varuna_fourth_round.Tie as tie
@@ -44,7 +44,7 @@ returns c =
     let before = three_of a.ga.now a.gb.now a.gc.now in
     let call : Three ℕ → Outcome (Three ℕ × Three (List ℕ)) = λ η.
     fourth_round_call baby_bear i a.alpha η a.beta (three_of (length a.ga.now) (length a.gb.now) (length a.gc.now)) in
-    three-filled-told before a.values.now (call (three_at a.eta.now 0)) c.give-three.ensures
+    three_filled_told before a.values.now (call (three_at a.eta.now 0)) c.give-three.ensures
     (at-fourth-round.fourth_round.ensures ∙ ap (λ η. fills_three (call η) before) at-triple.triple.ensures)
 
 pub varuna-fourth-round-spec : {M : Type 1} → statement M

@@ -10,7 +10,7 @@ use Rattle.varuna.specs.Answers.{fills}
 use Rattle.protocol.specs.Refusals.{Outcome}
 use mathlib.Core.List.{List}
 use Rattle.protocol.specs.Calls.{third_round_call}
-use Rattle.c_numbers.proofs.AnswerLaws.{filled-told}
+use Rattle.c_numbers.proofs.AnswerLaws.{filled_told}
 use borrow.Author.Rules.{rules}
 use Rattle.varuna_c.proofs.rounds.varuna_third_round.Statement.{statement}
 use Rattle.varuna_c.proofs.rounds.varuna_third_round.Tie as tie
@@ -40,7 +40,7 @@ returns c =
     let before : List ℕ × List ℕ = (a.remainder.now, a.quotient.now) in
     let call : Three ℕ → Outcome (List ℕ × List ℕ) = λ η.
     third_round_call baby_bear i a.alpha η (length a.remainder.now) (length a.quotient.now) in
-    filled-told before (call (three_at a.eta.now 0)) c.give-filled.ensures
+    filled_told before (call (three_at a.eta.now 0)) c.give-filled.ensures
     (at-third-round.third_round.ensures ∙ ap (λ η. fills (call η) before) at-triple.triple.ensures)
 
 pub varuna-third-round-spec : {M : Type 1} → statement M

@@ -1,7 +1,7 @@
 -- `verifier::session::padded` meets its contract: the words before i are in place. Assumes nothing.
 use Prim.Native.Nat.{◌≤◌, ◌-◌}
 use Rattle.domain.specs.Size.{max_size}
-use Rattle.verifier.proofs.Padding.{Padded, padded-more}
+use Rattle.verifier.proofs.Padding.{Padded, padded_more}
 use borrow.Author.Rules.{rules}
 use lib.ListN.{length, get_or, set, replicate}
 use lib.Seq.{take-length}
@@ -43,7 +43,7 @@ loop-again c =
     let l = c.before.before in
     let words = l.before.args.words.now in
     let i = l.loop.i in
-    (search rules, ap (λ x. set x i (get_or words i 0)) l.loop.invariant.1 ∙ padded-more max_size words i (omega arith) (omega arith))
+    (search rules, ap (λ x. set x i (get_or words i 0)) l.loop.invariant.1 ∙ padded_more max_size words i (omega arith) (omega arith))
 
 returns : tie.Need-returns invariant-loop decreases-loop
 returns c =

@@ -1,2 +1,0 @@
-pub mod Allowed
-pub mod PartRows

@@ -1,3 +1,0 @@
-pub mod WordParts
-pub mod BatchParts
-pub mod BatchFitting
