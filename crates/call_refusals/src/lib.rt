@@ -1,6 +1,8 @@
 // Rows of the table of refusals in its order, for calls with a circuit. Contents are judged only where lengths are right: sizes and
 // lists come first, then the lent slices, then the contents. Lent slices come as their lengths; a round's beside the lengths that they
 // must have.
+#![tactic(auto)]
+
 ghost use Rattle.std.specs.Prelude.{◌≡◌, ◌<◌, ◌≤◌, length};
 ghost use Rattle.field.specs.Prime.{Prime};
 ghost use Rattle.domain.specs.Qualifies.{Qualifies};

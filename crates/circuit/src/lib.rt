@@ -1,4 +1,6 @@
 // The checks of circuit inputs, in the order of document 01's table of refusals. The modulus p is a parameter. An
 // entry list is a slice with three words to an entry: row, column, value.
+#![tactic(auto)]
+
 pub mod checks;
 pub mod matrices;

@@ -1,5 +1,7 @@
 // Sizes, the generator table, and values on domains, on words. The modulus p is a parameter; words of p or more stand for their
 // remainders.
+#![tactic(auto)]
+
 ghost use Rattle.std.specs.Prelude.{◌≡◌, true, map, ℕ, ◌/◌, ◌<◌, length, take};
 ghost use Rattle.algebra.specs.Lists.{tabulate};
 ghost use Rattle.algebra.specs.Ring.{pow};

@@ -1,5 +1,7 @@
 // The prime field on words. The modulus p is a parameter of every function; a contract holds for each prime of that value.
 // Any words are taken: a word of p or more stands for its remainder.
+#![tactic(auto)]
+
 ghost use Rattle.std.specs.Prelude.{◌≡◌, ◌*◌, ◌/◌, ◌%◌, ◌^◌, ◌<◌, ◌≢◌};
 ghost use Rattle.std.proofs.Math.Option.{map};
 ghost use Rattle.field.specs.Prime.{Prime};
@@ -132,7 +134,7 @@ pub fn divide(p: u32, a: u32, b: u32) -> u32
 }
 
 // The inverse of an element, or that there is none.
-#[derive(Drop)]
+#[derive(Clone, Copy)]
 pub enum Inverse {
     None,
     Value(u32),

@@ -1,4 +1,6 @@
 // The planner's sheet: the figures of the circuits of a text, as a table.
+#![tactic(auto)]
+
 mod column;
 mod conversations;
 mod messages;

@@ -16,7 +16,7 @@ use grown_words::places::{
 use shared::{Fault, is_fine};
 
 // What stands at a row and column: whether there is an entry, the place where it stands or would stand, and how many entries the row has.
-#[derive(Drop)]
+#[derive(Clone, Copy)]
 struct Found {
     taken: bool,
     place: usize,

@@ -2,6 +2,8 @@
 // in and taken out. A circuit is 12,294 words that the caller lends: the sizes, and for each matrix the total of its entries, their number
 // in each row, and the entries in order; protocol/specs/Grown.antt has the layout. A matrix is named by its number: 0 for A, 1 for B, 2
 // for C.
+#![tactic(auto)]
+
 pub mod moves;
 pub mod places;
 pub mod rows;

@@ -15,7 +15,7 @@ pub const MATRICES: u32 = 3;
 pub const MAX_ROWS: u32 = 1024;
 
 // The entries of a row: from the first up to the end.
-#[derive(Drop)]
+#[derive(Clone, Copy)]
 pub struct Span {
     pub start: usize,
     pub end: usize,

@@ -1,4 +1,6 @@
 // A job's bytes to the text that program `prove` prints.
+#![tactic(auto)]
+
 ghost use Rattle.std.specs.Prelude.{◌≡◌, ◌/◌, ◌≤◌, length};
 ghost use Rattle.domain.specs.BabyBear.{baby_bear};
 ghost use Rattle.shared.specs.Meanings.{fault_refusal};

@@ -22,7 +22,7 @@ const HEAD_WORDS: usize = 6;
 const CHALLENGES: usize = 9;
 
 // Where the entries of B and C, z, r, m and the challenges begin.
-#[derive(Drop)]
+#[derive(Clone, Copy)]
 struct Places {
     b: usize,
     c: usize,

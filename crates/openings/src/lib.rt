@@ -1,6 +1,8 @@
 // The openings: each polynomial of a proof at its point, from values on the domains. The Lagrange values of the rows at α, of the columns
 // at β and of each matrix's places at γ are made once; only g1 and the g_M need coefficients. The call was let through, so that working
 // memory of the largest sizes holds every list, and the points are outside their domains.
+#![tactic(auto)]
+
 ghost use Rattle.std.specs.Prelude.{◌≡◌, ℕ, ◌<◌, length};
 ghost use Rattle.field.specs.Prime.{Prime};
 ghost use Rattle.field.specs.Element.{of, words};
@@ -22,7 +24,7 @@ mod rows;
 mod values;
 
 // The index polynomials of one matrix at one point.
-#[derive(Drop)]
+#[derive(Clone, Copy)]
 pub struct IndexOpened {
     pub row: u32,
     pub col: u32,
@@ -31,7 +33,7 @@ pub struct IndexOpened {
 }
 
 // The openings of the messages, and of the index polynomials of A, B, C.
-#[derive(Drop)]
+#[derive(Clone, Copy)]
 pub struct AllOpened {
     pub messages: Opened,
     pub a: IndexOpened,

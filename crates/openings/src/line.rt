@@ -17,7 +17,7 @@ use crate::values;
 use prover::witness;
 
 // m, g1 and h1 at one point.
-#[derive(Drop)]
+#[derive(Clone, Copy)]
 pub struct LineOpened {
     pub mask: u32,
     pub remainder: u32,

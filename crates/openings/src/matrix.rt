@@ -23,7 +23,7 @@ use circuit::matrices;
 use shared::Triple;
 
 // The index polynomials of one matrix, g_M and h_M at one point.
-#[derive(Drop)]
+#[derive(Clone, Copy)]
 pub struct MatrixOpened {
     pub index: IndexOpened,
     pub remainder: u32,

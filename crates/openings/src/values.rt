@@ -8,7 +8,7 @@ ghost use Rattle.domain.specs.Known.{Known, OutsideDomain};
 ghost use Rattle.openings.specs.Parted.{IsParted};
 
 // A polynomial's value at a point, and that of all its coefficients but the constant, one place down.
-#[derive(Drop)]
+#[derive(Clone, Copy)]
 pub struct Parted {
     pub whole: u32,
     pub rest: u32,

@@ -1,3 +1,5 @@
 // The text of a whole job: the lines of its proof and the session's last answer, or its refusal.
+#![tactic(auto)]
+
 mod conversation;
 pub mod whole;

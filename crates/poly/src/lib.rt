@@ -1,5 +1,7 @@
 // Polynomials over the field as slices of words, the constant first. The modulus p is a parameter; words of p or more stand for
 // their remainders. Results are field words.
+#![tactic(auto)]
+
 ghost use Rattle.std.specs.Prelude.{◌≡◌, ◌+◌, ◌-◌, ◌^◌, ◌<◌, ◌≤◌, length, get_or, drop, replicate};
 ghost use mathlib.Core.List.{◌++◌, map, tail};
 ghost use Rattle.algebra.specs.Polynomial.{map_running};
@@ -9,7 +11,7 @@ ghost use Rattle.domain.specs.Polynomial.{eval, eval_part, ◌⊞◌, ◌·◌, 
 ghost use Rattle.poly.specs.Meanings.{under_way};
 
 // An evaluation under way: the sum so far, and the power of the point that the next coefficient is multiplied by.
-#[derive(Drop)]
+#[derive(Clone, Copy)]
 pub struct Running {
     pub sum: u32,
     pub power: u32,

@@ -1,4 +1,6 @@
 // Reads a job from standard input and prints its proof and verdict, its refusal, or that it is too long or too short.
+#![tactic(auto)]
+
 use job::TEXT_BYTES;
 use libc::{STDIN_FILENO, STDOUT_FILENO};
 

@@ -20,7 +20,7 @@ const BAD_TRAILER: u32 = 3;
 const BAD_WORD: u32 = 6;
 
 // What reading a record answers: its sizes, or a refusal's number and position.
-#[derive(Drop)]
+#[derive(Clone, Copy)]
 pub enum Reading {
     Whole(Sizes),
     Refused(u32, usize),

@@ -46,7 +46,7 @@ pub fn shape_fault(s: Sizes, found: &[usize], lent: usize) -> Fault
 }
 
 // How far a call's words were looked through: the first refusal among them, and their count.
-#[derive(Drop)]
+#[derive(Clone, Copy)]
 struct Scan {
     fault: Fault,
     count: usize,

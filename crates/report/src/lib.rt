@@ -1,4 +1,6 @@
 // The lines of a job that program `prove` prints, round by round, and those of a verdict and of a refusal.
+#![tactic(auto)]
+
 pub mod first_rounds;
 pub mod lines;
 pub mod matrix_rounds;
@@ -7,7 +9,7 @@ pub mod messages;
 use shared::Triple;
 
 // α, η, β, δ, γ.
-#[derive(Drop)]
+#[derive(Clone, Copy)]
 pub struct Challenges {
     pub alpha: u32,
     pub eta: Triple,

@@ -34,7 +34,7 @@ fn put_fourth_lines(
 }
 
 // The ω, and the place after the sections of round 4.
-#[derive(Drop)]
+#[derive(Clone, Copy)]
 pub struct FourthRound {
     pub values: Triple,
     pub place: usize,

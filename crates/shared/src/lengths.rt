@@ -7,7 +7,7 @@ use crate::Sizes;
 use crate::six_sizes::largest;
 
 // One length for each of the matrices A, B, C.
-#[derive(Drop)]
+#[derive(Clone, Copy)]
 pub struct ThreeLengths {
     pub a: usize,
     pub b: usize,
@@ -15,7 +15,7 @@ pub struct ThreeLengths {
 }
 
 // The lengths of ŵ, m, h0, g1, h1, the g_M and h2. (The σ and ω are one word each.)
-#[derive(Drop)]
+#[derive(Clone, Copy)]
 pub struct Lengths {
     pub witness: usize,
     pub mask: usize,

@@ -1,5 +1,7 @@
 // What the crates of code share: the types, whose values specs/Meanings.antt gives their meaning, and the code that more than one crate
 // needs.
+#![tactic(auto)]
+
 ghost use Rattle.std.specs.Prelude.{◌≡◌};
 ghost use Rattle.shared.specs.Meanings.{is_fine};
 
@@ -9,14 +11,14 @@ pub mod scans;
 pub mod six_sizes;
 
 // Nothing to refuse, or a refusal: its number in document 01's table and its position.
-#[derive(Drop)]
+#[derive(Clone, Copy)]
 pub enum Fault {
     Fine,
     Refused(u32, usize),
 }
 
 // Where a part of the caller's memory stands, its start and its length, or a refusal's number and position.
-#[derive(Drop)]
+#[derive(Clone, Copy)]
 pub enum Place {
     At(usize, usize),
     Refused(u32, usize),
@@ -33,7 +35,7 @@ pub fn is_fine(fault: Fault) -> bool
 }
 
 // One word for each of the matrices A, B, C.
-#[derive(Drop)]
+#[derive(Clone, Copy)]
 pub struct Triple {
     pub a: u32,
     pub b: u32,
@@ -41,7 +43,7 @@ pub struct Triple {
 }
 
 // |R|, |C|, |X| and the three |K_M|.
-#[derive(Drop)]
+#[derive(Clone, Copy)]
 pub struct Sizes {
     pub r: u32,
     pub c: u32,
@@ -50,7 +52,7 @@ pub struct Sizes {
 }
 
 // The transcript, which the verifier hears before the openings: challenges, claimed sums and claimed matrix values.
-#[derive(Drop)]
+#[derive(Clone, Copy)]
 pub struct Transcript {
     pub alpha: u32,
     pub sums: Triple,
@@ -62,7 +64,7 @@ pub struct Transcript {
 }
 
 // The openings of the messages; those of the index polynomials stand beside them as [[u32; 4]; 3].
-#[derive(Drop)]
+#[derive(Clone, Copy)]
 pub struct Opened {
     pub witness: u32,
     pub mask: u32,
@@ -74,14 +76,14 @@ pub struct Opened {
 }
 
 // The three checks, in order.
-#[derive(Drop)]
+#[derive(Clone, Copy)]
 pub enum Check {
     Row,
     Line,
     Matrix,
 }
 
-#[derive(Drop)]
+#[derive(Clone, Copy)]
 pub enum Verdict {
     Accept,
     Fails(Check),

@@ -1,4 +1,6 @@
 // Prints the sheet of the circuits on standard input, one a line: |R| |C| |X| and the entry counts of A, B, C.
+#![tactic(auto)]
+
 use figures::{LONGEST_TEXT, SHEET_BYTES};
 use libc::{STDIN_FILENO, STDOUT_FILENO};
 

@@ -12,7 +12,7 @@ use shared::{Fault, Triple, is_fine};
 pub const MOST_CIRCUITS: usize = 16;
 
 // What a line holds.
-#[derive(Drop)]
+#[derive(Clone, Copy)]
 pub enum Found {
     Nothing,
     Circuit(Request),
@@ -21,14 +21,14 @@ pub enum Found {
 }
 
 // A line's number, counted from 1, and what it holds.
-#[derive(Drop)]
+#[derive(Clone, Copy)]
 pub struct Judged {
     pub line: usize,
     pub found: Found,
 }
 
 // The first 16 circuits, and the count of all of them, 17 for more than 16.
-#[derive(Drop)]
+#[derive(Clone, Copy)]
 pub struct Circuits {
     pub array: [Request; MOST_CIRCUITS],
     pub count: usize,

@@ -6,7 +6,7 @@ ghost use Rattle.sheet_lines.specs.Scanning.{number_read, pushed, counted, numbe
 use shared::Triple;
 
 // What the planner gives of a circuit: |R|, |C|, |X| and the entry counts of A, B, C.
-#[derive(Drop)]
+#[derive(Clone, Copy)]
 pub struct Request {
     pub r: u32,
     pub c: u32,
@@ -14,7 +14,7 @@ pub struct Request {
     pub entries: Triple,
 }
 
-#[derive(Drop)]
+#[derive(Clone, Copy)]
 pub enum Reading {
     Empty,
     Six(Request),
@@ -23,7 +23,7 @@ pub enum Reading {
 
 // What is known after some bytes: whether all of them were digits and blanks, the number whose digits are being read, how many
 // numbers have ended (7 for more than six), and the last six of them.
-#[derive(Drop)]
+#[derive(Clone, Copy)]
 pub struct Scan {
     pub fine: bool,
     pub within: bool,

@@ -1,4 +1,6 @@
 // Text into a lent buffer: bytes, and numbers in decimal. Each function puts its text from a place on and gives the place after it.
+#![tactic(auto)]
+
 ghost use Rattle.std.specs.Prelude.{◌≡◌, [], ◌∷◌, ◌+◌, ◌≤◌, ◌<◌, length};
 ghost use Rattle.text.specs.Decimal.{digit, decimal};
 ghost use Rattle.text.specs.Written.{Written};

@@ -2,6 +2,8 @@
 // size falling, down to one element. The modulus p and the root g are parameters; input words of p or more stand for their remainders.
 // Results are field words. The powers that halves are joined with come in a table by levels: the h words from place h on are the powers of
 // a root of order 2h. A second table has the quotients that prepare products by them.
+#![tactic(auto)]
+
 ghost use Rattle.std.specs.Prelude.{◌≡◌, true, List, ◌++◌, map, ℕ, ◌+◌, ◌-◌, ◌*◌, ◌/◌, ◌^◌, ◌≤◌, ◌<◌, length};
 ghost use Rattle.algebra.specs.Halving.{join as joining, transform as transforming};
 ghost use Rattle.field.specs.Prime.{Prime};

@@ -9,35 +9,35 @@ pub use record::Reading;
 pub use shared::{Check, Opened, Place, Sizes, Triple, Verdict};
 
 // One word.
-#[derive(Drop)]
+#[derive(Clone, Copy)]
 pub enum Word {
     Value(u32),
     Refused(u32, usize),
 }
 
 // An evaluation under way, after one part more.
-#[derive(Drop)]
+#[derive(Clone, Copy)]
 pub enum Evaluated {
     Value(Running),
     Refused(u32, usize),
 }
 
 // One word for each of the matrices A, B, C.
-#[derive(Drop)]
+#[derive(Clone, Copy)]
 pub enum ThreeWords {
     Value(Triple),
     Refused(u32, usize),
 }
 
 // Lent slices were filled, or left as they were.
-#[derive(Drop)]
+#[derive(Clone, Copy)]
 pub enum Filled {
     Done,
     Refused(u32, usize),
 }
 
 // The openings of all index polynomials.
-#[derive(Drop)]
+#[derive(Clone, Copy)]
 pub struct IndexesOpened {
     pub a: IndexOpened,
     pub b: IndexOpened,
@@ -61,7 +61,7 @@ impl IndexesOpened {
 }
 
 // The 21 openings.
-#[derive(Drop)]
+#[derive(Clone, Copy)]
 pub enum Openings {
     Value(Opened, IndexesOpened),
     Refused(u32, usize),

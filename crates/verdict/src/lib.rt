@@ -1,5 +1,7 @@
 // The three checks and the verdict. Any words are taken: a word of p or more stands for its remainder. No loop runs over R, C or K.
 // A check's contract is for every x, and for all openings of the index polynomials, where the check reads none.
+#![tactic(auto)]
+
 ghost use Rattle.std.specs.Prelude.{◌≡◌, true, List, map, ℕ, ◌<◌, length};
 ghost use Rattle.field.specs.Prime.{Prime};
 ghost use Rattle.field.specs.Element.{Elem, of, ◌⊗◌};

@@ -1,2 +1,4 @@
 // The verifier: the public session. Crate `step_refusals` has what refuses its steps.
+#![tactic(auto)]
+
 pub mod session;

@@ -17,7 +17,7 @@ use step_refusals::holdings::transcript_words;
 use step_refusals::refusals;
 
 // The steps taken, the sizes, the public words with zeros after them, and the transcript.
-#[derive(Drop)]
+#[derive(Clone, Copy)]
 pub struct Session {
     stage: u32,
     sizes: Sizes,
@@ -25,26 +25,26 @@ pub struct Session {
     transcript: Transcript,
 }
 
-#[derive(Drop)]
+#[derive(Clone, Copy)]
 pub enum Answer {
     Taken,
     Refused(u32, usize),
 }
 
 // The answer to openings, asked about or committed.
-#[derive(Drop)]
+#[derive(Clone, Copy)]
 pub enum OpeningsAnswer {
     Judged(Verdict),
     Refused(u32, usize),
 }
 
-#[derive(Drop)]
+#[derive(Clone, Copy)]
 pub struct Stepped {
     pub session: Session,
     pub answer: Answer,
 }
 
-#[derive(Drop)]
+#[derive(Clone, Copy)]
 pub struct OpeningsStepped {
     pub session: Session,
     pub answer: OpeningsAnswer,
