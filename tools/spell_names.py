@@ -18,6 +18,9 @@ import sys
 
 DELIMITERS = r'\s(){}.;,@"«»'
 TOKEN = re.compile(rf'[^{DELIMITERS}]+')
+# In Rust a colon, an operator or a bracket ends a name, too.
+IN_RUST = re.compile(r"(?<![\w-])\w[\w'-]*")
+QUOTED = re.compile(r"""(b?'(?:[^'\\]|\\.)'|"(?:[^"\\]|\\.)*")""", re.S)
 MARKS = r"(?:(?:pattern|unfoldable|abbrev|pub|axiom|record|data|ruleset) )*"
 DECLARED = re.compile(rf"^ *({MARKS})([^{DELIMITERS}:]+)(?: [^=]*?)? ?:(?: |$)")
 LIBRARY = re.compile(r"use (?:Rattle\.(?:std|core|io|libc|os)\b|Prim\b|borrow\b|mathlib\b|lib\b)[^\s{]*\.\{([^}]*)\}", re.S)
@@ -120,7 +123,7 @@ def code_tokens(text, rt):
         if rt and re.match(r"\s*(pub )?(use|mod|ghost use) ", line):
             continue
         line = re.sub(r"^\s*(pub )?use \S*", "", line)
-        for m in TOKEN.finditer(line):
+        for m in (IN_RUST if rt else TOKEN).finditer(line):
             if not (rt and line[m.end() : m.end() + 1] == "("):
                 yield m[0]
 
@@ -151,14 +154,19 @@ def meet(rows):
 
 
 def turned(text, rows, rt, library):
-    comment = "//" if rt else "--"
-    out = []
-    for line in text.split("\n"):
-        if line.lstrip().startswith(comment):
-            out.append(TOKEN.sub(lambda m: rows[m[0]] if m[0] in rows and "-" not in m[0] else m[0], line))
-        else:
-            out.append(TOKEN.sub(lambda m: rows[m[0]] if m[0] in rows and m[0] not in library else m[0], line))
-    return "\n".join(out)
+    comment, token = ("//", IN_RUST) if rt else ("--", TOKEN)
+
+    def turn(part):
+        out = []
+        for line in part.split("\n"):
+            if line.lstrip().startswith(comment):
+                out.append(token.sub(lambda m: rows[m[0]] if m[0] in rows and "-" not in m[0] else m[0], line))
+            else:
+                out.append(token.sub(lambda m: rows[m[0]] if m[0] in rows and m[0] not in library else m[0], line))
+        return "\n".join(out)
+
+    parts = QUOTED.split(text) if rt else [text]
+    return "".join(part if i % 2 else turn(part) for i, part in enumerate(parts))
 
 
 def main(argv):

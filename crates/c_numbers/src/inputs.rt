@@ -40,11 +40,11 @@ pub fn messages_in(o: &[u32; 21]) -> Opened
     Opened {
         witness: o[0],
         mask: o[1],
-        lineRemainder: o[2],
-        lineQuotient: o[3],
-        rowQuotient: o[4],
-        joinedQuotient: o[5],
-        matrixRemainders: Triple {
+        line_remainder: o[2],
+        line_quotient: o[3],
+        row_quotient: o[4],
+        joined_quotient: o[5],
+        matrix_remainders: Triple {
             a: o[6],
             b: o[7],
             c: o[8],

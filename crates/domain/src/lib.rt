@@ -17,7 +17,7 @@ ghost use Rattle.domain.specs.Known.{Known};
 
 pub const MAX_SIZE: u32 = 1024;
 
-// The generators g_n of the module's prime for n = 1, 2, 4, .., 1,024: `generatorTable` of the definitions.
+// The generators g_n of the module's prime for n = 1, 2, 4, .., 1,024: `generator_table` of the definitions.
 const ROOTS: [u32; 11] = [
     1, 2013265920, 1728404513, 1592366214, 196396260, 760005850, 1721589904, 397765732, 1732600167,
     1753498361, 341742893,

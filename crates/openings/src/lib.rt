@@ -91,11 +91,11 @@ fn opened_from(
     let messages = Opened {
         witness: line::witness_at(p, c, x, z, assignment, beta),
         mask: at_beta.mask,
-        lineRemainder: at_beta.remainder,
-        lineQuotient: at_beta.quotient,
-        rowQuotient: rows::row_quotient_at(p, r, rows, ea, eb, z, alpha),
-        joinedQuotient: matrix::joined_at(p, ea, eb, ec, delta, quotients),
-        matrixRemainders: Triple {
+        line_remainder: at_beta.remainder,
+        line_quotient: at_beta.quotient,
+        row_quotient: rows::row_quotient_at(p, r, rows, ea, eb, z, alpha),
+        joined_quotient: matrix::joined_at(p, ea, eb, ec, delta, quotients),
+        matrix_remainders: Triple {
             a: of_a.remainder,
             b: of_b.remainder,
             c: of_c.remainder,

@@ -19,11 +19,11 @@ pub struct ThreeLengths {
 pub struct Lengths {
     pub witness: usize,
     pub mask: usize,
-    pub rowQuotient: usize,
-    pub lineRemainder: usize,
-    pub lineQuotient: usize,
-    pub matrixRemainders: ThreeLengths,
-    pub joinedQuotient: usize,
+    pub row_quotient: usize,
+    pub line_remainder: usize,
+    pub line_quotient: usize,
+    pub matrix_remainders: ThreeLengths,
+    pub joined_quotient: usize,
 }
 
 fn wide(n: u32) -> usize
@@ -47,14 +47,14 @@ pub fn message_lengths(s: Sizes) -> Lengths
     Lengths {
         witness: less(s.c, s.x) + 1,
         mask: 2 * columns,
-        rowQuotient: less(s.r, 1),
-        lineRemainder: less(s.c, 1),
-        lineQuotient: columns,
-        matrixRemainders: ThreeLengths {
+        row_quotient: less(s.r, 1),
+        line_remainder: less(s.c, 1),
+        line_quotient: columns,
+        matrix_remainders: ThreeLengths {
             a: less(k.a, 1),
             b: less(k.b, 1),
             c: less(k.c, 1),
         },
-        joinedQuotient: less(largest(k), 1),
+        joined_quotient: less(largest(k), 1),
     }
 }

@@ -68,11 +68,11 @@ pub struct Transcript {
 pub struct Opened {
     pub witness: u32,
     pub mask: u32,
-    pub lineRemainder: u32,
-    pub lineQuotient: u32,
-    pub rowQuotient: u32,
-    pub joinedQuotient: u32,
-    pub matrixRemainders: Triple,
+    pub line_remainder: u32,
+    pub line_quotient: u32,
+    pub row_quotient: u32,
+    pub joined_quotient: u32,
+    pub matrix_remainders: Triple,
 }
 
 // The three checks, in order.

@@ -118,7 +118,7 @@ pub fn judge_alpha(
 {
     let table = message_lengths(s);
     let declared = [witness, mask, quotient];
-    let most = [table.witness, table.mask, table.rowQuotient];
+    let most = [table.witness, table.mask, table.row_quotient];
     judge_challenge(p, 1, stage, s, 0, s.r, alpha, &declared, &most)
 }
 
@@ -139,7 +139,7 @@ pub fn judge_beta(p: u32, stage: u32, s: Sizes, remainder: u32, quotient: u32, b
 {
     let table = message_lengths(s);
     let declared = [remainder, quotient];
-    let most = [table.line_remainder, table.lineQuotient];
+    let most = [table.line_remainder, table.line_quotient];
     judge_challenge(p, 3, stage, s, 1, s.c, beta, &declared, &most)
 }
 
@@ -173,7 +173,7 @@ pub fn judge_gamma(p: u32, stage: u32, s: Sizes, quotient: u32, gamma: u32) -> F
     ensures { (q : Prime) → Qualifies q → q.p ≡ p → fault_refusal result ≡ gamma_refusal q stage (sizes s) quotient gamma }
 {
     let declared = [quotient];
-    let most = [message_lengths(s).joinedQuotient];
+    let most = [message_lengths(s).joined_quotient];
     judge_challenge(p, 5, stage, s, 2, largest(s.k), gamma, &declared, &most)
 }
 

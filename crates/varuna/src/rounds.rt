@@ -31,7 +31,7 @@ pub fn first_round(
     mask: u32,
     m: &[u32],
     witness: &mut [u32],
-    rowQuotient: &mut [u32],
+    row_quotient: &mut [u32],
 ) -> Filled
     ensures { filling (filled_meaning result) (witness.new, row_quotient.new)
         ≡ fills (first_round_call baby_bear
@@ -41,7 +41,7 @@ pub fn first_round(
     let p = MODULE_PRIME;
     let lent = [witness.len(), row_quotient.len()];
     let due = matrices::lengths_of(r, c, x, ea, eb, ec);
-    let lengths = [due.witness, due.rowQuotient];
+    let lengths = [due.witness, due.row_quotient];
     let none = &z[..0];
     let fault = judge_round(
         p, r, c, x, ea, eb, ec, z, mask, m, &lent, &lengths, none, none,
@@ -109,7 +109,7 @@ pub fn third_round(
     let p = MODULE_PRIME;
     let lent = [remainder.len(), quotient.len()];
     let due = matrices::lengths_of(r, c, x, ea, eb, ec);
-    let lengths = [due.line_remainder, due.lineQuotient];
+    let lengths = [due.line_remainder, due.line_quotient];
     let words = [alpha, eta.a, eta.b, eta.c];
     let at = [alpha];
     let fault = judge_round(
@@ -191,7 +191,7 @@ pub fn fifth_round(
 {
     let p = MODULE_PRIME;
     let lent = [out.len()];
-    let lengths = [matrices::lengths_of(r, c, x, ea, eb, ec).joinedQuotient];
+    let lengths = [matrices::lengths_of(r, c, x, ea, eb, ec).joined_quotient];
     let words = [alpha, eta.a, eta.b, eta.c, beta, delta.a, delta.b, delta.c];
     let at = [alpha, beta];
     let fault = judge_round(

@@ -23,7 +23,7 @@ pub extern "C" fn varuna_first_round(
     mask: u32,
     m: &[u32],
     witness: &mut [u32],
-    rowQuotient: &mut [u32],
+    row_quotient: &mut [u32],
     position: &mut usize,
 ) -> u32
     ensures { told result position.new (witness.new, row_quotient.new)

@@ -41,7 +41,7 @@ pub extern "C" fn varuna_session_alpha(
     session: &mut [u32; SESSION_WORDS],
     witness: u32,
     mask: u32,
-    rowQuotient: u32,
+    row_quotient: u32,
     alpha: u32,
     position: &mut usize,
 ) -> u32
