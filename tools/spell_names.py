@@ -155,6 +155,11 @@ def meet(rows):
 
 def turned(text, rows, rt, library):
     comment, token = ("//", IN_RUST) if rt else ("--", TOKEN)
+    # Modules of the library under their own names: what stands behind one and a dot is the library's.
+    modules = {m[1] for m in re.finditer(r"(?m)^ *use (?!Rattle\.)\S*?(\w+)$", text)}
+
+    def of_module(line, m):
+        return line[m.start() - 1 : m.start()] == "." and TOKEN.findall(line[: m.start()])[-1] in modules
 
     def turn(part):
         out = []
@@ -162,7 +167,7 @@ def turned(text, rows, rt, library):
             if line.lstrip().startswith(comment):
                 out.append(token.sub(lambda m: rows[m[0]] if m[0] in rows and "-" not in m[0] else m[0], line))
             else:
-                out.append(token.sub(lambda m: rows[m[0]] if m[0] in rows and m[0] not in library else m[0], line))
+                out.append(token.sub(lambda m: rows[m[0]] if m[0] in rows and m[0] not in library and not of_module(line, m) else m[0], line))
         return "\n".join(out)
 
     parts = QUOTED.split(text) if rt else [text]

@@ -85,7 +85,7 @@ module _ {q : Prime} where
   mul_comm a b = ap of (Nat.mul_comm a.word b.word)
 
   pub mul_one : (a : Elem q) → a ⊗ 𝟙 ≡ a
-  mul_one a = ap (λ (x : Elem q). x ⊗ 𝟙) (sym (of_word a)) ∙ sym (of-mul a.word 1) ∙ ap of (Nat.mul_one a.word) ∙ of_word a
+  mul_one a = ap (λ (x : Elem q). x ⊗ 𝟙) (sym (of_word a)) ∙ sym (of-mul a.word 1) ∙ ap of (Nat.mul-one a.word) ∙ of_word a
 
   pub mul-add : (a b c : Elem q) → a ⊗ (b ⊕ c) ≡ a ⊗ b ⊕ a ⊗ c
   unfolding of ◌⊕◌ ◌⊗◌
