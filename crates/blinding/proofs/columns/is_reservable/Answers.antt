@@ -1,0 +1,65 @@
+-- `blinding::columns::is_reservable` meets its contract. Assumes nothing.
+use mathlib.Core.Path.{◌≡◌, sym, ap, ◌∙◌}
+use Prim.Native.Nat.{ℕ, ◌-◌}
+use native.Mathlib.Omega.{arith}
+use Rattle.domain.proofs.SizeLaws.{size_positive}
+use Rattle.protocol.specs.Circuit.{Circuit}
+use Rattle.protocol.specs.Blinded.{reserved_row, reserved_columns}
+use Rattle.shared.specs.Meanings.{three}
+use Rattle.blinding.proofs.Reserved.{too_few, found_in_a, found_in_b, found_in_c}
+use Rattle.blinding.proofs.columns.is_reservable.Goals as goal
+use Rattle.blinding.proofs.columns.is_reservable.Goals.{After-reserved_columns-columns, Start}
+
+-- the start, from the columns; and the reserved row and columns of a circuit with the sizes that are given
+abbrev start : After-reserved_columns-columns → Start
+start c = c.before.before.before.before.before
+
+row : (k : Circuit) {r : ℕ} → k.|R| ≡ r → reserved_row k ≡ r - 1
+row k rows = ap (λ n. n - 1) rows
+
+reserved : (c : After-reserved_columns-columns) (k : Circuit) → k.|C| ≡ (start c).args.c → k.|X| ≡ (start c).args.x
+    → reserved_columns k ≡ three c.reserved_columns-columns.result
+reserved c k columns publics = sym (c.reserved_columns-columns.ensures k columns publics)
+
+pub returns-then-c-x-lt3 : goal.returns-then-c-x-lt3
+returns-then-c-x-lt3 c k rows columns publics matrices =
+    let s = c in
+    too_few k columns publics s.requires s.args.ea.now s.args.eb.now s.args.ec.now matrices c.if-c-x-lt3.true
+
+pub reserved_columns-columns-requires : goal.reserved_columns-columns-requires
+reserved_columns-columns-requires c =
+    let h = c.requires in
+    record { C-size = h.C-size; X-size = h.X-size; X-within = h.X-within; enough = omega arith }
+
+pub overflow_sub-last : goal.overflow_sub-last
+overflow_sub-last c = omega (arith, size_positive _ (start c).requires.R-size)
+
+pub returns-then-any_reserved : goal.returns-then-any_reserved
+returns-then-any_reserved c k rows columns publics matrices =
+    let found = c.before.before in
+    let s = start found in
+    found_in_a k columns publics s.pre s.args.ea.now s.args.eb.now s.args.ec.now matrices (omega arith)
+    (sym (found.any_reserved.ensures k (row k rows) (reserved found k columns publics)) ∙ c.if-any_reserved.true)
+
+pub returns-then-any_reserved-2 : goal.returns-then-any_reserved-2
+returns-then-any_reserved-2 c k rows columns publics matrices =
+    let found = c in
+    let not_a = found in
+    let r = not_a.before.before.before.before in
+    let s = start r in
+    let same = reserved r k columns publics in
+    found_in_b k columns publics s.pre s.args.ea.now s.args.eb.now s.args.ec.now matrices (omega arith)
+    (sym (not_a.any_reserved.ensures k (row k rows) same) ∙ not_a.if-any_reserved.false)
+    (sym (found.any_reserved-2.ensures k (row k rows) same) ∙ c.if-any_reserved-2.true)
+
+pub returns : goal.returns
+returns c k rows columns publics matrices =
+    let not-b = c in
+    let not_a = not-b in
+    let r = not_a.before.before.before.before.before in
+    let s = start r in
+    let same = reserved r k columns publics in
+    found_in_c k columns publics s.pre s.args.ea.now s.args.eb.now s.args.ec.now matrices (omega arith)
+    (sym (not_a.any_reserved.ensures k (row k rows) same) ∙ not_a.if-any_reserved.false)
+    (sym (not-b.any_reserved-2.ensures k (row k rows) same) ∙ not-b.if-any_reserved-2.false)
+    (c.any_reserved-3.ensures k (row k rows) same)

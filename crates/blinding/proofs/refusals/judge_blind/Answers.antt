@@ -1,0 +1,94 @@
+-- `blinding::refusals::judge_blind` meets its contract. Assumes nothing.
+use mathlib.Core.Path.{◌≡◌, refl, sym, ◌∙◌}
+use mathlib.Core.Bool.{true}
+use mathlib.Core.List.{List, [], ◌∷◌}
+use mathlib.Core.Option.{Option}
+use lib.Dec.{eqb}
+use borrow.Author.Tests.{not-true, not-false}
+use Rattle.field.specs.Prime.{Prime}
+use Rattle.protocol.specs.Refusals.{Refusal, first, refuse, pairs}
+use Rattle.protocol.specs.Calls.{CircuitWords, circuit_of}
+use Rattle.protocol.specs.Blinded.{blind_refusal}
+use Rattle.shared.specs.Meanings.{is_fine, three}
+use Rattle.circuit.specs.Given.{given}
+use Rattle.blinding.specs.Judgement.{shape_refusal, contents_refusal}
+use Rattle.shared.proofs.EarlyReturns.{stops, goes_on, fine_none, last_answer_lem}
+use Rattle.blinding.proofs.Parts.{lengths_due, blind_in_parts, shape_fits}
+use Rattle.blinding.proofs.refusals.judge_blind.Goals as goal
+use Rattle.blinding.proofs.refusals.judge_blind.Goals.{After-check_lent-slices, After-judge_shape-shape, Else-not-is_fine, Start}
+
+-- the start, from the answers on the shape and on the lent slices
+abbrev from-shape : After-judge_shape-shape → Start
+from-shape c = c.before.before.before.before.before
+
+abbrev from-lent : After-check_lent-slices → Start
+from-lent c = from-shape c.before.before.before.before.before
+
+-- the circuit that the call is given, and what is to be answered: the shape, the lent slices, the contents
+abbrev circuit : Start → CircuitWords
+circuit s = let a = s.args in given a.r a.c a.x a.ea.now a.eb.now a.ec.now
+
+abbrev shape : Start → Option Refusal
+shape s = shape_refusal (circuit s) s.args.z.now
+
+module _ (q : Prime) (s : Start) where
+  abbrev contents : Option Refusal
+  contents = contents_refusal q (circuit_of (circuit s)) s.args.z.now (three s.args.rho)
+
+  abbrev after_shape : List (Option Refusal)
+  after_shape =
+      let a = s.args in
+      refuse 5 4 (pairs eqb (a.lentA ∷ a.lentB ∷ a.lentC ∷ a.lentZ ∷ []) (lengths_due (circuit s))) ∷ contents ∷ []
+
+  abbrev due : Option Refusal
+  due =
+      let a = s.args in
+      blind_refusal q (circuit s) a.z.now (three a.rho) (record { a = a.lentA; b = a.lentB; c = a.lentC }) a.lentZ
+
+  in_parts : first (shape s ∷ after_shape) ≡ due
+  in_parts =
+      let a = s.args in
+      sym (blind_in_parts q (circuit s) a.z.now (three a.rho) (record { a = a.lentA; b = a.lentB; c = a.lentC }) a.lentZ)
+
+-- past the shape
+shape_fine : (c : Else-not-is_fine) → is_fine c.judge_shape-shape.result ≡ true
+shape_fine c = sym c.is_fine.ensures ∙ not-false _ c.if-not-is_fine.false
+
+pass_shape : (q : Prime) (c : Else-not-is_fine) {x : Option Refusal} → let s = from-shape c.before.before in x ≡ first (after_shape q s) → x ≡ due q s
+pass_shape q c y =
+    let j = c.before.before in
+    goes_on j.judge_shape-shape.result {o = shape (from-shape j)} j.judge_shape-shape.ensures (after_shape q (from-shape j)) (shape_fine c) y
+    ∙ in_parts q (from-shape j)
+
+pub returns-then-not-is_fine : goal.returns-then-not-is_fine
+returns-then-not-is_fine c q e =
+    let j = c.before.before in
+    stops j.judge_shape-shape.result {o = shape (from-shape j)} j.judge_shape-shape.ensures (after_shape q (from-shape j))
+    (sym c.is_fine.ensures ∙ not-true _ c.if-not-is_fine.true)
+    ∙ in_parts q (from-shape j)
+
+pub returns-then-not-is_fine-2 : goal.returns-then-not-is_fine-2
+returns-then-not-is_fine-2 c q e =
+    let l = c.before.before in
+    pass_shape q l.before.before.before
+    (stops l.check_lent-slices.result l.check_lent-slices.ensures (contents q (from-lent l) ∷ [])
+    (sym c.is_fine-2.ensures ∙ not-true _ c.if-not-is_fine-2.true))
+
+pub judge_contents-requires : goal.judge_contents-requires
+judge_contents-requires c =
+    let d = c.before.before.before.before.before in
+    let j = d.before.before in
+    let s = from-shape j in
+    let a = s.args in
+    shape_fits a.r a.c a.x a.ea.now a.eb.now a.ec.now a.z.now
+    (fine_none j.judge_shape-shape.result {o = shape s} j.judge_shape-shape.ensures (shape_fine d))
+
+pub returns : goal.returns
+unfolding circuit_of
+returns c q e =
+    let d = c in
+    let l = d.before.before.before.before.before.before in
+    let s = from-lent l in
+    pass_shape q l
+    (goes_on l.check_lent-slices.result l.check_lent-slices.ensures (contents q s ∷ []) (sym d.is_fine-2.ensures ∙ not-false _ d.if-not-is_fine-2.false)
+    (last_answer_lem {o = contents q s} (c.judge_contents.ensures q e (circuit_of (circuit s)) refl refl refl refl)))

@@ -1,0 +1,114 @@
+-- `call_refusals::judge_index` meets its contract. Assumes nothing.
+use mathlib.Core.Path.{◌≡◌, refl, sym, ap, ◌∙◌}
+use mathlib.Core.Bool.{Bool, true}
+use mathlib.Core.List.{List, [], ◌∷◌}
+use mathlib.Core.Option.{Option}
+use Prim.Native.Nat.{ℕ}
+use native.Mathlib.Omega.{arith}
+use lib.Dec.{eqb}
+use borrow.Author.Tests.{not-true, not-false}
+use Rattle.field.specs.Prime.{Prime}
+use Rattle.shared.specs.Meanings.{fault_refusal, is_fine}
+use Rattle.protocol.specs.Refusals.{Refusal, first, refuse, pairs}
+use Rattle.protocol.specs.Calls.{CircuitWords, circuit_of}
+use Rattle.circuit.specs.Given.{given}
+use Rattle.circuit.specs.Judgement.{index_due, index_shape_refusal, index_refusal, index_contents_refusal}
+use Rattle.shared.proofs.EarlyReturns.{stops, goes_on, fine_none, last_answer_lem}
+use Rattle.circuit.proofs.Parts.{index_in_parts, index_shape_fits}
+use Rattle.call_refusals.proofs.judge_index.Goals as goal
+use Rattle.call_refusals.proofs.judge_index.Goals.{After-check_lent-slices, After-judge_index_shape-shape, Else-not-is_fine, Start}
+
+-- the start, from the answers on the shape and on the lent slices
+abbrev from-shape : After-judge_index_shape-shape → Start
+from-shape c = c.before.before.before.before
+
+abbrev from-lent : After-check_lent-slices → Start
+from-lent c = from-shape c.before.before.before.before.before.before
+
+-- what the call is given: its circuit and, argument 8, the lengths of the lent slices; the tests of these, and the parts of the answer
+module _ (s : Start) where
+  abbrev circuit : CircuitWords
+  circuit = given s.args.r s.args.c s.args.x s.args.ea.now s.args.eb.now s.args.ec.now
+
+  abbrev lengths : List ℕ
+  lengths = s.args.t8
+
+  abbrev tests : List Bool
+  tests = pairs eqb lengths (index_due (circuit_of circuit).matrices)
+
+  module _ (q : Prime) where
+    abbrev contents : Option Refusal
+    contents = index_contents_refusal q (circuit_of circuit)
+
+    abbrev after_shape : List (Option Refusal)
+    after_shape = refuse 5 3 tests ∷ contents ∷ []
+
+    in_parts : first (index_shape_refusal circuit ∷ after_shape) ≡ index_refusal q circuit lengths
+    unfolding index_refusal
+    in_parts = sym (index_in_parts q circuit tests)
+
+-- past the shape
+shape_fine : (c : Else-not-is_fine) → is_fine c.judge_index_shape-shape.result ≡ true
+shape_fine c = sym c.is_fine.ensures ∙ not-false _ c.if-not-is_fine.false
+
+pass_shape : (q : Prime) (c : Else-not-is_fine) {x : Option Refusal} → let s = from-shape c.before.before in
+    x ≡ first (after_shape s q) → x ≡ index_refusal q (circuit s) (lengths s)
+pass_shape q c y =
+    let j = c.before.before in
+    let s = from-shape j in
+    goes_on j.judge_index_shape-shape.result {o = index_shape_refusal (circuit s)} j.judge_index_shape-shape.ensures (after_shape s q) (shape_fine c) y
+    ∙ in_parts s q
+
+-- the slices are judged by the lengths that are due
+slices : (c : After-check_lent-slices) → fault_refusal c.check_lent-slices.result ≡ refuse 5 3 (tests (from-lent c))
+unfolding circuit_of
+slices c =
+    c.check_lent-slices.ensures
+    ∙ ap (λ (due : List ℕ). refuse 5 3 (pairs eqb (lengths (from-lent c)) due)) c.index_lengths-due.ensures
+
+pub judge_index_shape-shape-requires : goal.judge_index_shape-shape-requires
+judge_index_shape-shape-requires c = tt
+
+pub is_fine-requires : goal.is_fine-requires
+is_fine-requires c = tt
+
+pub returns-then-not-is_fine : goal.returns-then-not-is_fine
+returns-then-not-is_fine c q e =
+    let j = c.before.before in
+    let s = from-shape j in
+    stops j.judge_index_shape-shape.result {o = index_shape_refusal (circuit s)} j.judge_index_shape-shape.ensures (after_shape s q)
+    (sym c.is_fine.ensures ∙ not-true _ c.if-not-is_fine.true)
+    ∙ in_parts s q
+
+pub index_lengths-due-requires : goal.index_lengths-due-requires
+index_lengths-due-requires c = tt
+
+pub check_lent-slices-requires : goal.check_lent-slices-requires
+check_lent-slices-requires c = omega arith
+
+pub is_fine-requires-2 : goal.is_fine-requires-2
+is_fine-requires-2 c = tt
+
+pub returns-then-not-is_fine-2 : goal.returns-then-not-is_fine-2
+returns-then-not-is_fine-2 c q e =
+    let l = c.before.before in
+    pass_shape q l.before.before.before.before
+    (stops l.check_lent-slices.result (slices l) (contents (from-lent l) q ∷ []) (sym c.is_fine-2.ensures ∙ not-true _ c.if-not-is_fine-2.true))
+
+pub judge_index_contents-requires : goal.judge_index_contents-requires
+judge_index_contents-requires c =
+    let d = c.before.before.before.before.before.before in
+    let j = d.before.before in
+    let s = from-shape j in
+    (index_shape_fits s.args.r s.args.c s.args.x s.args.ea.now s.args.eb.now s.args.ec.now
+    (fine_none j.judge_index_shape-shape.result {o = index_shape_refusal (circuit s)} j.judge_index_shape-shape.ensures (shape_fine d))).lists
+
+pub returns : goal.returns
+unfolding circuit_of
+returns c q e =
+    let d = c in
+    let l = d.before.before.before in
+    let s = from-lent l in
+    pass_shape q l.before.before.before.before
+    (goes_on l.check_lent-slices.result (slices l) (contents s q ∷ []) (sym d.is_fine-2.ensures ∙ not-false _ d.if-not-is_fine-2.false)
+    (last_answer_lem (c.judge_index_contents.ensures q e (circuit_of (circuit s)) refl refl refl)))

@@ -1,0 +1,108 @@
+-- `call_refusals::judge_round` meets its contract. Assumes nothing.
+use mathlib.Core.Path.{◌≡◌, refl, sym, ◌∙◌}
+use mathlib.Core.Bool.{true}
+use mathlib.Core.List.{List, [], ◌∷◌}
+use mathlib.Core.Option.{Option}
+use native.Mathlib.Omega.{arith}
+use lib.Dec.{eqb}
+use borrow.Author.Tests.{not-true, not-false}
+use Rattle.field.specs.Prime.{Prime}
+use Rattle.shared.specs.Meanings.{is_fine}
+use Rattle.protocol.specs.Refusals.{Refusal, first, refuse, pairs}
+use Rattle.protocol.specs.Calls.{CircuitWords, circuit_of, round_refusal}
+use Rattle.circuit.specs.Given.{given, prover_input}
+use Rattle.circuit.specs.Judgement.{shape_refusal, contents_refusal}
+use Rattle.shared.proofs.EarlyReturns.{stops, goes_on, fine_none, last_answer_lem}
+use Rattle.circuit.proofs.Parts.{prover_in_parts, shape_fits}
+use Rattle.call_refusals.proofs.judge_round.Goals as goal
+use Rattle.call_refusals.proofs.judge_round.Goals.{After-check_lent-slices, After-judge_shape-shape, Else-not-is_fine, Start}
+
+-- the start, from the answers on the shape and on the lent slices
+abbrev from-shape : After-judge_shape-shape → Start
+from-shape c = c.before.before.before.before.before.before.before.before.before.before
+
+abbrev from-lent : After-check_lent-slices → Start
+from-lent c = from-shape c.before.before.before
+
+-- the circuit that the call is given, and what is to be answered: the shape, the lent slices, the contents
+abbrev circuit : Start → CircuitWords
+circuit s = given s.args.r s.args.c s.args.x s.args.ea.now s.args.eb.now s.args.ec.now
+
+abbrev shape : Start → Option Refusal
+shape s = shape_refusal (circuit s) s.args.z.now s.args.m.now
+
+module _ (q : Prime) (s : Start) where
+  abbrev contents : Option Refusal
+  contents =
+      let a = s.args in
+      contents_refusal q (circuit_of (circuit s)) a.z.now a.mask a.m.now a.challenges.now a.points.now
+
+  abbrev after_shape : List (Option Refusal)
+  after_shape = refuse 5 5 (pairs eqb s.args.lent.now s.args.due.now) ∷ contents ∷ []
+
+  abbrev due : Option Refusal
+  due =
+      let a = s.args in
+      round_refusal q (prover_input a.r a.c a.x a.ea.now a.eb.now a.ec.now a.z.now a.mask a.m.now)
+      a.lent.now a.due.now a.challenges.now a.points.now
+
+  in_parts : first (shape s ∷ after_shape) ≡ due
+  unfolding round_refusal
+  in_parts =
+      let a = s.args in
+      sym (prover_in_parts q (circuit s) (pairs eqb a.lent.now a.due.now) a.z.now a.mask a.m.now a.challenges.now a.points.now)
+
+-- past the shape
+shape_fine : (c : Else-not-is_fine) → is_fine c.judge_shape-shape.result ≡ true
+shape_fine c = sym c.is_fine.ensures ∙ not-false _ c.if-not-is_fine.false
+
+pass_shape : (q : Prime) (c : Else-not-is_fine) {x : Option Refusal} → let s = from-shape c.before.before in x ≡ first (after_shape q s) → x ≡ due q s
+pass_shape q c y =
+    let j = c.before.before in
+    goes_on j.judge_shape-shape.result {o = shape (from-shape j)} j.judge_shape-shape.ensures (after_shape q (from-shape j)) (shape_fine c) y
+    ∙ in_parts q (from-shape j)
+
+pub judge_shape-shape-requires : goal.judge_shape-shape-requires
+judge_shape-shape-requires c = tt
+
+pub is_fine-requires : goal.is_fine-requires
+is_fine-requires c = tt
+
+pub returns-then-not-is_fine : goal.returns-then-not-is_fine
+returns-then-not-is_fine c q Q e =
+    let j = c.before.before in
+    stops j.judge_shape-shape.result {o = shape (from-shape j)} j.judge_shape-shape.ensures (after_shape q (from-shape j))
+    (sym c.is_fine.ensures ∙ not-true _ c.if-not-is_fine.true)
+    ∙ in_parts q (from-shape j)
+
+pub check_lent-slices-requires : goal.check_lent-slices-requires
+check_lent-slices-requires c = omega arith
+
+pub is_fine-requires-2 : goal.is_fine-requires-2
+is_fine-requires-2 c = tt
+
+pub returns-then-not-is_fine-2 : goal.returns-then-not-is_fine-2
+returns-then-not-is_fine-2 c q Q e =
+    let l = c.before.before in
+    pass_shape q l.before
+    (stops l.check_lent-slices.result l.check_lent-slices.ensures (contents q (from-lent l) ∷ []) (sym c.is_fine-2.ensures ∙ not-true _ c.if-not-is_fine-2.true))
+
+pub judge_contents-requires : goal.judge_contents-requires
+judge_contents-requires c =
+    let j = c.before.before.before.before.before in
+    let s = from-shape j in
+    let a = s.args in
+    let fits =
+    shape_fits a.r a.c a.x a.ea.now a.eb.now a.ec.now a.z.now a.m.now
+    (fine_none j.judge_shape-shape.result {o = shape s} j.judge_shape-shape.ensures (shape_fine c.before.before.before)) in
+    (s.pre.0, (fits, s.pre.1.1))
+
+pub returns : goal.returns
+unfolding circuit_of
+returns c q Q e =
+    let d = c in
+    let l = d.before.before.before.before in
+    let s = from-lent l in
+    pass_shape q l
+    (goes_on l.check_lent-slices.result l.check_lent-slices.ensures (contents q s ∷ []) (sym d.is_fine-2.ensures ∙ not-false _ d.if-not-is_fine-2.false)
+    (last_answer_lem {o = contents q s} (c.judge_contents.ensures q Q e (circuit_of (circuit s)) refl refl refl)))

@@ -1,0 +1,35 @@
+-- `circuit::checks::check_assignment` meets its contract. Assumes nothing.
+use mathlib.Core.Path.{◌≡◌, refl, sym, ◌∙◌, subst⁻¹}
+use mathlib.Core.List.{List}
+use Prim.Native.Nat.{ℕ}
+use native.Mathlib.Omega.{arith}
+use lib.ListN.{length, take, replicate}
+use lib.Seq.{length-take-le}
+use Rattle.circuit.specs.Given.{EachWithin}
+use Rattle.circuit.proofs.checks.check_assignment.Goals as goal
+
+-- an array as it is made
+abbrev zeros : List ℕ
+zeros = replicate 1024 0
+
+pub slice_bounds-left-end : goal.slice_bounds-left-end
+slice_bounds-left-end c = omega arith
+
+pub slice_bounds-right-end : goal.slice_bounds-right-end
+slice_bounds-right-end c = omega arith
+
+pub slice_bounds-product-end : goal.slice_bounds-product-end
+slice_bounds-product-end c = omega arith
+
+pub check_sums-requires : goal.check_sums-requires
+check_sums-requires c =
+    let s = c in
+    let same : length (take s.args.r zeros) ≡ s.args.r = length-take-le s.args.r zeros s.requires.r_le_max_size.0 in (
+      s.requires.p_nonzero,
+      ((refl, refl), subst⁻¹ (λ (n : ℕ). EachWithin n (length s.args.z.now) s.args.ea.now s.args.eb.now s.args.ec.now) same s.requires.r_le_max_size.1),
+    )
+
+pub returns : goal.returns
+returns c q e k rows matrices =
+    let s = c in
+    c.check_sums.ensures q e k (rows ∙ sym (length-take-le s.args.r zeros s.requires.r_le_max_size.0)) matrices

@@ -1,0 +1,12 @@
+-- What the loop of `circuit::checks::check_entries` keeps. Assumes nothing.
+use mathlib.Core.Path.{◌≡◌}
+use Prim.Native.Nat.{◌-◌, ◌≤◌}
+use Rattle.protocol.specs.Circuit.{Circuit}
+use Rattle.protocol.proofs.Rows.{Passed}
+use Rattle.circuit.proofs.checks.check_entries.Given as goal
+
+abbrev pub invariant-loop-i : goal.invariant-loop-i
+invariant-loop-i l = (l.i ≤ l.count) × ((k : Circuit) → k.|R| ≡ l.r → k.|C| ≡ l.c → Passed 7 l.start (tests k l.entries) l.i)
+
+abbrev pub decreases-loop-i : goal.decreases-loop-i
+decreases-loop-i l = l.count - l.i

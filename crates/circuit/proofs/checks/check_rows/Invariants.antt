@@ -1,0 +1,17 @@
+-- What the loop of `circuit::checks::check_rows` keeps. Assumes nothing.
+use mathlib.Core.Path.{◌≡◌}
+use Prim.Native.Nat.{ℕ, ◌-◌, ◌≤◌}
+use lib.ListN.{length}
+use Rattle.algebra.specs.Lists.{tabulate}
+use Rattle.field.specs.Prime.{Prime}
+use Rattle.field.specs.Element.{Elem, words}
+use Rattle.protocol.proofs.Rows.{Passed}
+use Rattle.circuit.proofs.checks.check_rows.Given as goal
+
+abbrev pub invariant-loop-i : goal.invariant-loop-i
+invariant-loop-i l =
+    (l.i ≤ length l.left) × ((q : Prime) → q.p ≡ l.p → (n : ℕ) (s t u : ℕ → Elem q) → l.left ≡ words (tabulate n s) → l.right ≡ words (tabulate n t)
+    → l.product ≡ words (tabulate n u) → Passed 9 0 (tests q n s t u) l.i)
+
+abbrev pub decreases-loop-i : goal.decreases-loop-i
+decreases-loop-i l = length l.left - l.i

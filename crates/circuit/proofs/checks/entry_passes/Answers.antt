@@ -1,0 +1,96 @@
+-- `circuit::checks::entry_passes` meets its contract. Assumes nothing.
+use mathlib.Core.Path.{◌≡◌, sym, ◌∙◌}
+use Prim.Native.Nat.{◌+◌, ◌*◌, ◌<◌}
+use native.Mathlib.Omega.{arith}
+use lib.ListN.{length}
+use borrow.Author.Tests.{not-true, not-false}
+use Rattle.protocol.specs.Circuit.{Circuit}
+use Rattle.protocol.specs.Refusals.{fits}
+use Rattle.circuit.specs.Given.{entry_words}
+use Rattle.circuit.proofs.Entries.{fits_by, entry-words-within, entry_misfits, entry_first, entry_later}
+use Rattle.circuit.proofs.checks.entry_passes.Goals as goal
+use Rattle.circuit.proofs.checks.entry_passes.Goals.{After-entry_fits, Start}
+
+-- the words of the entry are in the list
+words-within : (s : Start) → 3 * s.args.i + 2 < length s.args.entries.now
+words-within s = entry-words-within s.args.entries.now s.args.i s.requires
+
+-- the start, from the answer on the entry by itself, and what this answer says
+abbrev start : After-entry_fits → Start
+start c = c.before.before.before.before.before
+
+entry-answer : (c : After-entry_fits) (k : Circuit) → k.|R| ≡ (start c).args.r → k.|C| ≡ (start c).args.c
+    → fits k (entry_words (start c).args.entries.now (start c).args.i) ≡ c.entry_fits.result
+entry-answer c k er ec = fits_by k (entry_words (start c).args.entries.now (start c).args.i) er ec ∙ sym c.entry_fits.ensures
+
+pub overflow_mul-at : goal.overflow_mul-at
+overflow_mul-at c = omega (arith, words-within c.before)
+
+pub offset_bounds-entries-at : goal.offset_bounds-entries-at
+offset_bounds-entries-at c = omega (arith, words-within c.before)
+
+pub bounds-entries-at : goal.bounds-entries-at
+bounds-entries-at c = omega (arith, words-within c.before.before)
+
+pub overflow_add-column : goal.overflow_add-column
+overflow_add-column c = omega (arith, words-within c.before.before)
+
+pub offset_bounds-entries-at-2 : goal.offset_bounds-entries-at-2
+offset_bounds-entries-at-2 c = omega (arith, words-within c.before.before)
+
+pub bounds-entries-at-2 : goal.bounds-entries-at-2
+bounds-entries-at-2 c = omega (arith, words-within c.before.before.before)
+
+pub overflow_add-at : goal.overflow_add-at
+overflow_add-at c = omega (arith, words-within c.before.before.before)
+
+pub offset_bounds-entries-at-3 : goal.offset_bounds-entries-at-3
+offset_bounds-entries-at-3 c = omega (arith, words-within c.before.before.before)
+
+pub bounds-entries-at-3 : goal.bounds-entries-at-3
+bounds-entries-at-3 c = omega (arith, words-within c.before.before.before.before)
+
+pub entry_fits-requires : goal.entry_fits-requires
+entry_fits-requires c = tt
+
+pub returns-then-not-entry_fits : goal.returns-then-not-entry_fits
+returns-then-not-entry_fits c k er ec =
+    let f = c.before in
+    let s = start f in
+    sym (entry_misfits k s.args.entries.now s.args.i s.pre (entry-answer f k er ec ∙ not-true _ c.if-not-entry_fits.true))
+
+pub returns-then-i-eq0 : goal.returns-then-i-eq0
+returns-then-i-eq0 c k er ec =
+    let d = c.before.before in
+    let s = start d in
+    sym (entry_first k s.args.entries.now s.args.i s.pre (entry-answer d k er ec ∙ not-false _ d.if-not-entry_fits.false) c.if-i-eq0.true)
+
+pub overflow_sub-at : goal.overflow_sub-at
+overflow_sub-at c = omega arith
+
+pub offset_bounds-entries-at-4 : goal.offset_bounds-entries-at-4
+offset_bounds-entries-at-4 c = omega (arith, words-within c.before.before.before.before.before.before.before)
+
+pub bounds-entries-at-4 : goal.bounds-entries-at-4
+bounds-entries-at-4 c = omega (arith, words-within c.before.before.before.before.before.before.before.before)
+
+pub overflow_sub-at-2 : goal.overflow_sub-at-2
+overflow_sub-at-2 c = omega arith
+
+pub offset_bounds-entries-at-5 : goal.offset_bounds-entries-at-5
+offset_bounds-entries-at-5 c = omega (arith, words-within c.before.before.before.before.before.before.before.before)
+
+pub bounds-entries-at-5 : goal.bounds-entries-at-5
+bounds-entries-at-5 c = omega (arith, words-within c.before.before.before.before.before.before.before.before.before)
+
+pub stands_before-requires : goal.stands_before-requires
+stands_before-requires c = tt
+
+pub returns : goal.returns
+returns c k er ec =
+    let later = c in
+    let d = later.before.before.before.before.before in
+    let s = start d in
+    c.stands_before.ensures
+    ∙ sym
+    (entry_later k s.args.entries.now s.args.i s.pre (entry-answer d k er ec ∙ not-false _ d.if-not-entry_fits.false) later.if-i-eq0.false)

@@ -1,0 +1,18 @@
+-- What the loop of `domain::fill_powers` keeps. Assumes nothing.
+use mathlib.Core.Path.{◌≡◌}
+use Prim.Native.Nat.{◌-◌, ◌≤◌}
+use lib.ListN.{length}
+use Rattle.algebra.specs.Ring.{pow}
+use Rattle.field.specs.Prime.{Prime}
+use Rattle.field.specs.Element.{of}
+use Rattle.field.proofs.ElementLaws.{prime_ring}
+use Rattle.domain.proofs.Fill.{Filled}
+use Rattle.domain.proofs.fill_powers.Given as goal
+
+abbrev pub invariant-loop-i : goal.invariant-loop-i
+invariant-loop-i l =
+    (l.i ≤ length l.out) × (length l.out ≡ length l.initial.out)
+    × ((q : Prime) → q.p ≡ l.p → (l.power ≡ (pow (prime_ring q) (of l.g) l.i).word) × Filled (powers q l.g (length l.initial.out)) l.out l.i)
+
+abbrev pub decreases-loop-i : goal.decreases-loop-i
+decreases-loop-i l = length l.out - l.i

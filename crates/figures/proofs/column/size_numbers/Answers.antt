@@ -1,0 +1,16 @@
+-- `figures::column::size_numbers` meets its contract. Assumes nothing.
+use mathlib.Core.Path.{ap}
+use mathlib.Core.List.{[], ◌∷◌}
+use Rattle.protocol.specs.Circuit.{Sizes, largest}
+use Rattle.sheet_lines.specs.Meanings.{given}
+use Rattle.figures.proofs.column.size_numbers.Goals as goal
+
+pub returns : goal.returns
+returns c =
+    let sized = c in
+    let g = given sized.args.g in
+    rw c.largest.ensures
+    (ap
+    (λ (s : Sizes).
+    g.|R| ∷ g.|C| ∷ g.|X| ∷ g.entries.a ∷ g.entries.b ∷ g.entries.c ∷ s.|K|.a ∷ s.|K|.b ∷ s.|K|.c ∷ largest s.|K| ∷ [])
+    sized.sizes_for.ensures)

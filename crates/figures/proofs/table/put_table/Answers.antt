@@ -1,0 +1,44 @@
+-- `figures::table::put_table` meets its contract: the first rows stand in the buffer. Assumes nothing.
+use mathlib.Core.Path.{◌≡◌, ap}
+use mathlib.Core.List.{map}
+use native.Mathlib.Omega.{arith}
+use lib.ListN.{take}
+use lib.Seq.{take_all}
+use Rattle.domain.specs.BabyBear.{baby_bear}
+use Rattle.text.proofs.WrittenLaws.{written_none, written_as}
+use Rattle.sheet_lines.specs.Meanings.{given}
+use Rattle.figures.specs.Figures.{figures}
+use Rattle.figures.specs.Sheet.{rows_text}
+use Rattle.figures.proofs.TableLaws.{within-room, within-length, row_turn, length-figures}
+use borrow.Author.Rules.{rules}
+use Rattle.figures.proofs.table.put_table.Goals as goal
+
+pub loop-row-init : goal.loop-row-init
+unfolding rows_text
+loop-row-init c = (search rules, within-room 0 (omega arith) (written_none c.args.out.now 0 (omega arith)))
+
+pub put_row-place-requires : goal.put_row-place-requires
+put_row-place-requires c =
+    let l = c in
+    let start = l in
+    (search rules, (start.requires.count_le_most_circuits, omega (arith, start.requires.sheet_room_in_bounds, l.loop-row.invariant.1.within, within-length l.loop-row.invariant.1)))
+
+pub loop-row-preserved : goal.loop-row-preserved
+loop-row-preserved c =
+    let l = c in
+    let a = l.args in (
+      search rules,
+      row_turn baby_bear (map given (take a.count a.array)) l.loop-row.row (search rules) l.loop-row.invariant.1 c.put_row-place.ensures,
+    )
+
+pub shape_of-out : goal.shape_of-out
+shape_of-out c = within-length c.loop-row.invariant.1
+
+pub returns : goal.returns
+returns c =
+    let l = c.loop-row in
+    let a = c.args in
+    let gs = map given (take a.count a.array) in
+    let all : take l.row (figures baby_bear) ≡ figures baby_bear =
+    take_all l.row (figures baby_bear) (omega (arith, l.invariant.0, length-figures baby_bear)) in
+    written_as (ap (rows_text gs) all) l.invariant.1.written

@@ -1,0 +1,142 @@
+-- `index::fill_index_values` meets its contract: the places below i hold their values. The measure is what is left of the slices.
+-- Assumes nothing.
+use mathlib.Core.Path.{◌≡◌, ap, ap₂, ◌∙◌}
+use mathlib.Core.List.{List}
+use Prim.Native.Nat.{ℕ, ◌+◌, ◌≤◌, ◌<◌}
+use native.Mathlib.Omega.{arith}
+use lib.ListN.{length, set, length-set}
+use Rattle.algebra.specs.Lists.{tabulate}
+use Rattle.field.specs.Prime.{Prime}
+use Rattle.field.specs.Element.{Elem, of, ◌⊗◌, word_of, words}
+use Rattle.field.proofs.Words.{of-result}
+use Rattle.domain.specs.Domain.{element}
+use Rattle.domain.specs.Qualifies.{Qualifies}
+use Rattle.domain.proofs.Fill.{Filled, fill_none, rule_turn, rule_end}
+use Rattle.protocol.specs.Circuit.{Circuit}
+use Rattle.protocol.specs.Index.{Index, map_index, row_element, column_element}
+use Rattle.protocol.proofs.IndexPolynomials.{entry_index}
+use Rattle.circuit.specs.Given.{entry_words}
+use Rattle.circuit.specs.IndexLists.{index_lists}
+use Rattle.index.specs.IndexValues.{tabulate_index, Listed}
+use Rattle.index.proofs.IndexValues.{Lengths}
+use Rattle.index.proofs.fill_index_values.Goals as goal
+use Rattle.index.proofs.fill_index_values.Goals.{After-multiply, At-loop-i, Start}
+
+-- four lists, each with a word stored at place i
+abbrev stored : Index (List ℕ) → ℕ → Index ℕ → Index (List ℕ)
+stored l i v =
+    record {
+      row = set l.row i v.row;
+      col = set l.col i v.col;
+      rowcol = set l.rowcol i v.rowcol;
+      rowcolval = set l.rowcolval i v.rowcolval;
+    }
+
+stored-lengths : (n : ℕ) (l : Index (List ℕ)) (i : ℕ) (v : Index ℕ) → Lengths n l → Lengths n (stored l i v)
+stored-lengths n l i v h =
+    record {
+      row-length = length-set l.row i v.row ∙ h.row-length;
+      col-length = length-set l.col i v.col ∙ h.col-length;
+      rowcol-length = length-set l.rowcol i v.rowcol ∙ h.rowcol-length;
+      rowcolval-length = length-set l.rowcolval i v.rowcolval ∙ h.rowcolval-length;
+    }
+
+-- the first i words of each list are those of the values
+record Made (q : Prime) (n : ℕ) (f : ℕ → Index (Elem q)) (l : Index (List ℕ)) (i : ℕ) : Type 0 where
+  row : Filled (words (tabulate n (λ j. (f j).row))) l.row i
+  col : Filled (words (tabulate n (λ j. (f j).col))) l.col i
+  rowcol : Filled (words (tabulate n (λ j. (f j).rowcol))) l.rowcol i
+  rowcolval : Filled (words (tabulate n (λ j. (f j).rowcolval))) l.rowcolval i
+
+module _ {q : Prime} (n : ℕ) (f : ℕ → Index (Elem q)) (l : Index (List ℕ)) where
+  made_none : Made q n f l 0
+  made_none = record { row = fill_none _ _; col = fill_none _ _; rowcol = fill_none _ _; rowcolval = fill_none _ _ }
+
+  module _ (i : ℕ) (h : Lengths n l) (m : Made q n f l i) where
+    made_turn : i < n → (v : Index ℕ) → v ≡ map_index word_of (f i) → Made q n f (stored l i v) (i + 1)
+    made_turn below v e =
+        record {
+          row = rule_turn n (λ j. (f j).row) l.row i v.row h.row-length below m.row (ap (λ i. i.row) e);
+          col = rule_turn n (λ j. (f j).col) l.col i v.col h.col-length below m.col (ap (λ i. i.col) e);
+          rowcol = rule_turn n (λ j. (f j).rowcol) l.rowcol i v.rowcol h.rowcol-length below m.rowcol (ap (λ i. i.rowcol) e);
+          rowcolval =
+              rule_turn n (λ j. (f j).rowcolval) l.rowcolval i v.rowcolval h.rowcolval-length below m.rowcolval
+              (ap (λ i. i.rowcolval) e);
+        }
+
+    made_end : n ≤ i → l ≡ map_index words (tabulate_index n f)
+    made_end past = λ t.
+        record {
+          row = rule_end n (λ j. (f j).row) l.row i h.row-length past m.row t;
+          col = rule_end n (λ j. (f j).col) l.col i h.col-length past m.col t;
+          rowcol = rule_end n (λ j. (f j).rowcol) l.rowcol i h.rowcol-length past m.rowcol t;
+          rowcolval = rule_end n (λ j. (f j).rowcolval) l.rowcolval i h.rowcolval-length past m.rowcolval t;
+        }
+
+-- the values at each place
+abbrev values : (q : Prime) → Circuit → List ℕ → ℕ → Index (Elem q)
+values q k entries i = entry_index k (entry_words entries i)
+
+-- the loop's head, from the end of a turn, and the start from there; the words that the turn stores
+abbrev head : After-multiply → At-loop-i
+head c = c.before.before.before.before.before.before.before.before
+
+abbrev start : At-loop-i → Start
+start c = c.before.before.before.before.before.before.before.before
+
+abbrev made : After-multiply → Index ℕ
+made c =
+    record {
+      row = c.listed_element-by_row.result;
+      col = c.listed_element-by_column.result;
+      rowcol = c.multiply-product.result;
+      rowcolval = c.multiply.result;
+    }
+
+-- they are those of the values
+made_words : (c : After-multiply) (q : Prime) → let a = (start (head c)).args in
+    Qualifies q → q.p ≡ a.p → (k : Circuit) → Listed q k a.rows.now a.columns.now
+    → made c ≡ map_index word_of (values q k a.entries.now (head c).loop-i.i)
+unfolding row_element column_element
+made_words c q Q same k listed =
+    let m = c in
+    let row =
+    m.listed_element-by_row.ensures q Q k.|R| listed.R-size listed.R-words
+    ∙ ap (λ (j : ℕ). (element {q = q} k.|R| j).word) m.word_or_zero.ensures in
+    let col =
+    m.listed_element-by_column.ensures q Q k.|C| listed.C-size listed.C-words
+    ∙ ap (λ (j : ℕ). (element {q = q} k.|C| j).word) m.word_or_zero-in-loop-i.ensures in
+    let rowcol = m.multiply-product.ensures q same ∙ ap₂ (λ (s t : Elem q). (s ⊗ t).word) (of-result _ row) (of-result _ col) in
+    let rowcolval =
+    c.multiply.ensures q same
+    ∙ ap₂ (λ (s t : Elem q). (s ⊗ t).word) (of-result _ rowcol) (ap of c.word_or_zero-in-loop-i-2.ensures) in
+    λ t. record { row = row t; col = col t; rowcol = rowcol t; rowcolval = rowcolval t }
+
+pub loop-i-init : goal.loop-i-init
+loop-i-init c =
+    let s = c in
+    (omega arith, s.requires.rows_nonzero.1, λ q Q e k listed. made_none _ _ _)
+
+pub loop-i-smaller : goal.loop-i-smaller
+loop-i-smaller c = simp length-set (omega arith)
+
+pub loop-i-preserved : goal.loop-i-preserved
+loop-i-preserved c =
+    let l = (head c).loop-i in
+    let a = (start (head c)).args in
+    let n : ℕ = length a.row.now in
+    let lists : Index (List ℕ) = index_lists l.row l.col l.rowcol l.rowcolval in
+    let kept = stored-lengths n lists l.i (made c) l.inv.1 in (
+      omega (arith, l, c.loop-i-test),
+      kept,
+      λ q Q e k listed.
+          made_turn n (values q k a.entries.now) lists l.i l.inv.1 (l.inv.2 q Q e k listed) (omega arith) (made c)
+          (made_words c q Q e k listed),
+    )
+
+pub returns : goal.returns
+returns c q Q e k listed =
+    let l = c.loop-i in
+    let a = (start c.before).args in
+    let lists : Index (List ℕ) = index_lists l.row l.col l.rowcol l.rowcolval in
+    made_end (length a.row.now) (values q k a.entries.now) lists l.i l.invariant.1 (l.invariant.2 q Q e k listed) (omega arith)

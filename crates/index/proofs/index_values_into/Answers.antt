@@ -1,0 +1,83 @@
+-- `index::index_values_into` meets its contract. Assumes nothing.
+use mathlib.Core.Path.{◌≡◌, ap, ◌∙◌, subst}
+use Prim.Native.Nat.{ℕ, ◌≤◌, ◌<◌}
+use native.Mathlib.Omega.{arith}
+use lib.ListN.{length, take}
+use Rattle.domain.specs.Size.{is_size}
+use Rattle.domain.proofs.Qualification.{known-qualifies}
+use Rattle.domain.proofs.SizeLaws.{size_positive, size_bound}
+use Rattle.poly.proofs.LentParts.{returned, back_holds, back_length}
+use Rattle.index.proofs.IndexValues.{listed}
+use Rattle.index.proofs.index_values_into.Goals as goal
+use Rattle.index.proofs.index_values_into.Goals.{After-fill_powers, After-fill_powers-2, Start}
+
+-- the start, from the first list, and that from the second
+abbrev start : After-fill_powers → Start
+start c = c.before.before.before.before.before.before.before.before
+
+abbrev at_rows : After-fill_powers-2 → After-fill_powers
+at_rows c = c.before.before.before.before
+
+-- |R| and |C| words fit into an array
+rows_fit : (s : Start) → s.args.r ≤ 1024
+rows_fit s = size_bound _ s.requires.r_value.0.0
+
+columns_fit : (s : Start) → s.args.c ≤ 1024
+columns_fit s = size_bound _ s.requires.r_value.0.1
+
+-- the lists as they are lent the second time
+rows-length : (c : After-fill_powers) → let n : ℕ = (start c).args.r in
+    n ≡ length (take n (returned 1024 n c.fill_powers.new.out))
+rows-length c = back_length 1024 (rows_fit (start c)) c.fill_powers.new.out c.fill_powers.auto.out
+
+columns-length : (c : After-fill_powers-2) → let n : ℕ = (start (at_rows c)).args.c in
+    n ≡ length (take n (returned 1024 n c.fill_powers-2.new.out))
+columns-length c = back_length 1024 (columns_fit (start (at_rows c))) c.fill_powers-2.new.out c.fill_powers-2.auto.out
+
+pub slice_bounds-rows-end : goal.slice_bounds-rows-end
+slice_bounds-rows-end c = rows_fit c.before.before.before.before.before.before
+
+pub slice_bounds-columns-end : goal.slice_bounds-columns-end
+slice_bounds-columns-end c = columns_fit c.before.before.before.before.before.before.before.before.before.before
+
+pub slice_bounds-rows-end-2 : goal.slice_bounds-rows-end-2
+slice_bounds-rows-end-2 c =
+    let f = c.before.before.before.before.before in
+    back_holds 1024 (rows_fit (start f)) f.fill_powers.new.out f.fill_powers.auto.out
+
+pub slice_bounds-columns-end-2 : goal.slice_bounds-columns-end-2
+slice_bounds-columns-end-2 c =
+    let f = c.before.before in
+    back_holds 1024 (columns_fit (start (at_rows f))) f.fill_powers-2.new.out f.fill_powers-2.auto.out
+
+pub fill_index_values-requires : goal.fill_index_values-requires
+fill_index_values-requires c =
+    let f = c.before.before.before.before.before.before.before in
+    let h = (start (at_rows f)).requires in (
+      omega (arith, h.0),
+      (
+        (
+          subst (λ (n : ℕ). 0 < n) (rows-length (at_rows f)) (size_positive _ h.1.0.0),
+          subst (λ (n : ℕ). 0 < n) (columns-length f) (size_positive _ h.1.0.1),
+        ),
+        h.1.1,
+      ),
+    )
+
+pub returns : goal.returns
+returns c q known k er ec =
+    let v = c in
+    let f = v.before.before.before.before.before.before.before.before.before.before.before.before.before.before.before.before in
+    let e = at_rows f in
+    let s = start e in
+    v.fill_index_values.ensures q (known-qualifies known) known.value k
+    (record {
+      R-size = ap is_size er ∙ s.pre.1.0.0;
+      C-size = ap is_size ec ∙ s.pre.1.0.1;
+      R-words =
+          listed q e.fill-powers.last.1.1.0 er (rows_fit s) e.fill-powers.kept.1.1.0
+          (e.before.before.root-of.ensures q known) (e.fill-powers.ensures q known.value);
+      C-words =
+          listed q f.fill_powers-2.new.out ec (columns_fit s) f.fill_powers-2.auto.out
+          (f.root_of-2.ensures q known) (f.fill_powers-2.ensures q known.value);
+    })

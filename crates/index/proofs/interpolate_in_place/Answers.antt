@@ -1,0 +1,61 @@
+-- `index::interpolate_in_place` meets its contract. Assumes nothing.
+use mathlib.Core.Path.{◌≡◌, refl, sym, ap, ◌∙◌, subst}
+use mathlib.Core.List.{List, map}
+use Prim.Native.Nat.{ℕ}
+use native.Mathlib.Omega.{arith}
+use lib.ListN.{length, take, drop}
+use lib.Seq.{take_at}
+use Rattle.field.specs.Element.{of, words}
+use Rattle.domain.specs.Size.{is_size}
+use Rattle.domain.specs.Polynomial.{interpolate}
+use Rattle.domain.proofs.Qualification.{known-qualifies}
+use Rattle.domain.proofs.SizeLaws.{size_bound}
+use Rattle.poly.proofs.LentParts.{array, part_order}
+use Rattle.transform.specs.Reading.{CoefficientTables}
+use Rattle.index.proofs.interpolate_in_place.Goals as goal
+use Rattle.index.proofs.interpolate_in_place.Goals.{After-copy_front, After-interpolate_with, Start}
+
+-- the way back from a place in the code to an earlier one
+abbrev start-from-copy-front : After-copy_front → Start
+start-from-copy-front c = c.before.before.before.before.before
+
+abbrev copy-front-from-interpolate-with : After-interpolate_with → After-copy_front
+copy-front-from-interpolate-with c = c.before.before.before.before
+
+-- the start, from the copy
+abbrev start : After-copy_front → Start
+start c = start-from-copy-front c
+
+-- the first words of the array are the values
+copied : (c : After-copy_front) → let l : List ℕ = (start c).args.out.now in take (length l) c.copy_front.new.out ≡ l
+copied c =
+    let l : List ℕ = (start c).args.out.now in
+    ap (take (length l)) c.copy_front.ensures ∙ take_at l (drop (length l) (array 1024)) (length l) refl
+
+pub copy_front-requires : goal.copy_front-requires
+copy_front-requires c = size_bound _ c.requires.out_value.0
+
+pub slice_bounds-values-end : goal.slice_bounds-values-end
+slice_bounds-values-end c =
+    let f = c.before in
+    omega (arith, size_bound _ (start f).requires.out_value.0, f.copy_front.auto.out)
+
+pub interpolate_with-requires : goal.interpolate_with-requires
+interpolate_with-requires c =
+    let f = c.before.before.before in
+    let s = start f in
+    let long = ap length (sym (copied f)) in (
+      s.pre.0,
+      (
+        (long, ap is_size (sym long) ∙ s.pre.1.0),
+        (part_order long s.pre.1.1.0, part_order long s.pre.1.1.1),
+      ),
+    )
+
+pub returns : goal.returns
+returns c q known tables =
+    let f = copy-front-from-interpolate-with c.before.before in
+    let a = (start f).args in
+    c.interpolate_with.ensures q (known-qualifies known) known.value
+    (subst (λ (m : ℕ). CoefficientTables q m a.powers.now a.quotients.now) (ap length (sym (copied f))) tables)
+    ∙ ap (λ l. words (interpolate (length l) (map (of {q = q}) l))) (copied f)

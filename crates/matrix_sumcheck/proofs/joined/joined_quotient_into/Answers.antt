@@ -1,0 +1,173 @@
+-- `matrix_sumcheck::joined::joined_quotient_into` meets its contract: the lists of the rows and of the columns, then the three matrices.
+-- Assumes nothing.
+use mathlib.Core.Path.{◌≡◌, sym, ap, ◌∙◌}
+use mathlib.Core.Bool.{true}
+use mathlib.Core.List.{List}
+use Prim.Native.Nat.{ℕ, ◌≤◌}
+use lib.ListN.{length, take}
+use Rattle.field.specs.Element.{of}
+use Rattle.domain.specs.Size.{is_size}
+use Rattle.domain.proofs.SizeLaws.{size_bound}
+use Rattle.protocol.specs.Three.{A}
+use Rattle.poly.proofs.LentParts.{array, returned, lent_length, back_holds, back_length}
+use Rattle.matrix_sumcheck.specs.MatrixGiven.{lagrange_values, distances}
+use Rattle.matrix_sumcheck.proofs.GivenLaws.{three-within, lent-list}
+use Rattle.matrix_sumcheck.proofs.joined.joined_quotient_into.Goals as goal
+use Rattle.matrix_sumcheck.proofs.joined.joined_quotient_into.Goals.{After-distances_into, After-distances_into-2, After-lagrange_values_into, After-lagrange_values_into-2, Start}
+
+-- the start, from the rows' values, and each list from the next
+abbrev start : After-lagrange_values_into → Start
+start c = c.before.before.before.before.before.before
+
+abbrev at_rows : After-lagrange_values_into-2 → After-lagrange_values_into
+at_rows c = c.before.before.before
+
+abbrev at-columns : After-distances_into → After-lagrange_values_into-2
+at-columns c = c.before.before.before
+
+abbrev at-row-distances : After-distances_into-2 → After-distances_into
+at-row-distances c = c.before.before.before
+
+abbrev outset : After-distances_into-2 → Start
+outset c = start (at_rows (at-columns (at-row-distances c)))
+
+-- |R| and |C| words fit into an array, and as they are lent they are sizes
+rows_fit : (s : Start) → s.args.r ≤ 1024
+rows_fit s = size_bound _ s.requires.circuit_shaped.0.R-size
+
+columns_fit : (s : Start) → s.args.c ≤ 1024
+columns_fit s = size_bound _ s.requires.circuit_shaped.0.C-size
+
+rows_size : (s : Start) → is_size (length (take s.args.r (array 1024))) ≡ true
+rows_size s = ap is_size (sym (lent_length 1024 (rows_fit s))) ∙ s.requires.circuit_shaped.0.R-size
+
+columns_size : (s : Start) → is_size (length (take s.args.c (array 1024))) ≡ true
+columns_size s = ap is_size (sym (lent_length 1024 (columns_fit s))) ∙ s.requires.circuit_shaped.0.C-size
+
+-- the words of the four lists, and their lengths as they are lent the second time
+abbrev rows : After-lagrange_values_into → List ℕ
+rows c = c.lagrange_values_into.new.out
+
+abbrev columns : After-lagrange_values_into-2 → List ℕ
+columns c = c.lagrange_values_into-2.new.out
+
+abbrev row-distances : After-distances_into → List ℕ
+row-distances c = c.distances_into.new.out
+
+abbrev column-distances : After-distances_into-2 → List ℕ
+column-distances c = c.distances_into-2.new.out
+
+rows-length : (c : After-lagrange_values_into) → let n : ℕ = (start c).args.r in n ≡ length (take n (returned 1024 n (rows c)))
+rows-length c = back_length 1024 (rows_fit (start c)) (rows c) c.lagrange_values_into.auto.out
+
+columns-length :
+    (c : After-lagrange_values_into-2)
+    → let n : ℕ = (start (at_rows c)).args.c in n ≡ length (take n (returned 1024 n (columns c)))
+columns-length c = back_length 1024 (columns_fit (start (at_rows c))) (columns c) c.lagrange_values_into-2.auto.out
+
+row-distances-length :
+    (c : After-distances_into)
+    → let n : ℕ = (start (at_rows (at-columns c))).args.r in n ≡ length (take n (returned 1024 n (row-distances c)))
+row-distances-length c =
+    back_length 1024 (rows_fit (start (at_rows (at-columns c)))) (row-distances c) c.distances_into.auto.out
+
+column-distances-length :
+    (c : After-distances_into-2) → let n : ℕ = (outset c).args.c in n ≡ length (take n (returned 1024 n (column-distances c)))
+column-distances-length c = back_length 1024 (columns_fit (outset c)) (column-distances c) c.distances_into-2.auto.out
+
+pub slice_bounds-rows-end : goal.slice_bounds-rows-end
+slice_bounds-rows-end c = rows_fit c.before.before.before.before
+
+pub lagrange_values_into-requires : goal.lagrange_values_into-requires
+lagrange_values_into-requires c = let s = c.before.before.before.before.before in record {
+  lt_p = s.requires.modulus.0;
+  out_value = rows_size s;
+}
+
+pub slice_bounds-columns-end : goal.slice_bounds-columns-end
+slice_bounds-columns-end c = columns_fit (start c.before)
+
+pub lagrange_values_into-requires-2 : goal.lagrange_values_into-requires-2
+lagrange_values_into-requires-2 c = let s = start c.before.before in record {
+  lt_p = s.pre.0.0;
+  out_value = columns_size s;
+}
+
+pub slice_bounds-rowDistances-end : goal.slice_bounds-rowDistances-end
+slice_bounds-rowDistances-end c = rows_fit (start (at_rows c.before))
+
+pub distances_into-requires : goal.distances_into-requires
+distances_into-requires c = let s = start (at_rows c.before.before) in record {
+  modulus = s.pre.0;
+  out_value = rows_size s;
+}
+
+pub slice_bounds-columnDistances-end : goal.slice_bounds-columnDistances-end
+slice_bounds-columnDistances-end c = columns_fit (start (at_rows (at-columns c.before)))
+
+pub distances_into-requires-2 : goal.distances_into-requires-2
+distances_into-requires-2 c = let s = start (at_rows (at-columns c.before.before)) in record {
+  modulus = s.pre.0;
+  out_value = columns_size s;
+}
+
+pub slice_bounds-rows-end-2 : goal.slice_bounds-rows-end-2
+slice_bounds-rows-end-2 c =
+    let r = at_rows (at-columns (at-row-distances c.before)) in
+    back_holds 1024 (rows_fit (start r)) (rows r) r.lagrange-values-into.kept.1.1.0
+
+pub slice_bounds-columns-end-2 : goal.slice_bounds-columns-end-2
+slice_bounds-columns-end-2 c =
+    let l = at-columns (at-row-distances c.before.before) in
+    back_holds 1024 (columns_fit (start (at_rows l))) (columns l) l.lagrange-values-into2.kept.1.1.0
+
+pub slice_bounds-rowDistances-end-2 : goal.slice_bounds-rowDistances-end-2
+slice_bounds-rowDistances-end-2 c =
+    let d = at-row-distances c.before.before.before in
+    back_holds 1024 (rows_fit (start (at_rows (at-columns d)))) (row-distances d) d.distances-into.kept.1.1.0
+
+pub slice_bounds-columnDistances-end-2 : goal.slice_bounds-columnDistances-end-2
+slice_bounds-columnDistances-end-2 c =
+    let d = c.before.before.before.before in
+    back_holds 1024 (columns_fit (outset d)) (column-distances d) d.distances_into-2.auto.out
+
+pub joined_by_lists-requires : goal.joined_by_lists-requires
+joined_by_lists-requires c =
+    let d = c.before.before.before.before.before.before in
+    let e = at-row-distances d in
+    let l = at-columns e in
+    let pre = (outset d).requires in (
+      pre.0,
+      (
+        three-within pre.1.0 pre.1.1.0 (rows-length (at_rows l)) (columns-length l),
+        (three-within pre.1.0 pre.1.1.0 (row-distances-length e) (column-distances-length d), pre.1.1.1),
+      ),
+    )
+
+pub returns : goal.returns
+returns c q k G H =
+    let j = c in
+    let d = j.before.before.before.before.before.before.before.before.before in
+    let e = at-row-distances d in
+    let l = at-columns e in
+    let r = at_rows l in
+    let s = start r in
+    let a = s.args in
+    let known = (G A).known in
+    j.joined_by_lists.ensures q k a.r a.c a.alpha a.beta G H
+    (record {
+      by_row =
+          lent-list (λ (n : ℕ). lagrange_values {q = q} n (of a.alpha)) (rows_fit s) (rows r) r.lagrange-values-into.kept.1.1.0
+          (r.lagrange-values-into.ensures q known);
+      by_column =
+          lent-list (λ (n : ℕ). lagrange_values {q = q} n (of a.beta)) (columns_fit s) (columns l)
+          l.lagrange-values-into2.kept.1.1.0 (l.lagrange-values-into2.ensures q known);
+    })
+    (record {
+      by_row =
+          lent-list (λ (n : ℕ). distances {q = q} n (of a.alpha)) (rows_fit s) (row-distances e) e.distances-into.kept.1.1.0
+          (e.distances-into.ensures q known);
+      by_column =
+          lent-list (λ (n : ℕ). distances {q = q} n (of a.beta)) (columns_fit s) (column-distances d)
+          d.distances_into-2.auto.out (d.distances_into-2.ensures q known);
+    })

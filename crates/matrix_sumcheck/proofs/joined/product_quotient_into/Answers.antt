@@ -1,0 +1,122 @@
+-- `matrix_sumcheck::joined::product_quotient_into` meets its contract: b_M and the ratio by their values on K_M, and their product divided.
+-- Assumes nothing.
+use mathlib.Core.Path.{◌≡◌, sym, ap, ap₂, ◌∙◌}
+use mathlib.Core.List.{List, map}
+use Prim.Native.Nat.{ℕ, ◌+◌, ◌≤◌}
+use native.Mathlib.Omega.{arith}
+use lib.ListN.{length, take}
+use Rattle.algebra.specs.Lists.{tabulate}
+use Rattle.field.specs.Prime.{Prime}
+use Rattle.field.specs.Element.{Elem, of, words}
+use Rattle.domain.specs.Size.{is_size}
+use Rattle.domain.specs.Polynomial.{Poly, ◌⊠◌, quotient, interpolate}
+use Rattle.domain.proofs.SizeLaws.{size_is, size_fits}
+use Rattle.circuit.specs.Given.{entry_words}
+use Rattle.poly.proofs.LentParts.{returned, lent_length, back_holds, back_length, back_list}
+use Rattle.matrix_sumcheck.specs.MatrixGiven.{product_of, terms, padded}
+use Rattle.matrix_sumcheck.proofs.MatrixTerms.{ratio_by_terms}
+use Rattle.matrix_sumcheck.proofs.MatrixQuotients.{denominator_made}
+use Rattle.matrix_sumcheck.proofs.joined.product_quotient_into.Goals as goal
+use Rattle.matrix_sumcheck.proofs.joined.product_quotient_into.Goals.{After-products_into, After-terms_into, Start}
+
+-- the quotient by the elements that two lists of n words stand for
+divided : {q : Prime} (left right : List ℕ) (f g : List (Elem q)) {n : ℕ} → n ≡ length left → map of left ≡ f → map of right ≡ g
+    → words (quotient (length left) (interpolate (length left) (map (of {q = q}) left) ⊠ interpolate (length left) (map of right)))
+    ≡ words (quotient n (interpolate n f ⊠ interpolate n g))
+divided {q} left right f g {n} long left_is right_is =
+    ap (λ (m : ℕ). words (quotient m (interpolate m (map (of {q = q}) left) ⊠ interpolate m (map of right)))) (sym long)
+    ∙ ap₂ (λ (f g : List (Elem q)). words (quotient n (interpolate n f ⊠ interpolate n g))) left_is right_is
+
+-- |K_M| words fit into an array
+fits : (s : Start) → length s.args.out.now + 1 ≤ 1024
+fits s = size_fits _ s.requires.entries_within.1.1
+
+-- the start, from the values of b_M, and those from the terms
+abbrev start : After-products_into → Start
+start c = c.before.before.before.before.before.before.before.before
+
+abbrev at-below : After-terms_into → After-products_into
+at-below c = c.before.before.before
+
+-- the words of the two lists, and their lengths as they are lent the second time
+abbrev below : After-products_into → List ℕ
+below c = c.products_into.new.out
+
+abbrev made : After-terms_into → List ℕ
+made c = c.terms_into.new.out
+
+below_length :
+    (c : After-products_into)
+    → let n : ℕ = length (start c).args.out.now + 1 in n ≡ length (take n (returned 1024 n (below c)))
+below_length c = back_length 1024 (fits (start c)) (below c) c.products_into.auto.out
+
+made_length :
+    (c : After-terms_into)
+    → let n : ℕ = length (start (at-below c)).args.out.now + 1 in n ≡ length (take n (returned 1024 n (made c)))
+made_length c = back_length 1024 (fits (start (at-below c))) (made c) c.terms_into.auto.out
+
+pub slice_bounds-below-end : goal.slice_bounds-below-end
+slice_bounds-below-end c = fits c.before.before.before.before.before.before
+
+pub products_into-requires : goal.products_into-requires
+products_into-requires c =
+    let s = c.before.before.before.before.before.before.before in
+    (omega (arith, s.requires.modulus.0), (s.requires.entries_within.1.0, sym (lent_length 1024 (fits s)) ∙ s.requires.entries_within.1.1))
+
+pub slice_bounds-terms-end : goal.slice_bounds-terms-end
+slice_bounds-terms-end c = fits (start c.before)
+
+pub terms_into-requires : goal.terms_into-requires
+terms_into-requires c =
+    let s = start c.before.before in
+    (omega (arith, s.pre.0.0), (s.pre.1.0, sym (lent_length 1024 (fits s)) ∙ s.pre.1.1.1))
+
+pub slice_bounds-below-end-2 : goal.slice_bounds-below-end-2
+slice_bounds-below-end-2 c =
+    let b = at-below c.before in
+    back_holds 1024 (fits (start b)) (below b) b.products-into.kept.1.1.1.1.0
+
+pub slice_bounds-terms-end-2 : goal.slice_bounds-terms-end-2
+slice_bounds-terms-end-2 c =
+    let t = c.before.before in
+    back_holds 1024 (fits (start (at-below t))) (made t) t.terms_into.auto.out
+
+pub slice_bounds-factor-end : goal.slice_bounds-factor-end
+slice_bounds-factor-end c = fits (start (at-below c.before.before.before))
+
+pub slice_bounds-rest-end : goal.slice_bounds-rest-end
+slice_bounds-rest-end c = fits (start (at-below c.before.before.before.before))
+
+pub divide_product_into-requires : goal.divide_product_into-requires
+divide_product_into-requires c =
+    let t = c.before.before.before.before.before.before in
+    let b = at-below t in
+    let s = start b in
+    let long = below_length b in
+    let lent = sym (lent_length 1024 (fits s)) ∙ long in (
+      s.pre.0,
+      (ap is_size (sym long) ∙ size_is _ s.pre.1.1.1, ((sym (made_length t) ∙ long, lent), (lent, long))),
+    )
+
+pub returns : goal.returns
+returns c q k M r m alpha beta G H L D =
+    let d = c in
+    let t = d.before.before.before.before.before.before.before.before.before.before.before in
+    let b = at-below t in
+    let s = start b in
+    let a = s.args in
+    let n : ℕ = length a.out.now + 1 in
+    let size = s.pre.1.1.1 in
+    let place : ℕ → Elem q = λ i. product_of a.rowDistances.now a.columnDistances.now (entry_words a.entries.now i) in
+    let ts : List (Elem q) = terms r m (of alpha) (of beta) a.entries.now in
+    let lent = sym (lent_length 1024 (fits s)) in
+    let left =
+    back_list 1024 (fits s) (below b) b.products-into.kept.1.1.1.1.0 (tabulate n place)
+    (b.products-into.ensures q G.known.value ∙ ap (λ (j : ℕ). words (tabulate j place)) lent) in
+    let right =
+    back_list 1024 (fits s) (made t) t.terms_into.auto.out (padded n ts)
+    (t.terms_into.ensures q G.known.value r m alpha beta L ∙ ap (λ (j : ℕ). words (padded j ts)) lent) in
+    (d.divide_product_into.ensures q G.known).is-quotient
+    ∙ divided (take n (returned 1024 n (below b))) (take n (returned 1024 n (made t))) (tabulate n place) (padded n ts)
+    (below_length b) left right
+    ∙ ap₂ (λ (f g : Poly q). words (quotient n (f ⊠ g))) (denominator_made G H s.pre.1.1.0 D n size) (ratio_by_terms G H n size)

@@ -1,0 +1,29 @@
+-- `matrix_sumcheck::matrix::product_at` meets its contract. Assumes nothing.
+use mathlib.Core.Path.{ap₂, ◌∙◌, subst, sym}
+use Prim.Native.Nat.{ℕ, ◌<◌}
+use lib.ListN.{length, get_or}
+use Rattle.field.specs.Element.{of, ◌⊗◌}
+use Rattle.matrix_sumcheck.proofs.MatrixTerms.{within-at}
+use Rattle.matrix_sumcheck.proofs.matrix.product_at.Goals as goal
+
+pub bounds-rows-row : goal.bounds-rows-row
+bounds-rows-row c =
+    let w = c in
+    let s = w in
+    subst (λ (i : ℕ). i < length s.args.rows.now) (sym w.word_or_zero-row.ensures)
+    (within-at s.requires.entries_within.0 s.args.i).row_below
+
+pub bounds-columns-column : goal.bounds-columns-column
+bounds-columns-column c =
+    let w = c in
+    let s = w in
+    subst (λ (i : ℕ). i < length s.args.columns.now) (sym w.word_or_zero-column.ensures)
+    (within-at s.requires.entries_within.0 s.args.i).column-below
+
+pub returns : goal.returns
+returns c q e =
+    let w = c in
+    let a = w.args in
+    c.multiply.ensures q e
+    ∙ ap₂ (λ (i j : ℕ). (of {q = q} (get_or a.rows.now i 0) ⊗ of (get_or a.columns.now j 0)).word) w.word_or_zero-row.ensures
+    w.word_or_zero-column.ensures

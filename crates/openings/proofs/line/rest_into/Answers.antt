@@ -1,0 +1,113 @@
+-- `openings::line::rest_into` meets its contract. Assumes nothing.
+use mathlib.Core.Path.{sym, ap, ap₂, ◌∙◌}
+use mathlib.Core.List.{List, map}
+use Prim.Native.Nat.{ℕ, ◌≤◌}
+use native.Mathlib.Omega.{arith}
+use native.Mathlib.Nat.{le_refl}
+use lib.ListN.{length}
+use Rattle.algebra.proofs.PolynomialLaws.{scale_one}
+use Rattle.field.specs.Element.{Elem, of, words}
+use Rattle.field.proofs.ElementLaws.{prime_ring}
+use Rattle.field.proofs.Words.{of_results}
+use Rattle.domain.specs.Size.{is_size}
+use Rattle.domain.specs.Domain.{root}
+use Rattle.domain.specs.Polynomial.{Poly, ◌⊞◌, remainder, interpolate}
+use Rattle.domain.proofs.SizeLaws.{size_positive, size_bound}
+use Rattle.domain.proofs.Qualification.{known-qualifies}
+use Rattle.poly.proofs.LentParts.{lent_length, parts_order}
+use Rattle.openings.proofs.OpeningLaws.{MadeIn, made_holds, made_length, made_list, made_by_length}
+use Rattle.openings.proofs.WordValues.{products_of}
+use Rattle.openings.proofs.line.rest_into.Goals as goal
+use Rattle.openings.proofs.line.rest_into.Goals.{After-interpolate_into, After-products_into, After-remainder_into, Start}
+
+-- the start, from the products; these, from their polynomial; and this, from the remainder of m
+abbrev start : After-products_into → Start
+start c = c.before.before.before.before.before.before
+
+abbrev at-products : After-interpolate_into → After-products_into
+at-products c = c.before.before.before.before.before
+
+abbrev at-product : After-remainder_into → After-interpolate_into
+at-product c = c.before.before.before
+
+room : (s : Start) → length s.args.out.now ≤ 1024
+room s = size_bound (length s.args.out.now) s.requires.out_value.0
+
+-- the products and their polynomial as they were made
+products_made : (c : After-products_into) → MadeIn 1024 (length (start c).args.out.now) c.products_into.new.out
+products_made c = record { fits = room (start c); kept = c.products_into.auto.out }
+
+product_made : (c : After-interpolate_into)
+    → MadeIn 1024 (length (start (at-products c)).args.out.now) c.interpolate_into.new.out
+product_made c = record { fits = room (start (at-products c)); kept = c.interpolate_into.auto.out }
+
+pub slice_bounds-products-end : goal.slice_bounds-products-end
+slice_bounds-products-end c = room c.before.before.before.before
+
+pub products_into-requires : goal.products_into-requires
+products_into-requires c =
+    let s = c.before.before.before.before.before in
+    let long = lent_length 1024 (room s) in
+    record {
+      p_nonzero = omega arith;
+      left_len = (s.requires.out_value.1.0 ∙ long, s.requires.out_value.1.1 ∙ long);
+    }
+
+pub overflow_cast-n : goal.overflow_cast-n
+overflow_cast-n c = omega (arith, room (start c.before))
+
+pub slice_bounds-products-end-2 : goal.slice_bounds-products-end-2
+slice_bounds-products-end-2 c = made_holds (products_made c.before.before)
+
+pub slice_bounds-product-end : goal.slice_bounds-product-end
+slice_bounds-product-end c = room (start c.before.before.before)
+
+pub interpolate_into-requires : goal.interpolate_into-requires
+interpolate_into-requires c =
+    let m = c.before.before.before.before in
+    let s = start m in
+    let long = made_length (products_made m) in
+    record {
+      lt_p = s.pre.0;
+      out_len = (sym (lent_length 1024 (room s)) ∙ long, ap is_size (sym long) ∙ s.pre.1.0);
+    }
+
+pub remainder_into-requires : goal.remainder_into-requires
+remainder_into-requires c =
+    let s = start (at-products c.before.before) in
+    record {
+      p_nonzero = omega arith;
+      out_nonzero = size_positive _ s.pre.1.0;
+    }
+
+pub slice_bounds-product-end-2 : goal.slice_bounds-product-end-2
+slice_bounds-product-end-2 c = made_holds (product_made (at-product c.before.before.before))
+
+pub add_scaled-requires : goal.add_scaled-requires
+add_scaled-requires c =
+    let r = c.before.before.before.before in
+    let s = start (at-products (at-product r)) in record {
+      p_nonzero = omega (arith, s.pre.0);
+      g_in_bounds = parts_order (made_length (product_made (at-product r))) (sym r.remainder_into.auto.out) (le_refl _);
+    }
+
+pub returns : goal.returns
+returns c q K =
+    let d = c in
+    let r = d.before.before.before.before.before.before.before in
+    let i = at-product r in
+    let m = at-products i in
+    let s = start m in
+    let a = s.args in
+    let n : ℕ = length a.out.now in
+    let v = K.value in
+    let products : ℕ → List (Elem q) = λ n. products_of n a.weights.now a.z.now in
+    let long = made_length (products_made m) in
+    let listed = made_list (products_made m) (products n) (made_by_length (products_made m) products (m.products-into.ensures q v)) in
+    let product = made_list (product_made i) (interpolate n (products n))
+    (i.interpolate-into.ensures q (known-qualifies K) v
+    (i.before.before.before.root-of.ensures q K ∙ ap (λ (n : ℕ). (root {q = q} n).word) long)
+    ∙ ap₂ (λ (n : ℕ) (l : List (Elem q)). words (interpolate n l)) (sym long) listed) in
+    d.add_scaled.ensures q v
+    ∙ ap₂ (λ (f g : Poly q). words (f ⊞ g)) (of_results (remainder n (map of a.m.now)) (r.remainder_into.ensures q v))
+    (scale_one (prime_ring q) _ ∙ product)

@@ -1,0 +1,66 @@
+-- `openings::matrix::joined_at` meets its contract. Assumes nothing.
+use borrow.Author.Rules.{rules}
+use mathlib.Core.Path.{◌≡◌, refl, sym, ap, ap₂, ◌∙◌}
+use mathlib.Core.Bool.{true}
+use mathlib.Core.List.{List}
+use Prim.Native.Nat.{ℕ}
+use lib.ListN.{length}
+use Rattle.field.specs.Element.{Elem, of, ◌⊕◌, ◌⊗◌}
+use Rattle.field.specs.Power.{reciprocal}
+use Rattle.field.proofs.Words.{of-result}
+use Rattle.domain.specs.Size.{is_size, size_for}
+use Rattle.domain.specs.Polynomial.{eval}
+use Rattle.domain.proofs.Qualification.{known-qualifies}
+use Rattle.protocol.specs.Three.{MatrixName, A, B, C, Three, map_three}
+use Rattle.protocol.specs.Circuit.{Entry, Circuit, sizes_of}
+use Rattle.protocol.specs.Messages.{matrix_quotient}
+use Rattle.protocol.specs.Calls.{circuit_of}
+use Rattle.protocol.proofs.MatrixPolynomials.{sizeK, largest_size}
+use Rattle.shared.specs.Meanings.{three}
+use Rattle.circuit.specs.Given.{given}
+use Rattle.openings.proofs.ValueLaws.{joined-value}
+use Rattle.openings.proofs.matrix.joined_at.Goals as goal
+use Rattle.openings.proofs.matrix.joined_at.Goals.{After-largest_size}
+
+-- the size that is inverted is one
+inverted : (c : After-largest_size) → is_size c.largest_size.result ≡ true
+unfolding circuit_of
+inverted c =
+    let a = c.args in
+    let k : Circuit = circuit_of (given 0 0 0 a.ea.now a.eb.now a.ec.now) in
+    ap is_size (c.largest_size.ensures k refl) ∙ largest_size k
+
+pub size_inverse-requires : goal.size_inverse-requires
+size_inverse-requires c = record {
+  lt_p = search rules;
+  n_value = inverted c;
+}
+
+pub returns : goal.returns
+unfolding sizes_of
+returns c q K k matrices α β γ quotients =
+    let i = c in
+    let l = i in
+    let d = l in
+    let third = d in
+    let a = third.args in
+    let e = K.value in
+    let h : MatrixName → Elem q = λ M. eval (matrix_quotient k α β M) γ in
+    let first : of third.share_of-a.result ≡ of a.delta.a ⊗ of (sizeK k A) ⊗ h A =
+    of-result _ (third.share_of-a.ensures q e)
+    ∙ ap₂ (λ (t : Three (List Entry)) (v : Elem q). of a.delta.a ⊗ of (size_for (length t.a)) ⊗ v)
+    (sym matrices) (of-result (h A) (quotients A)) in
+    let second : of third.share_of-b.result ≡ of a.delta.b ⊗ of (sizeK k B) ⊗ h B =
+    of-result _ (third.share_of-b.ensures q e)
+    ∙ ap₂ (λ (t : Three (List Entry)) (v : Elem q). of a.delta.b ⊗ of (size_for (length t.b)) ⊗ v)
+    (sym matrices) (of-result (h B) (quotients B)) in
+    let last : of third.share_of-c.result ≡ of a.delta.c ⊗ of (sizeK k C) ⊗ h C =
+    of-result _ (third.share_of-c.ensures q e)
+    ∙ ap₂ (λ (t : Three (List Entry)) (v : Elem q). of a.delta.c ⊗ of (size_for (length t.c)) ⊗ v)
+    (sym matrices) (of-result (h C) (quotients C)) in
+    let two = of-result (of {q = q} _ ⊕ of _) (d.add.ensures q e) ∙ ap₂ ◌⊕◌ first second in
+    let all = of-result (of {q = q} _ ⊕ of _) (d.add-all.ensures q e) ∙ ap₂ ◌⊕◌ two last in
+    let inverse = of-result (reciprocal (of _)) (i.size_inverse.ensures q (known-qualifies K) e)
+    ∙ ap (λ (n : ℕ). reciprocal (of {q = q} n)) (l.largest_size.ensures k matrices) in
+    c.multiply.ensures q e ∙ ap₂ (λ (u v : Elem q). (u ⊗ v).word) all inverse
+    ∙ ap (λ (v : Elem q). v.word) (sym (joined-value k α β γ (map_three of (three a.delta))))

@@ -1,0 +1,136 @@
+-- `openings::matrix::matrix_at` meets its contract. Assumes nothing.
+use mathlib.Core.Path.{◌≡◌, sym, ap, ap₂, ◌∙◌, subst⁻¹}
+use mathlib.Core.Bool.{true}
+use mathlib.Core.List.{List, map, tail}
+use Prim.Native.Nat.{ℕ, ◌≤◌}
+use native.Mathlib.Omega.{arith}
+use lib.ListN.{take}
+use Rattle.field.specs.Element.{Elem, of, words, ◌⊗◌, ◌⊖◌}
+use Rattle.field.proofs.Words.{of-result}
+use Rattle.domain.specs.Size.{is_size}
+use Rattle.domain.specs.Domain.{vanishing}
+use Rattle.domain.specs.Known.{OutsideDomain}
+use Rattle.domain.specs.Polynomial.{Poly, eval}
+use Rattle.domain.proofs.SizeLaws.{size_fits, sized_positive, size_for_is_size}
+use Rattle.protocol.specs.Circuit.{sizes_of}
+use Rattle.protocol.specs.Index.{Index, index, index_at}
+use Rattle.protocol.specs.Checks.{numerator_value, denominator_value}
+use Rattle.protocol.specs.Messages.{ratio, matrix_remainder, matrix_quotient}
+use Rattle.poly.proofs.LentParts.{returned, lent_length}
+use Rattle.matrix_sumcheck.specs.MatrixGiven.{lagrange_values}
+use Rattle.matrix_sumcheck.proofs.MatrixTerms.{given_size, well_formed_at}
+use Rattle.openings.specs.OpeningsGiven.{index_meaning}
+use Rattle.openings.proofs.OpeningLaws.{MadeIn, made_holds, made_length, made_is, made_list, index_back}
+use Rattle.openings.proofs.ValueLaws.{matrix-quotient-value}
+use Rattle.openings.proofs.matrix.matrix_at.Goals as goal
+use Rattle.openings.proofs.matrix.matrix_at.Goals.{After-lagrange_values_into, After-ratio_into, After-size_of-size, Start}
+
+-- the start, from the size; this, from the Lagrange values; and these, from the ratio
+abbrev start : After-size_of-size → Start
+start c = c.before.before.before.before
+
+abbrev at_size : After-lagrange_values_into → After-size_of-size
+at_size c = c.before.before
+
+abbrev at_places : After-ratio_into → After-lagrange_values_into
+at_places c = c.before.before.before.before.before
+
+room : (c : After-size_of-size) → c.size_of-size.result ≤ 1024
+room c = size_fits _ c.size_of-size.ensures
+
+-- |K_M| is a size
+sized : (c : After-size_of-size) → is_size c.size_of-size.result ≡ true
+sized c = ap is_size c.size_of-size.ensures ∙ size_for_is_size _
+
+-- the Lagrange values and the ratio as they were made, and the ratio as it is read
+places_made : (c : After-lagrange_values_into) → MadeIn 1024 (at_size c).size_of-size.result c.lagrange_values_into.new.out
+places_made c = record { fits = room (at_size c); kept = c.lagrange_values_into.auto.out }
+
+ratio_made : (c : After-ratio_into) → MadeIn 1024 (at_size (at_places c)).size_of-size.result c.ratio_into.new.out
+ratio_made c = record { fits = room (at_size (at_places c)); kept = c.ratio_into.auto.out }
+
+abbrev left : After-ratio_into → List ℕ
+left c =
+    let n = (at_size (at_places c)).size_of-size.result in
+    take n (returned 1024 n c.ratio_into.new.out)
+
+pub slice_bounds-places-end : goal.slice_bounds-places-end
+slice_bounds-places-end c = room c
+
+pub lagrange_values_into-requires : goal.lagrange_values_into-requires
+lagrange_values_into-requires c =
+    let n = c.before in
+    record {
+      lt_p = (start n).requires.lt_p;
+      out_value = ap is_size (sym (lent_length 1024 (room n))) ∙ sized n;
+    }
+
+pub slice_bounds-places-end-2 : goal.slice_bounds-places-end-2
+slice_bounds-places-end-2 c = made_holds (places_made c.before)
+
+pub index_at-opened-requires : goal.index_at-opened-requires
+index_at-opened-requires c =
+    let l = c.before.before in
+    let n = at_size l in
+    let h = (start n).pre in
+    (h.0, (h.1.0, (h.1.1.0.words, sym (made_length (places_made l)) ∙ n.type_size.ensures)))
+
+pub slice_bounds-ratio-end : goal.slice_bounds-ratio-end
+slice_bounds-ratio-end c = room (at_size c.before.before.before)
+
+pub ratio_into-requires : goal.ratio_into-requires
+ratio_into-requires c =
+    let n = at_size c.before.before.before.before in
+    let h = (start n).pre in
+    (h.0, (h.1.1.0, sym (lent_length 1024 (room n)) ∙ n.type_size.ensures))
+
+pub slice_bounds-ratio-end-2 : goal.slice_bounds-ratio-end-2
+slice_bounds-ratio-end-2 c = made_holds (ratio_made c.before)
+
+pub parted_at-parts-requires : goal.parted_at-parts-requires
+parted_at-parts-requires c =
+    let t = c.before.before in
+    let n = at_size (at_places t) in
+    record {
+      p_nonzero = omega (arith, (start n).pre.0);
+      f_nonzero = omega (arith, made_length (ratio_made t), sized_positive _ n.type_size.ensures);
+    }
+
+pub over_vanishing-requires : goal.over_vanishing-requires
+over_vanishing-requires c =
+    let n = at_size (at_places c.before.before.before.before) in
+    let s = start n in
+    (s.pre.0, (sized n, subst⁻¹ (λ (m : ℕ). OutsideDomain s.args.p m s.args.gamma) n.type_size.ensures s.pre.1.1.1))
+
+pub returns : goal.returns
+unfolding matrix_remainder sizes_of
+returns c q k M G H L scaled =
+    let d = c in
+    let parts = d in
+    let t = parts.before.before.before.before.before in
+    let i = t in
+    let l = at_places t in
+    let n = at_size l in
+    let a = (start n).args in
+    let K = G.known in
+    let v = K.value in
+    let α : Elem q = of a.alpha in
+    let β : Elem q = of a.beta in
+    let γ : Elem q = of a.gamma in
+    let f : Poly q = ratio k α β M in
+    let places = made_is (places_made l) ∙ l.lagrange-values-into.ensures q K
+    ∙ ap (λ (m : ℕ). words (lagrange_values m γ)) (sym (lent_length 1024 (room n)) ∙ made_length (places_made l)) in
+    let indexed = i.index_at-opened.ensures q K k M G.rows G.columns G.matrix γ places in
+    let read = made_list (ratio_made t) f (t.ratio_into.ensures q k M a.r a.c a.alpha a.beta G H L) in
+    let whole = of-result (eval (map of (left t)) γ) (parts.parted_at-parts.ensures q v).whole ∙ ap (λ (g : Poly q). eval g γ) read in
+    record {
+      is-index = indexed;
+      is-remainder = (parts.parted_at-parts.ensures q v).rest ∙ ap (λ (g : Poly q). (eval (tail g) γ).word) read;
+      is-quotient =
+          c.over_vanishing.ensures q K (eval (matrix_quotient k α β M) γ)
+          (d.difference_at-difference.ensures q v (sizes_of k) G.rows G.columns scaled
+          ∙ ap₂ (λ (w : Index (Elem q)) (x : Elem q). numerator_value (sizes_of k) α β w ⊖ denominator_value (sizes_of k) α β w ⊗ x)
+          (index_back (index_meaning i.index_at-opened.result) (index_at (index k M) γ) indexed) whole
+          ∙ matrix-quotient-value G.qualifies k (well_formed_at G H.well_formed) α β H.α-outside H.β-outside M γ
+          ∙ ap (λ (m : ℕ). eval (matrix_quotient k α β M) γ ⊗ vanishing m γ) (given_size G ∙ sym n.type_size.ensures));
+    }

@@ -1,0 +1,126 @@
+-- `openings::open_all` meets its contract. Assumes nothing.
+use mathlib.Core.Path.{refl, sym, ap, ◌∙◌}
+use mathlib.Core.List.{map}
+use Prim.Native.Nat.{ℕ, ◌≤◌}
+use native.Mathlib.Omega.{arith}
+use Rattle.algebra.specs.Lists.{tabulate}
+use Rattle.field.specs.Element.{Elem, of}
+use Rattle.domain.specs.Size.{is_size}
+use Rattle.domain.proofs.SizeLaws.{size_bound}
+use Rattle.protocol.specs.Three.{Three, each, map_three}
+use Rattle.protocol.specs.Circuit.{Circuit}
+use Rattle.protocol.specs.Checks.{weighted}
+use Rattle.protocol.specs.Calls.{circuit_of}
+use Rattle.protocol.proofs.ProverForms.{column_sum}
+use Rattle.shared.specs.Meanings.{three}
+use Rattle.circuit.specs.Given.{given}
+use Rattle.circuit.proofs.Fitting.{R-fits, C-fits}
+use Rattle.poly.proofs.LentParts.{lent_length}
+use Rattle.prover.proofs.LineLaws.{each_within}
+use Rattle.matrix_sumcheck.specs.MatrixGiven.{lagrange_values}
+use Rattle.openings.proofs.OpeningLaws.{MadeIn, made_holds, made_length, made_is, made_list, made_by_length}
+use Rattle.openings.proofs.open_all.Goals as goal
+use Rattle.openings.proofs.open_all.Goals.{After-lagrange_values_into, After-lagrange_values_into-2, After-weights_from, Start}
+
+-- the start, from the rows' values; these, from the columns'; and these, from the weights
+abbrev start : After-lagrange_values_into → Start
+start c = c.before.before.before.before.before.before.before
+
+abbrev at_rows : After-lagrange_values_into-2 → After-lagrange_values_into
+at_rows c = c.before.before.before
+
+abbrev at-columns : After-weights_from → After-lagrange_values_into-2
+at-columns c = c.before.before.before.before
+
+rows_fit : (s : Start) → s.args.r ≤ 1024
+rows_fit s = size_bound s.args.r (R-fits s.requires.fits.0)
+
+columns_fit : (s : Start) → s.args.c ≤ 1024
+columns_fit s = size_bound s.args.c (C-fits s.requires.fits.0)
+
+-- the three lists as they were made
+rows_made : (c : After-lagrange_values_into) → MadeIn 1024 (start c).args.r c.lagrange_values_into.new.out
+rows_made c = record { fits = rows_fit (start c); kept = c.lagrange_values_into.auto.out }
+
+columns_made : (c : After-lagrange_values_into-2) → MadeIn 1024 (start (at_rows c)).args.c c.lagrange_values_into-2.new.out
+columns_made c = record { fits = columns_fit (start (at_rows c)); kept = c.lagrange_values_into-2.auto.out }
+
+weights_made : (c : After-weights_from)
+    → MadeIn 1024 (start (at_rows (at-columns c))).args.c c.weights_from.new.out
+weights_made c =
+    record { fits = columns_fit (start (at_rows (at-columns c))); kept = c.weights_from.auto.out }
+
+pub slice_bounds-rows-end : goal.slice_bounds-rows-end
+slice_bounds-rows-end c = rows_fit c.before.before.before.before.before
+
+pub lagrange_values_into-requires : goal.lagrange_values_into-requires
+lagrange_values_into-requires c =
+    let s = c.before.before.before.before.before.before in
+    record {
+      lt_p = s.requires.lt_p;
+      out_value = ap is_size (sym (lent_length 1024 (rows_fit s))) ∙ R-fits s.requires.fits.0;
+    }
+
+pub slice_bounds-columns-end : goal.slice_bounds-columns-end
+slice_bounds-columns-end c = columns_fit (start c.before)
+
+pub lagrange_values_into-requires-2 : goal.lagrange_values_into-requires-2
+lagrange_values_into-requires-2 c =
+    let s = start c.before.before in
+    record {
+      lt_p = s.pre.0;
+      out_value = ap is_size (sym (lent_length 1024 (columns_fit s))) ∙ C-fits s.pre.1.0;
+    }
+
+pub slice_bounds-rows-end-2 : goal.slice_bounds-rows-end-2
+slice_bounds-rows-end-2 c = made_holds (rows_made (at_rows c.before))
+
+pub slice_bounds-weights-end : goal.slice_bounds-weights-end
+slice_bounds-weights-end c = columns_fit (start (at_rows c.before.before))
+
+pub weights_from-requires : goal.weights_from-requires
+weights_from-requires c =
+    let l = at_rows c.before.before.before in
+    let s = start l in
+    record {
+      p_nonzero = omega (arith, s.pre.0);
+      each_within = each_within (made_length (rows_made l)) (lent_length 1024 (columns_fit s)) s.pre.1.0.within;
+    }
+
+pub slice_bounds-rows-end-3 : goal.slice_bounds-rows-end-3
+slice_bounds-rows-end-3 c = made_holds (rows_made (at_rows (at-columns c.before)))
+
+pub slice_bounds-columns-end-2 : goal.slice_bounds-columns-end-2
+slice_bounds-columns-end-2 c = made_holds (columns_made (at-columns c.before.before))
+
+pub slice_bounds-weights-end-2 : goal.slice_bounds-weights-end-2
+slice_bounds-weights-end-2 c = made_holds (weights_made c.before.before.before)
+
+pub opened_from-requires : goal.opened_from-requires
+opened_from-requires c =
+    let w = c.before.before.before.before in
+    let l = at-columns w in
+    let h = (start (at_rows l)).requires in
+    let long = made_length (rows_made (at_rows l)) in
+    (h.0, (h.1.0, (h.1.1, (sym long, sym (made_length (columns_made l)), sym (made_length (weights_made w))))))
+
+pub returns : goal.returns
+unfolding circuit_of
+returns c q K =
+    let w = c.before.before.before.before.before in
+    let l = at-columns w in
+    let m = at_rows l in
+    let s = start m in
+    let a = s.args in
+    let k : Circuit = circuit_of (given a.r a.c a.x a.ea.now a.eb.now a.ec.now) in
+    let α : Elem q = of a.alpha in
+    let rows = made_by_length (rows_made m) (λ (n : ℕ). lagrange_values n α) (m.lagrange-values-into.ensures q K) in
+    let β : Elem q = of a.beta in
+    let columns = made_by_length (columns_made l) (λ (n : ℕ). lagrange_values n β) (l.lagrange-values-into2.ensures q K) in
+    let η : Three (Elem q) = map_three of (three a.eta) in
+    c.opened_from.ensures q K
+    (record { by_row = made_is (rows_made m) ∙ rows; by_column = made_is (columns_made l) ∙ columns }) (three a.eta)
+    (ap (map (of {q = q})) (made_is (weights_made w))
+    ∙ w.weights_from.ensures q K.value k (made_length (rows_made m)) refl α
+    (made_list (rows_made m) (lagrange_values a.r α) rows ∙ ap (λ (n : ℕ). lagrange_values n α) (made_length (rows_made m)))
+    ∙ ap (λ (n : ℕ). tabulate n (λ j. weighted η (each (λ M. column_sum k M α j)))) (sym (lent_length 1024 (columns_fit s))))

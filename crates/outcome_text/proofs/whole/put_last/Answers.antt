@@ -1,0 +1,63 @@
+-- `outcome_text::whole::put_last` meets its contract. Assumes nothing.
+use mathlib.Core.Path.{sym, ap, ◌∙◌}
+use Prim.Native.Nat.{ℕ, ◌*◌, ◌/◌, ◌≤◌}
+use native.Mathlib.Omega.{arith}
+use native.Mathlib.Nat.{div-le_self}
+use lib.ListN.{get_or}
+use Rattle.algebra.specs.Lists.{tabulate}
+use Rattle.domain.proofs.SizeLaws.{size_positive, size_bound, size_quotient_positive}
+use Rattle.protocol.specs.Messages.{lengths}
+use Rattle.shared.specs.Meanings.{three, sizes, openings}
+use Rattle.poly.proofs.LentParts.{lent_length, back_holds, back_is}
+use Rattle.prover.proofs.WitnessLaws.{public_within}
+use Rattle.report.specs.ProofText.{answer_text}
+use Rattle.report.specs.Stages.{last_answer}
+use Rattle.report.proofs.PrintedLaws.{printed_as}
+use Rattle.outcome_text.proofs.whole.put_last.Goals as goal
+
+pub nonzero_div-s : goal.nonzero_div-s
+nonzero_div-s c = size_positive _ c.requires.c_value.1
+
+pub overflow_cast-s : goal.overflow_cast-s
+overflow_cast-s c =
+    let a = c.args in
+    omega (arith, div-le_self a.s.c a.s.x, size_bound a.s.c c.requires.c_value.0)
+
+pub slice_bounds-x-end : goal.slice_bounds-x-end
+slice_bounds-x-end c = size_bound _ c.requires.c_value.1
+
+pub public_words_into-requires : goal.public_words_into-requires
+public_words_into-requires c =
+    let start = c in
+    let given = start.requires.c_value in (
+      size_quotient_positive _ _ given.1 given.0 given.2,
+      public_within start.args.z.now _ given.0 given.1 given.2 given.3 (size_bound _ given.1),
+    )
+
+pub slice_bounds-x-end-2 : goal.slice_bounds-x-end-2
+slice_bounds-x-end-2 c =
+    let call = c.public_words_into in
+    back_holds 1024 (size_bound _ c.requires.c_value.1) call.new.out call.auto.out
+
+pub last_answer-answer-requires : goal.last_answer-answer-requires
+last_answer-answer-requires c = size_bound _ c.requires.c_value.0
+
+pub returns : goal.returns
+returns c =
+    let at-last-answer = c in
+    let at-arrays = at-last-answer in
+    let at-public-words-into = at-arrays in
+    let start = at-public-words-into in
+    let call = at-public-words-into.public_words_into in
+    let a = start.args in
+    let within : a.s.x ≤ 1024 = size_bound _ start.requires.c_value.1 in
+    let public =
+    back_is 1024 within call.new.out call.auto.out ∙ call.ensures
+    ∙ ap (λ (n : ℕ). tabulate n (λ i. get_or a.z.now (i * (a.s.c / a.s.x)) 0)) (sym (lent_length 1024 within)) in
+    printed_as
+    (ap answer_text
+    (at-last-answer.last_answer-answer.ensures
+    ∙ (λ t.
+    last_answer (sizes a.s) (lengths (sizes a.s)) (public t) a.drawn (three a.sums) (three a.values)
+    (openings a.o (at-arrays.arrays.ensures t)))))
+    c.put_answer.ensures

@@ -1,0 +1,81 @@
+-- `outcome_text::whole::put_rest` meets its contract. Assumes nothing.
+use mathlib.Core.Path.{◌≡◌, sym, ap, ◌∙◌}
+use mathlib.Core.List.{◌++◌}
+use native.Mathlib.Omega.{arith}
+use Rattle.domain.specs.Size.{is_size}
+use Rattle.protocol.specs.Circuit.{Sizes, sizes_of}
+use Rattle.protocol.specs.Calls.{ProverInput, circuit_of}
+use Rattle.shared.specs.Meanings.{three}
+use Rattle.circuit.specs.Given.{prover_input}
+use Rattle.circuit.proofs.Fitting.{C-fits, X-fits, X-below}
+use Rattle.report.specs.Stages.{fourth_text, fifth_text, last_text, rest_text, opened_meaning}
+use Rattle.report.proofs.PrintedLaws.{printed_then, printed_within, printed_as, printed_place, printed_length}
+use Rattle.report.proofs.Bounds.{fitting}
+use Rattle.report.proofs.RoundLaws.{fourth_free, fifth_free}
+use Rattle.outcome_text.proofs.whole.put_rest.Goals as goal
+use Rattle.outcome_text.proofs.whole.put_rest.Goals.{After-put_fifth-last, After-put_fourth-fourth, Start}
+
+abbrev input : Start → ProverInput
+input s =
+    let a = s.args in
+    prover_input a.r a.c a.x a.ea.now a.eb.now a.ec.now a.z.now a.mask a.m.now
+
+-- what is given, from round 4, and round 4 from round 5
+abbrev start : After-put_fourth-fourth → Start
+start c = c.before.before.before.before.before.before.before.before.before
+
+abbrev at-fourth : After-put_fifth-last → After-put_fourth-fourth
+at-fourth c = c.before.before.before.before.before.before
+
+pub put_fourth-fourth-requires : goal.put_fourth-fourth-requires
+put_fourth-fourth-requires c =
+    let s = c.before.before.before.before.before.before.before.before in
+    record {
+      free = fourth_free (input s) s.args.drawn s.requires.free_job;
+      most_fourth_in_bounds = omega (arith, s.requires.most_rest_in_bounds);
+    }
+
+pub put_fifth-last-requires : goal.put_fifth-last-requires
+put_fifth-last-requires c =
+    let four = c.before.before.before.before.before in
+    let s = start four in
+    let f = four.put_fourth-fourth.ensures.printed in
+    record {
+      free = fifth_free (input s) s.args.drawn s.pre.0;
+      most_line_in_bounds = omega (arith, s.pre.1, printed_place f, printed_length f);
+    }
+
+pub put_last-requires : goal.put_last-requires
+unfolding sizes_of circuit_of
+put_last-requires c =
+    let k = c.sizes_of-s in
+    let five = c.before.before.before.before.before in
+    let s = start (at-fourth five) in
+    let f = (at-fourth five).put_fourth-fourth.ensures.printed in
+    let h = five.put_fifth-last.ensures in
+    let F = fitting (input s) s.pre.0 in
+    let columns : k.result.c ≡ s.args.c = ap (λ (t : Sizes). t.|C|) k.ensures in
+    let public : k.result.x ≡ s.args.x = ap (λ (t : Sizes). t.|X|) k.ensures in record {
+      c_value = (ap is_size columns ∙ C-fits F, ap is_size public ∙ X-fits F, omega (arith, columns, public, X-below F), F.z-length ∙ sym columns);
+      most_last_in_bounds = omega (arith, s.pre.1, printed_place f, printed_length f, printed_place h, printed_length h);
+    }
+
+pub returns : goal.returns
+unfolding rest_text
+returns c =
+    let at-sizes = c in
+    let five = at-sizes.before.before.before.before.before.before.before.before in
+    let s = start (at-fourth five) in
+    let a = s.args in
+    let d = a.drawn in
+    let f = (at-fourth five).put_fourth-fourth.ensures in
+    let k = at-sizes.sizes_of-s.ensures in
+    let whole = printed_then f.1 (printed_then five.put_fifth-last.ensures c.put_last.ensures) in
+    printed_within
+    (printed_as
+    (λ t.
+    fourth_text (input s) d.alpha d.beta
+    ++ (fifth_text (input s) d.alpha d.beta (three d.delta)
+    ++ last_text (k t) a.z.now d (three a.sums) (f.0 t) (opened_meaning a.o a.i)))
+    whole)
+    (omega arith)

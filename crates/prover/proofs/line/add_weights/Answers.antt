@@ -1,0 +1,77 @@
+-- `prover::line::add_weights` meets its contract. Assumes nothing.
+use mathlib.Core.Path.{◌∙◌}
+use mathlib.Core.List.{List, map}
+use Prim.Native.Nat.{ℕ}
+use lib.ListN.{length, get_or}
+use Rattle.field.specs.Element.{Elem, of, ◌⊕◌, ◌⊗◌}
+use Rattle.protocol.specs.Checks.{weighted}
+use Rattle.protocol.specs.Calls.{entries_of}
+use Rattle.prover.specs.EntrySums.{column_total}
+use Rattle.prover.proofs.LineLaws.{then, gather, columns-within}
+use Rattle.prover.proofs.line.add_weights.Goals as goal
+use Rattle.prover.proofs.line.add_weights.Goals.{After-add_column_sums, After-add_column_sums-2, After-add_column_sums-3, Start}
+
+-- the start, from the first sums; the places of the first two sums, from the third
+abbrev start : After-add_column_sums → Start
+start c = c.before.before.before.before.before.before.before
+
+abbrev at_b : After-add_column_sums-3 → After-add_column_sums-2
+at_b c = c.before.before.before.before
+
+abbrev at_a : After-add_column_sums-3 → After-add_column_sums
+at_a c = (at_b c).before.before.before.before
+
+pub add_column_sums-requires : goal.add_column_sums-requires
+add_column_sums-requires c =
+    let s = c in
+    record {
+      p_nonzero = s.requires.p_nonzero;
+      all = s.requires.each_within.in_a;
+    }
+
+pub add_column_sums-requires-2 : goal.add_column_sums-requires-2
+add_column_sums-requires-2 c =
+    let d = c.before.before.before in
+    let s = start d in
+    let kept = d.add_column_sums.auto.out in
+    record {
+      p_nonzero = s.pre.0;
+      all = columns-within (length s.args.rows.now) (entries_of s.args.eb.now) kept s.pre.1.in_b;
+    }
+
+pub add_column_sums-requires-3 : goal.add_column_sums-requires-3
+add_column_sums-requires-3 c =
+    let e = c in
+    let d = e.before.before.before.before.before.before.before in
+    let s = start d in
+    let kept = e.add_column_sums-2.auto.out ∙ d.add_column_sums.auto.out in
+    record {
+      p_nonzero = s.pre.0;
+      all = columns-within (length s.args.rows.now) (entries_of s.args.ec.now) kept s.pre.1.in_c;
+    }
+
+pub shape_of-out : goal.shape_of-out
+shape_of-out c =
+    let last = c.before.before in
+    last.add_column_sums-3.auto.out
+    ∙ (at_b last).add_column_sums-2.auto.out
+    ∙ (at_a last).add_column_sums.auto.out
+
+pub returns : goal.returns
+unfolding weighted
+returns c q e =
+    let last = c.before.before in
+    let a = (start (at_a last)).args in
+    let first = (at_a last).add_column_sums in
+    let second = (at_b last).add_column_sums-2 in
+    let third = last.add_column_sums-3 in
+    let n : ℕ = length a.out.now in
+    let rows : List (Elem q) = map of a.rows.now in
+    let old : ℕ → Elem q = λ j. of (get_or a.out.now j 0) in
+    let in_a : ℕ → Elem q = λ j. of a.eta.a ⊗ column_total rows (entries_of a.ea.now) j in
+    let in_b : ℕ → Elem q = λ j. of a.eta.b ⊗ column_total rows (entries_of a.eb.now) j in
+    let in_c : ℕ → Elem q = λ j. of a.eta.c ⊗ column_total rows (entries_of a.ec.now) j in
+    then second.last.1.1.1.1.0 third.new.out n (λ j. old j ⊕ in_a j ⊕ in_b j) in_c
+    (then first.last.1.1.1.1.0 second.last.1.1.1.1.0 n (λ j. old j ⊕ in_a j) in_b (first.ensures q e) (second.ensures q e))
+    (third.ensures q e)
+    ∙ gather n old in_a in_b in_c

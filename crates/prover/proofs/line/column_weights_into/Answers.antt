@@ -1,0 +1,63 @@
+-- `prover::line::column_weights_into` meets its contract. Assumes nothing.
+use mathlib.Core.Path.{refl, sym, ap, ◌∙◌}
+use mathlib.Core.List.{List}
+use Prim.Native.Nat.{ℕ, ◌≤◌}
+use native.Mathlib.Omega.{arith}
+use Rattle.algebra.specs.Lists.{tabulate}
+use Rattle.field.specs.Element.{Elem, of, words}
+use Rattle.domain.specs.Size.{is_size}
+use Rattle.domain.specs.Domain.{element, lagrange}
+use Rattle.domain.proofs.SizeLaws.{size_bound}
+use Rattle.poly.proofs.LentParts.{part_length, filled_within, filled_length, of_filled}
+use Rattle.prover.proofs.RowLaws.{row_values}
+use Rattle.prover.proofs.LineLaws.{each_within}
+use Rattle.prover.proofs.line.column_weights_into.Goals as goal
+use Rattle.prover.proofs.line.column_weights_into.Goals.{After-lagrange_values_into, Start}
+
+bound : (c : Start) → c.args.r ≤ 1024
+bound c = size_bound c.args.r c.requires.r_value.0
+
+-- the start, from the fill with the rows' values, and the words that it leaves
+abbrev start : After-lagrange_values_into → Start
+start c = c.before.before.before.before.before.before
+
+abbrev left : After-lagrange_values_into → List ℕ
+left c = c.lagrange_values_into.new.out
+
+pub slice_bounds-rows-end : goal.slice_bounds-rows-end
+slice_bounds-rows-end c = bound c.before.before.before.before
+
+pub lagrange_values_into-requires : goal.lagrange_values_into-requires
+lagrange_values_into-requires c =
+    let s = c.before.before.before.before.before in
+    record {
+      lt_p = s.requires.lt_p;
+      out_value = ap is_size (sym (part_length _ _ (bound s))) ∙ s.requires.r_value.0;
+    }
+
+pub slice_bounds-rows-end-2 : goal.slice_bounds-rows-end-2
+slice_bounds-rows-end-2 c =
+    let r = c.before in
+    filled_within _ _ (bound (start r)) (left r) r.lagrange_values_into.auto.out
+
+pub weights_from-requires : goal.weights_from-requires
+weights_from-requires c =
+    let r = c.before.before.before in
+    let s = start r in
+    record {
+      p_nonzero = omega arith;
+      each_within = each_within (filled_length _ _ (bound s) (left r) r.lagrange_values_into.auto.out) refl s.pre.1.1;
+    }
+
+pub returns : goal.returns
+returns c q known k eR matrices =
+    let r = c.before.before.before.before.before.before in
+    let s = start r in
+    let a = s.args in
+    let α : Elem q = of a.alpha in
+    let long = filled_length _ _ (bound s) (left r) r.lagrange_values_into.auto.out in
+    c.weights_from.ensures q known.value k (eR ∙ long) matrices α
+    (of_filled _ _ (bound s) (left r) r.lagrange_values_into.auto.out (row_values a.r α)
+    (r.lagrange_values_into.ensures q known
+    ∙ ap (λ (n : ℕ). words (tabulate n (λ i. lagrange n (element n i) α))) (sym (part_length _ _ (bound s))))
+    ∙ ap (λ (n : ℕ). row_values n α) long)

@@ -1,0 +1,207 @@
+-- `prover::line::line_into` meets its contract. Assumes nothing.
+use mathlib.Core.Path.{◌≡◌, refl, sym, ap, ◌∙◌}
+use mathlib.Core.Bool.{true}
+use mathlib.Core.List.{List, map, tail}
+use Prim.Native.Nat.{ℕ, ◌+◌, ◌-◌, ◌*◌, ◌≤◌, ◌<◌}
+use native.Mathlib.Omega.{arith}
+use lib.ListN.{length, take, length-map}
+use Rattle.algebra.specs.Lists.{tabulate}
+use Rattle.field.specs.Element.{Elem, of, words}
+use Rattle.domain.specs.Size.{is_size}
+use Rattle.domain.specs.Polynomial.{Poly, ◌⊞◌, ◌·◌, ◌⊠◌, quotient, remainder, interpolate}
+use Rattle.domain.proofs.SizeLaws.{size_positive, size_bound}
+use Rattle.protocol.specs.Three.{Three, each, map_three}
+use Rattle.protocol.specs.Circuit.{Circuit}
+use Rattle.protocol.specs.Checks.{weighted}
+use Rattle.protocol.specs.Calls.{circuit_of}
+use Rattle.protocol.proofs.AdmissionLaws.{WellFormed}
+use Rattle.protocol.proofs.ProverForms.{column_sum}
+use Rattle.shared.specs.Meanings.{three}
+use Rattle.circuit.specs.Given.{given}
+use Rattle.circuit.proofs.Fitting.{R-fits, C-fits}
+use Rattle.poly.proofs.LentParts.{part_order, returned, lent_length, back_holds, back_length, back_is, back_list}
+use Rattle.prover.proofs.RowLaws.{known_formed}
+use Rattle.prover.proofs.ProductLaws.{factor_made, rest_made, quotient_made}
+use Rattle.prover.proofs.LineLaws.{each_within}
+use Rattle.prover.proofs.LineParts.{columns, line-remainder_made, line-quotient_made}
+use Rattle.prover.proofs.line.line_into.Goals as goal
+use Rattle.prover.proofs.line.line_into.Goals.{After-column_weights_into, After-divide_product_into, After-quotient_from, After-remainder_from, Start}
+
+C-size : (c : Start) → is_size c.args.c ≡ true
+C-size c = C-fits c.requires.fits.0
+
+positive : (c : Start) → 0 < c.args.c
+positive c = size_positive c.args.c (C-size c)
+
+bound : (c : Start) → c.args.c ≤ 1024
+bound c = size_bound c.args.c (C-size c)
+
+short : (c : Start) → c.args.c - 1 ≤ 1024
+short c = omega (arith, bound c)
+
+-- the start, from the fill with the weights' values; the place of this fill, from the product; the place of the product, from g1; the
+-- place of g1, from h1
+abbrev start : After-column_weights_into → Start
+start c = c.before.before.before.before.before.before.before.before.before
+
+abbrev at-values : After-divide_product_into → After-column_weights_into
+at-values c = c.before.before.before.before.before.before
+
+abbrev at-product : After-remainder_from → After-divide_product_into
+at-product c = c.before.before.before.before.before.before
+
+abbrev at-remainder : After-quotient_from → After-remainder_from
+at-remainder c = c.before.before.before.before.before.before
+
+-- the words that they leave
+abbrev values : After-column_weights_into → List ℕ
+values c = c.column_weights_into.new.out
+
+abbrev weights : After-divide_product_into → List ℕ
+weights c = c.divide_product_into.new.factor
+
+abbrev rest : After-divide_product_into → List ℕ
+rest c = c.divide_product_into.new.rest
+
+abbrev high : After-divide_product_into → List ℕ
+high c = c.divide_product_into.new.out
+
+-- the lengths of the parts that are lent again
+values-whole : (c : After-column_weights_into)
+    → (start c).args.c ≡ length (take (start c).args.c (returned 1024 (start c).args.c (values c)))
+values-whole c = back_length 1024 (bound (start c)) (values c) c.column_weights_into.auto.out
+
+weights_whole : (c : After-divide_product_into)
+    → (start (at-values c)).args.c ≡ length (take (start (at-values c)).args.c (returned 1024 (start (at-values c)).args.c (weights c)))
+weights_whole c = back_length 1024 (bound (start (at-values c))) (weights c) c.divide_product_into.auto.factor
+
+rest-whole : (c : After-divide_product_into)
+    → (start (at-values c)).args.c ≡ length (take (start (at-values c)).args.c (returned 1024 (start (at-values c)).args.c (rest c)))
+rest-whole c = back_length 1024 (bound (start (at-values c))) (rest c) c.divide_product_into.auto.rest
+
+high_whole : (c : After-divide_product_into)
+    → (start (at-values c)).args.c - 1
+    ≡ length (take ((start (at-values c)).args.c - 1) (returned 1024 ((start (at-values c)).args.c - 1) (high c)))
+high_whole c = back_length 1024 (short (start (at-values c))) (high c) c.divide_product_into.auto.out
+
+pub overflow_sub-l : goal.overflow_sub-l
+overflow_sub-l c = omega (arith, positive c.before.before.before.before.before.before.before)
+
+pub slice_bounds-values-end : goal.slice_bounds-values-end
+slice_bounds-values-end c = bound c.before.before.before.before.before.before.before
+
+pub column_weights_into-requires : goal.column_weights_into-requires
+column_weights_into-requires c =
+    let s = c.before.before.before.before.before.before.before.before in
+    let F = s.requires.fits.0 in
+    (s.requires.modulus.0, (R-fits F, each_within refl (lent_length 1024 (bound s)) F.within))
+
+pub slice_bounds-values-end-2 : goal.slice_bounds-values-end-2
+slice_bounds-values-end-2 c =
+    let v = c.before in
+    back_holds 1024 (bound (start v)) (values v) v.column_weights_into.auto.out
+
+pub slice_bounds-weights-end : goal.slice_bounds-weights-end
+slice_bounds-weights-end c = bound (start c.before.before)
+
+pub slice_bounds-rest-end : goal.slice_bounds-rest-end
+slice_bounds-rest-end c = bound (start c.before.before.before)
+
+pub slice_bounds-high-end : goal.slice_bounds-high-end
+slice_bounds-high-end c = short (start c.before.before.before.before)
+
+pub divide_product_into-requires : goal.divide_product_into-requires
+divide_product_into-requires c =
+    let v = c.before.before.before.before.before in
+    let s = start v in
+    let n : ℕ = s.args.c in
+    let left = values-whole v in
+    let lent = sym (lent_length 1024 (bound s)) ∙ left in
+    let last : n - 1 + 1 ≡ n = omega (arith, positive s) in (
+      s.pre.0,
+      (
+        ap is_size (sym left) ∙ C-size s,
+        ((s.pre.1.0.z-length ∙ left, lent), (lent, ap (λ (k : ℕ). k + 1) (sym (lent_length 1024 (short s))) ∙ last ∙ left)),
+      ),
+    )
+
+pub slice_bounds-rest-end-2 : goal.slice_bounds-rest-end-2
+slice_bounds-rest-end-2 c =
+    let d = c.before.before.before in
+    back_holds 1024 (bound (start (at-values d))) (rest d) d.divide_product_into.auto.rest
+
+pub remainder_from-requires : goal.remainder_from-requires
+remainder_from-requires c =
+    let d = c.before.before.before.before.before in
+    let s = start (at-values d) in
+    let size : length s.args.remainder.now + 1 ≡ s.args.c = omega (arith, positive s) in
+    record {
+      p_nonzero = omega arith;
+      rest_len = (sym (size ∙ rest-whole d), s.pre.1.0.m-length ∙ ap (λ (n : ℕ). 2 * n) (rest-whole d));
+    }
+
+pub slice_bounds-weights-end-2 : goal.slice_bounds-weights-end-2
+slice_bounds-weights-end-2 c =
+    let d = at-product c.before.before in
+    back_holds 1024 (bound (start (at-values d))) (weights d) d.divide-product-into.kept.1.1.1.0
+
+pub slice_bounds-high-end-2 : goal.slice_bounds-high-end-2
+slice_bounds-high-end-2 c =
+    let d = at-product c.before.before.before in
+    back_holds 1024 (short (start (at-values d))) (high d) d.divide-product-into.kept.1.1.1.1.1.0
+
+pub quotient_from-requires : goal.quotient_from-requires
+quotient_from-requires c =
+    let d = at-product c.before.before.before.before.before in
+    let s = start (at-values d) in
+    let size : length s.args.quotient.now ≡ s.args.c = s.pre.1.1.1 in
+    let above : 0 < length s.args.quotient.now = omega (arith, positive s) in
+    let below : s.args.c - 1 ≤ length s.args.quotient.now = omega arith in (
+      omega arith,
+      ((above, sym (size ∙ weights_whole d), part_order (high_whole d) below), s.pre.1.0.m-length ∙ ap (λ (n : ℕ). 2 * n) (sym size)),
+    )
+
+pub shape_of-remainder : goal.shape_of-remainder
+shape_of-remainder c = (at-remainder c.before.before).remainder_from.auto.out
+
+pub shape_of-quotient : goal.shape_of-quotient
+shape_of-quotient c = c.quotient_from.auto.out
+
+pub returns : goal.returns
+unfolding circuit_of
+returns c q known Q =
+    let last = c.before.before in
+    let first = at-remainder last in
+    let d = at-product first in
+    let v = at-values d in
+    let s = start v in
+    let a = s.args in
+    let F = s.pre.1.0 in
+    let n : ℕ = a.c in
+    let k : Circuit = circuit_of (given a.r a.c a.x a.ea.now a.eb.now a.ec.now) in
+    let W : WellFormed q.p k = known_formed known F.well_formed in
+    let z : List (Elem q) = map of a.z.now in
+    let m : Poly q = map of a.m.now in
+    let m-length : length m ≡ 2 * n = length-map a.m.now of ∙ F.m-length in
+    let α : Elem q = of a.alpha in
+    let η : Three (Elem q) = map_three of (three a.eta) in
+    let f : ℕ → Elem q = λ j. weighted η (each (λ M. column_sum k M α j)) in
+    let P : Poly q = columns Q k W z (of a.mask) m m-length α η in
+    let divided = d.divide-product-into.ensures q known in
+    let left : map of (take n (returned 1024 n (values v))) ≡ tabulate n f =
+    ap (map of) (back_is 1024 (bound s) (values v) v.column-weights-into.kept.1.1.1.1.1.1.1.0)
+    ∙ v.column-weights-into.ensures q known k refl refl ∙ ap (λ (l : ℕ). tabulate l f) (sym (lent_length 1024 (bound s))) in
+    let size = sym (values-whole v) in
+    let is-rest : map of (take n (returned 1024 n (rest d))) ≡ remainder n (P ⊠ interpolate n z) =
+    back_list 1024 (bound s) (rest d) d.divide-product-into.kept.1.1.1.1.0 _ (rest_made divided size left refl) in
+    let is-weights : map of (take n (returned 1024 n (weights d))) ≡ P =
+    back_list 1024 (bound s) (weights d) d.divide-product-into.kept.1.1.1.0 _ (factor_made divided size left refl) in
+    let is-high : map of (take (n - 1) (returned 1024 (n - 1) (high d))) ≡ quotient n (P ⊠ interpolate n z) =
+    back_list 1024 (short s) (high d) d.divide-product-into.kept.1.1.1.1.1.0 _ (quotient_made divided size left refl) in (
+      first.remainder-from.ensures q known.value
+          ∙ (λ t. words (tail (remainder (sym (rest-whole d) t) m ⊞ is-rest t)))
+          ∙ ap words (line-remainder_made Q k W z (of a.mask) m m-length α η),
+      last.quotient_from.ensures q known.value
+          ∙ (λ t. words (quotient (s.pre.1.1.1 t) m ⊞ (of a.mask · is-weights t ⊞ is-high t)))
+          ∙ ap words (line-quotient_made Q k W z (of a.mask) m m-length α η),
+    )

@@ -1,0 +1,103 @@
+-- `prover::rows::row_quotient_into` meets its contract. Assumes nothing.
+use mathlib.Core.Path.{◌≡◌, sym, ap, ◌∙◌}
+use mathlib.Core.List.{List, map}
+use Prim.Native.Nat.{ℕ, ◌+◌, ◌≤◌}
+use native.Mathlib.Omega.{arith}
+use lib.ListN.{length}
+use Rattle.algebra.specs.Lists.{tabulate}
+use Rattle.field.specs.Element.{Elem, of, words}
+use Rattle.domain.specs.Size.{is_size}
+use Rattle.domain.proofs.SizeLaws.{size_positive, size_bound}
+use Rattle.protocol.specs.Three.{A, B}
+use Rattle.protocol.specs.Circuit.{row_sum}
+use Rattle.protocol.specs.Calls.{entries_of}
+use Rattle.poly.proofs.LentParts.{part_length, filled_within, filled_length, of_filled, lent_length}
+use Rattle.prover.proofs.ProductLaws.{quotient_made}
+use Rattle.prover.proofs.RowLaws.{known_formed, rows-within, row-quotient_made}
+use Rattle.prover.proofs.rows.row_quotient_into.Goals as goal
+use Rattle.prover.proofs.rows.row_quotient_into.Goals.{After-row_sums, After-row_sums-2, Start}
+
+bound : (c : Start) → c.args.r ≤ 1024
+bound c = size_bound c.args.r c.requires.r_value.0
+
+-- the start, from the first fill; the place of the first fill, from the second; the words that the fills leave
+abbrev start : After-row_sums → Start
+start c = c.before.before.before.before.before.before
+
+abbrev at_a : After-row_sums-2 → After-row_sums
+at_a c = c.before.before.before
+
+abbrev sums-a : After-row_sums → List ℕ
+sums-a c = c.row_sums.new.out
+
+abbrev sums-b : After-row_sums-2 → List ℕ
+sums-b c = c.row_sums-2.new.out
+
+pub slice_bounds-left-end : goal.slice_bounds-left-end
+slice_bounds-left-end c = bound c.before.before.before.before
+
+pub row_sums-requires : goal.row_sums-requires
+row_sums-requires c =
+    let s = c.before.before.before.before.before in
+    record {
+      p_nonzero = omega arith;
+      all = rows-within (lent_length 1024 (bound s)) (length s.args.z.now) (entries_of s.args.ea.now) s.requires.r_value.1.1.0;
+    }
+
+pub slice_bounds-right-end : goal.slice_bounds-right-end
+slice_bounds-right-end c = bound (start c.before)
+
+pub row_sums-requires-2 : goal.row_sums-requires-2
+row_sums-requires-2 c =
+    let s = start c.before.before in
+    record {
+      p_nonzero = omega arith;
+      all = rows-within (lent_length 1024 (bound s)) (length s.args.z.now) (entries_of s.args.eb.now) s.pre.1.1.1.1;
+    }
+
+pub slice_bounds-left-end-2 : goal.slice_bounds-left-end-2
+slice_bounds-left-end-2 c =
+    let a = at_a c.before in
+    filled_within _ _ (bound (start a)) (sums-a a) a.row-sums.kept.1.1.1.0
+
+pub slice_bounds-right-end-2 : goal.slice_bounds-right-end-2
+slice_bounds-right-end-2 c =
+    let b = c.before.before in
+    filled_within _ _ (bound (start (at_a b))) (sums-b b) b.row_sums-2.auto.out
+
+pub slice_bounds-factor-end : goal.slice_bounds-factor-end
+slice_bounds-factor-end c = bound (start (at_a c.before.before.before))
+
+pub slice_bounds-rest-end : goal.slice_bounds-rest-end
+slice_bounds-rest-end c = bound (start (at_a c.before.before.before.before))
+
+pub divide_product_into-requires : goal.divide_product_into-requires
+divide_product_into-requires c =
+    let b = c.before.before.before.before.before.before in
+    let a = at_a b in
+    let s = start a in
+    let left = filled_length _ _ (bound s) (sums-a a) a.row-sums.kept.1.1.1.0 in
+    let right = filled_length _ _ (bound s) (sums-b b) b.row_sums-2.auto.out in
+    let lent = sym (part_length _ _ (bound s)) ∙ left in
+    let whole : length s.args.out.now + 1 ≡ s.args.r = omega (arith, size_positive s.args.r s.pre.1.0) in
+    (s.pre.0, (ap is_size (sym left) ∙ s.pre.1.0, ((sym right ∙ left, lent), (lent, whole ∙ left))))
+
+pub shape_of-out : goal.shape_of-out
+shape_of-out c = c.divide_product_into.auto.out
+
+pub returns : goal.returns
+returns c q known Q k W eR ea eb ẑ values =
+    let d = c in
+    let b = d.before.before.before.before.before.before.before.before.before.before.before in
+    let a = at_a b in
+    let s = start a in
+    let r : ℕ = s.args.r in
+    let z : List (Elem q) = map of s.args.z.now in
+    let whole = part_length _ _ (bound s) in
+    quotient_made (d.divide_product_into.ensures q known)
+    (sym (filled_length _ _ (bound s) (sums-a a) a.row-sums.kept.1.1.1.0))
+    (of_filled _ _ (bound s) (sums-a a) a.row-sums.kept.1.1.1.0 (tabulate r (row_sum k A z))
+    (a.row-sums.ensures q known.value k A ea ∙ ap (λ (n : ℕ). words (tabulate n (row_sum k A z))) (sym whole)))
+    (of_filled _ _ (bound s) (sums-b b) b.row_sums-2.auto.out (tabulate r (row_sum k B z))
+    (b.row_sums-2.ensures q known.value k B eb ∙ ap (λ (n : ℕ). words (tabulate n (row_sum k B z))) (sym whole)))
+    ∙ ap words (row-quotient_made q Q k (known_formed known W) eR ẑ z values)

@@ -1,0 +1,120 @@
+-- `prover::rows::sums_at` meets its contract. Assumes nothing.
+use mathlib.Core.Path.{◌≡◌, sym, ap, ◌∙◌}
+use mathlib.Core.List.{List, ◌++◌, map}
+use Prim.Native.Nat.{ℕ, ◌≤◌}
+use native.Mathlib.Omega.{arith}
+use lib.ListN.{length, take, drop, replicate}
+use Rattle.algebra.specs.Lists.{tabulate}
+use Rattle.field.specs.Prime.{Prime}
+use Rattle.field.specs.Element.{Elem, of, words}
+use Rattle.domain.specs.Size.{is_size}
+use Rattle.domain.specs.Domain.{element, lagrange}
+use Rattle.domain.specs.Known.{Known}
+use Rattle.domain.proofs.SizeLaws.{size_bound}
+use Rattle.protocol.specs.Three.{MatrixName, A, B, C, Three, at}
+use Rattle.protocol.specs.Circuit.{Entry}
+use Rattle.protocol.specs.Calls.{entries_of}
+use Rattle.protocol.specs.Messages.{image, sums}
+use Rattle.poly.proofs.LentParts.{part_length, filled_within, filled_length, of_filled}
+use Rattle.prover.specs.EntrySums.{entry_total}
+use Rattle.prover.proofs.RowLaws.{known_formed, rows-within, row_values, row-sum_made}
+use Rattle.prover.proofs.rows.sums_at.Goals as goal
+use Rattle.prover.proofs.rows.sums_at.Goals.{After-lagrange_values_into, Start}
+
+bound : (c : Start) → c.args.r ≤ 1024
+bound c = size_bound c.args.r c.requires.r_value.0
+
+-- the start, from the fill with the rows' values, and the words that it leaves
+abbrev start : After-lagrange_values_into → Start
+start c = c.before.before.before.before.before.before
+
+abbrev left : After-lagrange_values_into → List ℕ
+left c = c.lagrange_values_into.new.out
+
+-- the rows' values, lent again
+abbrev again : After-lagrange_values_into → List ℕ
+again c = left c ++ drop (start c).args.r (replicate 1024 0)
+
+part_again : (c : After-lagrange_values_into) → (start c).args.r ≤ length (again c)
+part_again c = filled_within _ (replicate 1024 0) (bound (start c)) (left c) c.lagrange_values_into.auto.out
+
+whole_again : (c : After-lagrange_values_into) → (start c).args.r ≡ length (take (start c).args.r (again c))
+whole_again c = filled_length _ (replicate 1024 0) (bound (start c)) (left c) c.lagrange_values_into.auto.out
+
+rows_made : (c : After-lagrange_values_into) {q : Prime} → Known q (start c).args.p
+    → map of (take (start c).args.r (again c)) ≡ row_values {q = q} (start c).args.r (of (start c).args.alpha)
+rows_made c {q} known =
+    let s = start c in
+    let α : Elem q = of s.args.alpha in
+    of_filled _ (replicate 1024 0) (bound s) (left c) c.lagrange_values_into.auto.out (row_values s.args.r α)
+    (c.lagrange_values_into.ensures q known
+    ∙ ap (λ (n : ℕ). words (tabulate n (λ i. lagrange n (element n i) α))) (sym (part_length _ (replicate 1024 0) (bound s))))
+
+pub slice_bounds-rows-end : goal.slice_bounds-rows-end
+slice_bounds-rows-end c = bound c.before.before.before.before
+
+pub lagrange_values_into-requires : goal.lagrange_values_into-requires
+lagrange_values_into-requires c =
+    let s = c.before.before.before.before.before in
+    record {
+      lt_p = s.requires.lt_p;
+      out_value = ap is_size (sym (part_length _ _ (bound s))) ∙ s.requires.r_value.0;
+    }
+
+pub slice_bounds-rows-end-2 : goal.slice_bounds-rows-end-2
+slice_bounds-rows-end-2 c = part_again c.before
+
+pub entries_sum-requires : goal.entries_sum-requires
+entries_sum-requires c =
+    let r = c.before.before in
+    let s = start r in
+    record {
+      p_nonzero = omega arith;
+      all = rows-within (whole_again r) (length s.args.z.now) (entries_of s.args.ea.now) s.pre.1.1.in_a;
+    }
+
+pub slice_bounds-rows-end-3 : goal.slice_bounds-rows-end-3
+slice_bounds-rows-end-3 c = part_again c.before.before.before
+
+pub entries_sum-requires-2 : goal.entries_sum-requires-2
+entries_sum-requires-2 c =
+    let r = c.before.before.before.before in
+    let s = start r in
+    record {
+      p_nonzero = omega arith;
+      all = rows-within (whole_again r) (length s.args.z.now) (entries_of s.args.eb.now) s.pre.1.1.in_b;
+    }
+
+pub slice_bounds-rows-end-4 : goal.slice_bounds-rows-end-4
+slice_bounds-rows-end-4 c = part_again c.before.before.before.before.before
+
+pub entries_sum-requires-3 : goal.entries_sum-requires-3
+entries_sum-requires-3 c =
+    let r = c.before.before.before.before.before.before in
+    let s = start r in
+    record {
+      p_nonzero = omega arith;
+      all = rows-within (whole_again r) (length s.args.z.now) (entries_of s.args.ec.now) s.pre.1.1.in_c;
+    }
+
+pub returns : goal.returns
+unfolding sums
+returns c q known Q k W eR matrices ẑ values =
+    let r = c.before.before.before.before.before.before.before in
+    let a = (start r).args in
+    let α : Elem q = of a.alpha in
+    let z : List (Elem q) = map of a.z.now in
+    let sum : (M : MatrixName) (es : List Entry) → at k.matrices M ≡ es
+    → (entry_total (map of (take a.r (again r))) z es).word ≡ (image k ẑ M α).word =
+    λ M es same.
+    ap (λ (x : Elem q). x.word)
+    (ap (λ (rows : List (Elem q)). entry_total rows z es) (rows_made r known)
+    ∙ row-sum_made q Q k (known_formed known W) eR ẑ z values M same α) in
+    let in_a = ap (λ (l : Three (List Entry)). l.a) matrices in
+    let in_b = ap (λ (l : Three (List Entry)). l.b) matrices in
+    let in_c = ap (λ (l : Three (List Entry)). l.c) matrices in
+    λ t. record {
+      a = (c.entries_sum.ensures q known.value ∙ sum A (entries_of a.ea.now) in_a) t;
+      b = (c.entries_sum-2.ensures q known.value ∙ sum B (entries_of a.eb.now) in_b) t;
+      c = (c.entries_sum-3.ensures q known.value ∙ sum C (entries_of a.ec.now) in_c) t;
+    }

@@ -1,0 +1,63 @@
+-- `prover::witness::private_quotient_into` meets its contract. Assumes nothing.
+use mathlib.Core.Path.{◌≡◌, sym, ap, ◌∙◌}
+use mathlib.Core.List.{map}
+use Prim.Native.Nat.{ℕ, ◌-◌, ◌≤◌}
+use native.Mathlib.Omega.{arith}
+use lib.ListN.{length}
+use Rattle.field.specs.Element.{of, words}
+use Rattle.domain.specs.Size.{is_size}
+use Rattle.domain.specs.Domain.{root}
+use Rattle.domain.specs.Polynomial.{Poly, quotient, interpolate}
+use Rattle.domain.proofs.Qualification.{known-qualifies}
+use Rattle.domain.proofs.SizeLaws.{size_positive, size_bound}
+use Rattle.poly.proofs.LentParts.{part_length, filled_within, filled_length, of_filled}
+use Rattle.prover.proofs.witness.private_quotient_into.Goals as goal
+use Rattle.prover.proofs.witness.private_quotient_into.Goals.{After-interpolate_into, Start}
+
+bound : (c : Start) → c.args.c ≤ 1024
+bound c = size_bound c.args.c c.requires.c_value.0.0
+
+-- the start, from the fill with the coefficients
+abbrev start : After-interpolate_into → Start
+start c = c.before.before.before.before.before
+
+pub slice_bounds-whole-end : goal.slice_bounds-whole-end
+slice_bounds-whole-end c = bound c.before.before.before
+
+pub interpolate_into-requires : goal.interpolate_into-requires
+interpolate_into-requires c =
+    let s = c.before.before.before.before in
+    let size : length s.args.z.now ≡ s.args.c = s.requires.c_value.1.0 in
+    record {
+      lt_p = s.requires.lt_p;
+      out_len = (sym (size ∙ part_length _ _ (bound s)), ap is_size size ∙ s.requires.c_value.0.0);
+    }
+
+pub slice_bounds-whole-end-2 : goal.slice_bounds-whole-end-2
+slice_bounds-whole-end-2 c =
+    let v = c.before in
+    filled_within _ _ (bound (start v)) v.interpolate_into.new.out v.interpolate_into.auto.out
+
+pub quotient_into-requires : goal.quotient_into-requires
+quotient_into-requires c =
+    let v = c.before.before.before in
+    let s = start v in
+    let size = filled_length _ _ (bound s) v.interpolate_into.new.out v.interpolate_into.auto.out in
+    (omega arith, (size_positive _ s.pre.1.0.1, s.pre.1.1.1 ∙ ap (λ (n : ℕ). n - s.args.x) size))
+
+pub shape_of-out : goal.shape_of-out
+shape_of-out c = c.quotient_into.auto.out
+
+pub returns : goal.returns
+returns c q known =
+    let v = c.before.before.before.before.before.before in
+    let s = start v in
+    let values = v.interpolate_into in
+    let z : Poly q = map of s.args.z.now in
+    let size : length s.args.z.now ≡ s.args.c = s.pre.1.1.0 in
+    c.quotient_into.ensures q known.value
+    ∙ ap (λ (l : Poly q). words (quotient s.args.x l))
+    (of_filled _ _ (bound s) values.new.out values.auto.out (interpolate s.args.c z)
+    (values.ensures q (known-qualifies known) known.value
+    (v.root_of.ensures q known ∙ ap (λ (n : ℕ). (root {q = q} n).word) (sym size))
+    ∙ ap (λ (n : ℕ). words (interpolate {q = q} n z)) size))

@@ -1,0 +1,63 @@
+-- `prover::witness::vanishing_ratio_into` meets its contract. Assumes nothing.
+use mathlib.Core.Path.{◌≡◌, ap, ◌∙◌}
+use Prim.Native.Nat.{ℕ, ◌+◌, ◌-◌, ◌≤◌, ◌<◌}
+use native.Mathlib.Omega.{arith}
+use lib.ListN.{length}
+use Rattle.field.specs.Element.{words}
+use Rattle.domain.specs.Polynomial.{Poly, quotient, vanishing_poly}
+use Rattle.domain.proofs.SizeLaws.{size_positive, size_bound}
+use Rattle.poly.proofs.LentParts.{part_length, filled_within, filled_length, above_one, one_less, of_filled}
+use Rattle.prover.proofs.witness.vanishing_ratio_into.Goals as goal
+use Rattle.prover.proofs.witness.vanishing_ratio_into.Goals.{After-fill_vanishing, Start}
+
+bound : (c : Start) → c.args.c + 1 ≤ 1025
+bound c = omega (arith, size_bound c.args.c c.requires.c_value.0.0)
+
+positive : (c : Start) → 0 < c.args.c
+positive c = size_positive c.args.c c.requires.c_value.0.0
+
+-- the start, from the fill
+abbrev start : After-fill_vanishing → Start
+start c = c.before.before.before
+
+pub overflow_add-n : goal.overflow_add-n
+overflow_add-n c = omega arith
+
+pub slice_bounds-vanishing-end : goal.slice_bounds-vanishing-end
+slice_bounds-vanishing-end c = bound c.before
+
+pub fill_vanishing-requires : goal.fill_vanishing-requires
+fill_vanishing-requires c =
+    let s = c.before.before in
+    record {
+      p_nonzero = omega arith;
+      in_bounds = above_one s.args.c (part_length _ _ (bound s)) (positive s);
+    }
+
+pub slice_bounds-vanishing-end-2 : goal.slice_bounds-vanishing-end-2
+slice_bounds-vanishing-end-2 c =
+    let f = c.before in
+    filled_within _ _ (bound (start f)) f.fill_vanishing.new.out f.fill_vanishing.auto.out
+
+pub quotient_into-requires : goal.quotient_into-requires
+quotient_into-requires c =
+    let f = c.before.before.before in
+    let s = start f in
+    let x : ℕ = s.args.x in
+    let length-out : length s.args.out.now ≡ s.args.c + 1 - x = omega arith in
+    let whole = filled_length _ _ (bound s) f.fill_vanishing.new.out f.fill_vanishing.auto.out in
+    (omega arith, (size_positive _ s.pre.1.0.1, length-out ∙ ap (λ (n : ℕ). n - x) whole))
+
+pub shape_of-out : goal.shape_of-out
+shape_of-out c = c.quotient_into.auto.out
+
+pub returns : goal.returns
+returns c q e =
+    let f = c.before.before.before.before.before.before in
+    let s = start f in
+    let fill = f.fill_vanishing in
+    let n : ℕ = s.args.c in
+    c.quotient_into.ensures q e
+    ∙ ap (λ (l : Poly q). words (quotient s.args.x l))
+    (of_filled _ _ (bound s) fill.new.out fill.auto.out (vanishing_poly n)
+    (fill.ensures q e ∙ ap (λ (k : ℕ). words (vanishing_poly {q = q} k)) (one_less n (part_length _ _ (bound s)))))

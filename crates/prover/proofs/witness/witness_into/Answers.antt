@@ -1,0 +1,104 @@
+-- `prover::witness::witness_into` meets its contract. Assumes nothing.
+use mathlib.Core.Path.{◌≡◌, sym, ◌∙◌}
+use mathlib.Core.List.{List, ◌++◌, map}
+use Prim.Native.Nat.{ℕ, ◌+◌, ◌-◌, ◌≤◌}
+use native.Mathlib.Omega.{arith}
+use lib.ListN.{length, take, drop, set, length-set}
+use lib.Seq.{length_front}
+use Rattle.field.specs.Element.{of}
+use Rattle.domain.specs.Polynomial.{quotient, vanishing_poly}
+use Rattle.domain.proofs.SizeLaws.{size_positive, size_bound}
+use Rattle.domain.proofs.Division.{length_vanishing_ratio}
+use Rattle.poly.proofs.LentParts.{part_length, filled_within, filled_length, part_order, of_filled}
+use Rattle.prover.proofs.WitnessLaws.{padded, witness_made}
+use Rattle.prover.proofs.witness.witness_into.Goals as goal
+use Rattle.prover.proofs.witness.witness_into.Goals.{After-private_quotient_into, After-vanishing_ratio_into, Start}
+
+short : (c : Start) → c.args.c - c.args.x ≤ length c.args.out.now
+short c = omega arith
+
+bound : (c : Start) → c.args.c - c.args.x + 1 ≤ 1024
+bound c = omega (arith, size_bound c.args.c c.requires.c_value.0.0, size_positive c.args.x c.requires.c_value.0.1, c.requires.c_value.0.2)
+
+-- the slice with its first part filled and a 0 behind it is as long as before
+padded-length : (c : Start) (e : List ℕ) → length e ≡ length (take (c.args.c - c.args.x) c.args.out.now)
+    → length (set (e ++ drop (c.args.c - c.args.x) c.args.out.now) (c.args.c - c.args.x) 0) ≡ length c.args.out.now
+padded-length c e kept = simp length-set (length_front c.args.out.now e (c.args.c - c.args.x) kept)
+
+-- the start, from the fill with the quotient, and the place of this fill, from that with the ratio
+abbrev start : After-private_quotient_into → Start
+start c = c.before.before.before.before
+
+abbrev at_quotient : After-vanishing_ratio_into → After-private_quotient_into
+at_quotient c = c.before.before.before.before
+
+pub overflow_sub-n : goal.overflow_sub-n
+overflow_sub-n c = omega arith
+
+pub overflow_cast-n : goal.overflow_cast-n
+overflow_cast-n c = omega arith
+
+pub slice_bounds-private_quotient_into-end : goal.slice_bounds-private_quotient_into-end
+slice_bounds-private_quotient_into-end c = omega arith
+
+pub private_quotient_into-requires : goal.private_quotient_into-requires
+private_quotient_into-requires c =
+    let s = c.before.before.before in
+    (s.requires.lt_p, (s.requires.c_value.0, (s.requires.c_value.1.0, sym (part_length _ _ (short s)))))
+
+pub offset_bounds-out-n : goal.offset_bounds-out-n
+offset_bounds-out-n c = omega arith
+
+pub bounds-out-n : goal.bounds-out-n
+bounds-out-n c = omega arith
+
+pub overflow_add-l : goal.overflow_add-l
+overflow_add-l c = omega arith
+
+pub slice_bounds-ratio-end : goal.slice_bounds-ratio-end
+slice_bounds-ratio-end c = bound (start c.before.before)
+
+pub vanishing_ratio_into-requires : goal.vanishing_ratio_into-requires
+vanishing_ratio_into-requires c =
+    let s = start c.before.before.before in
+    (s.pre.0, (s.pre.1.0, sym (part_length _ _ (bound s))))
+
+pub slice_bounds-ratio-end-2 : goal.slice_bounds-ratio-end-2
+slice_bounds-ratio-end-2 c =
+    let r = c.before.before in
+    let ratio = r.vanishing_ratio_into in
+    filled_within _ _ (bound (start (at_quotient r))) ratio.new.out ratio.auto.out
+
+pub add_scaled-requires : goal.add_scaled-requires
+add_scaled-requires c =
+    let r = c.before.before.before in
+    let s = start (at_quotient r) in
+    let ratio = r.vanishing_ratio_into in
+    let first = (at_quotient r).private_quotient_into in record {
+      p_nonzero = omega arith;
+      g_in_bounds = part_order (filled_length _ _ (bound s) ratio.new.out ratio.auto.out)
+          (omega (arith, padded-length s first.last.1.1.1.1.0 first.kept.1.1.1.1.0));
+    }
+
+pub shape_of-out : goal.shape_of-out
+shape_of-out c =
+    let d = at_quotient c.before.before.before.before.before.before in
+    let first = d.private-quotient-into in
+    c.add_scaled.auto.f ∙ padded-length (start d) first.last.1.1.1.1.0 first.kept.1.1.1.1.0
+
+pub returns : goal.returns
+returns c q known k eC eX =
+    let r = c.before.before.before.before.before.before in
+    let s = start (at_quotient r) in
+    let a = s.args in
+    let first = (at_quotient r).private_quotient_into in
+    let ratio = r.vanishing_ratio_into in
+    let n : ℕ = a.c - a.x in
+    let sizes = s.pre.1.0 in
+    let part = part_length n a.out.now (short s) in
+    c.add_scaled.ensures q known.value
+    ∙ witness_made q k (map of a.z.now) (of a.mask) eC eX sizes.2
+    (padded n a.out.now first.last.1.1.1.1.0 s.pre.1.1.1 (first.kept.1.1.1.1.0 ∙ sym part))
+    (first.ensures q known)
+    (of_filled _ _ (bound s) ratio.new.out ratio.auto.out (quotient a.x (vanishing_poly a.c)) (ratio.ensures q known.value))
+    (omega (arith, first.kept.1.1.1.1.0, part, length_vanishing_ratio q a.x a.c sizes.1 sizes.0 sizes.2))

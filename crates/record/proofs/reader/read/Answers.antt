@@ -1,0 +1,52 @@
+-- `record::reader::read` meets its contract. Assumes nothing.
+use mathlib.Core.List.{[], ◌∷◌}
+use mathlib.Core.Option.{none}
+use mathlib.Core.Path.{◌≡◌, sym, ap, ◌∙◌}
+use Rattle.shared.specs.declared.Fault.TheVariants as fault
+use Rattle.shared.specs.Meanings.{fault_refusal}
+use Rattle.protocol.specs.Refusals.{Done}
+use Rattle.protocol.specs.Record.{word_row}
+use Rattle.protocol.proofs.Rows.{first_stop, first_pass}
+use Rattle.record.specs.Layout.{layout_refusal}
+use Rattle.record.proofs.Rows.{laid, record_rows_lem, read-refused, read_whole}
+use Rattle.record.proofs.reader.read.Goals as goal
+use Rattle.record.proofs.reader.read.Goals.{After-layout_fault}
+
+free : (j : After-layout_fault) → j.layout_fault.result ≡ fault.Fine → layout_refusal j.args.bytes.now ≡ none
+free j told = sym j.layout_fault.ensures ∙ ap fault_refusal told
+
+pub returns-in-Refused : goal.returns-in-Refused
+returns-in-Refused c q e =
+    let j = c in
+    let bytes = j.args.bytes.now in
+    sym (read-refused bytes q
+    (record_rows_lem bytes q
+    ∙ first_stop (word_row bytes q ∷ []) (sym j.layout_fault.ensures ∙ ap fault_refusal c.number-1.given.1)))
+
+pub section_words_fault-requires : goal.section_words_fault-requires
+section_words_fault-requires c = free c.before.before c.enum_told-1.given.1
+
+pub returns-in-Refused-section_words_fault : goal.returns-in-Refused-section_words_fault
+returns-in-Refused-section_words_fault c q e =
+    let scanned = c in
+    let j = scanned.before.before.before.before.before.before in
+    let bytes = j.args.bytes.now in
+    sym (read-refused bytes q
+    (record_rows_lem bytes q ∙ first_pass (word_row bytes q) (free j scanned.enum_told-1.given.1)
+    ∙ sym (scanned.section_words_fault.ensures q e) ∙ ap fault_refusal c.number-in-Refused-section_words_fault-1.given.1))
+
+pub sizes_in-requires : goal.sizes_in-requires
+sizes_in-requires c =
+    let scanned = c in
+    let j = scanned.before.before.before.before.before in
+    (laid j.args.bytes.now (free j scanned.enum_told-1.given.1)).long
+
+pub returns : goal.returns
+returns c q e =
+    let scanned = c in
+    let j = scanned.before.before.before.before.before.before in
+    let bytes = j.args.bytes.now in
+    ap Done c.sizes_in.ensures
+    ∙ sym (read_whole bytes q
+    (record_rows_lem bytes q ∙ first_pass (word_row bytes q) (free j scanned.enum_told-1.given.1)
+    ∙ sym (scanned.section_words_fault.ensures q e) ∙ ap fault_refusal c.enum_told-in_default-section_words_fault-1.given.1))

@@ -1,0 +1,90 @@
+-- `record_writer::writer::write` meets its contract: sizes and lengths, then the words, then the record. Assumes nothing.
+use mathlib.Core.Path.{◌≡◌, refl, sym, ◌∙◌}
+use mathlib.Core.Bool.{true}
+use mathlib.Core.List.{List, [], ◌∷◌, map}
+use mathlib.Core.Option.{Option, none}
+use Prim.Native.Nat.{ℕ}
+use native.Mathlib.Omega.{arith}
+use lib.ListN.{length}
+use borrow.Author.Tests.{not-true, not-false}
+use Rattle.field.specs.Prime.{Prime}
+use Rattle.protocol.specs.Circuit.{Sizes}
+use Rattle.shared.specs.Meanings.{sizes, is_fine}
+use Rattle.protocol.specs.Refusals.{Refusal, word_refusal}
+use Rattle.shared.proofs.EarlyReturns.{stops, goes_on, fine_none, last_answer_lem}
+use Rattle.protocol.proofs.Rows.{word_row}
+use Rattle.record_writer.specs.Sections.{joined, each_section, shape_refusal}
+use Rattle.record_writer.proofs.Lengths.{Shaped, shaped, few_bytes, room-given, write_refused, write_done}
+use Rattle.record_writer.proofs.writer.write.Goals as goal
+use Rattle.record_writer.proofs.writer.write.Goals.{After-shape_fault-shape, Else-not-is_fine, Start}
+
+-- the start, and the sizes, the sections and the lent bytes of the call
+abbrev start : After-shape_fault-shape → Start
+start j = j.before.before.before.before.before.before.before.before.before.before.before.before.before.before
+
+module _ (j : After-shape_fault-shape) where
+  abbrev given : Sizes
+  given = sizes (start j).args.sizes
+
+  abbrev parts : List (List ℕ)
+  parts =
+      let a = (start j).args in
+      each_section a.w.now a.m.now a.h0.now a.s.now a.g1.now a.h1.now a.o.now a.ga.now a.gb.now
+      a.gc.now a.h2.now
+
+  abbrev lent : List ℕ
+  lent = (start j).args.out.now
+
+-- the row of the words
+abbrev words_row : Prime → After-shape_fault-shape → List (Option Refusal)
+words_row q j = word_refusal q (joined (parts j)) ∷ []
+
+shape_fine : (c : Else-not-is_fine) → is_fine c.shape_fault-shape.result ≡ true
+shape_fine c = sym c.is_fine.ensures ∙ not-false _ c.if-not-is_fine.false
+
+shape_free : (c : Else-not-is_fine) → let j = c.before.before in shape_refusal (given j) (map length (parts j)) (length (lent j)) ≡ none
+shape_free c = let j = c in fine_none j.shape_fault-shape.result j.shape_fault-shape.ensures (shape_fine c)
+
+shape : (c : Else-not-is_fine) → let j = c.before.before in Shaped (given j) (map length (parts j)) (length (lent j))
+shape c = let j = c.before.before in shaped (given j) (map length (parts j)) (length (lent j)) refl (shape_free c)
+
+pub returns-then-not-is_fine : goal.returns-then-not-is_fine
+returns-then-not-is_fine c q e =
+    let j = c.before.before in
+    let stop = sym c.is_fine.ensures ∙ not-true _ c.if-not-is_fine.true in
+    write_refused q (given j) (parts j) (length (lent j)) j.shape_fault-shape.result (lent j) stop
+    (stops j.shape_fault-shape.result j.shape_fault-shape.ensures (words_row q j) stop)
+
+pub sections_fault-word-requires : goal.sections_fault-word-requires
+sections_fault-word-requires c =
+    let j = c.before.before in
+    omega (arith, few_bytes (given j) (map length (parts j)) (length (lent j)) (shape c))
+
+pub returns-then-not-is_fine-2 : goal.returns-then-not-is_fine-2
+returns-then-not-is_fine-2 c q e =
+    let w = c.before.before.before in
+    let j = w.before.before in
+    let stop = sym c.is_fine-2.ensures ∙ not-true _ c.if-not-is_fine-2.true in
+    write_refused q (given j) (parts j) (length (lent j)) w.sections_fault-word.result (lent j) stop
+    (goes_on j.shape_fault-shape.result j.shape_fault-shape.ensures (words_row q j) (shape_fine w)
+    (last_answer_lem (w.sections_fault-word.ensures ∙ word_row q e (joined (parts j)))))
+
+pub fill_record-requires : goal.fill_record-requires
+fill_record-requires c =
+    let d = c.before.before.before.before in
+    let j = d.before.before in
+    record {
+      allowed = (shape d).allowed;
+      trailer_bytes_value = room-given (given j) (map length (parts j)) (length (lent j)) (shape d);
+    }
+
+pub returns : goal.returns
+returns c q e =
+    let filled = c in
+    let n = filled in
+    let w = n.before.before.before.before.before.before.before in
+    let j = w.before.before in
+    let words-fine = sym n.is_fine-2.ensures ∙ not-false _ n.if-not-is_fine-2.false in
+    write_done q (given j) (parts j) (length (lent j)) (lent j) filled.fill_record.new.out
+    (shape_free w) (fine_none w.sections_fault-word.result (w.sections_fault-word.ensures ∙ word_row q e (joined (parts j))) words-fine)
+    filled.fill_record.ensures

@@ -1,0 +1,81 @@
+-- `report::first_rounds::put_third` meets its contract. Assumes nothing.
+use mathlib.Core.Path.{sym, ap, ◌∙◌}
+use mathlib.Core.List.{List}
+use Prim.Native.Nat.{ℕ}
+use Rattle.protocol.specs.Messages.{MessageLengths}
+use Rattle.shared.specs.Meanings.{three, message_lengths}
+use Rattle.protocol.specs.Calls.{ProverInput}
+use Rattle.circuit.specs.Given.{prover_input}
+use Rattle.poly.proofs.LentParts.{part_order, lent_length, back_holds, back_length, back_is}
+use Rattle.report.specs.Stages.{third_lines, third_text}
+use Rattle.report.proofs.PrintedLaws.{printed_as}
+use Rattle.report.proofs.Bounds.{Roomy, roomy}
+use Rattle.report.proofs.RoundResults.{third-done}
+use Rattle.report.proofs.first_rounds.put_third.Goals as goal
+use Rattle.report.proofs.first_rounds.put_third.Goals.{After-lengths_of-due, After-third_round, Start}
+
+-- what is given, from the lengths due
+abbrev start : After-lengths_of-due → Start
+start c = c.before.before.before.before.before.before.before
+
+abbrev input : After-lengths_of-due → ProverInput
+input c =
+    let a = (start c).args in
+    prover_input a.r a.c a.x a.ea.now a.eb.now a.ec.now a.z.now a.mask a.m.now
+
+-- the messages find room in the arrays
+room : (c : After-lengths_of-due) → Roomy (message_lengths c.lengths_of-due.result)
+room c = roomy (input c) (start c).requires.free c.lengths_of-due.ensures
+
+-- the lengths due, from the round
+abbrev at-lengths : After-third_round → After-lengths_of-due
+at-lengths c = c.before.before.before
+
+pub slice_bounds-remainder-end : goal.slice_bounds-remainder-end
+slice_bounds-remainder-end c = (room c).line_remainder_most
+
+pub slice_bounds-quotient-end : goal.slice_bounds-quotient-end
+slice_bounds-quotient-end c = (room c.before).line_quotient_most
+
+pub slice_bounds-remainder-end-2 : goal.slice_bounds-remainder-end-2
+slice_bounds-remainder-end-2 c =
+    let f = c.before.before in
+    back_holds 1024 (room (at-lengths f)).line_remainder_most f.third_round.new.remainder
+    f.third_round.auto.remainder
+
+pub slice_bounds-quotient-end-2 : goal.slice_bounds-quotient-end-2
+slice_bounds-quotient-end-2 c =
+    let f = c.before.before.before in
+    back_holds 1024 (room (at-lengths f)).line_quotient_most f.third_round.new.quotient
+    f.third_round.auto.quotient
+
+pub put_third_lines-requires : goal.put_third_lines-requires
+put_third_lines-requires c =
+    let f = c.before.before.before.before.before in
+    let last = f.third_round.new.1.1.1.1.1.1.1.1.1.1.1 in
+    let kept = f.third_round.auto.1.1.1.1.1.1.1.1.1.1.1 in
+    let n = at-lengths f in
+    let g = (room n).line_remainder_most in
+    let h = (room n).line_quotient_most in record {
+      remainder_len_bound = (part_order (back_length 1024 g last.0 kept.0) g, part_order (back_length 1024 h last.1.0 kept.1.0) h);
+      most_line_in_bounds = (start n).pre.1;
+    }
+
+pub returns : goal.returns
+unfolding third_text
+returns c =
+    let f = c.before.before.before.before.before.before.before.before in
+    let n = at-lengths f in
+    let a = (start n).args in
+    let last = f.third_round.new.1.1.1.1.1.1.1.1.1.1.1 in
+    let kept = f.third_round.auto.1.1.1.1.1.1.1.1.1.1.1 in
+    let g = (room n).line_remainder_most in
+    let h = (room n).line_quotient_most in
+    let table = n.lengths-of.ensures in
+    let done =
+    third-done (input n) a.alpha (three a.eta) _ (start n).pre.0
+    (sym (lent_length 1024 g) ∙ ap (λ (l : MessageLengths). l.line_remainder) table)
+    (sym (lent_length 1024 h) ∙ ap (λ (l : MessageLengths). l.line_quotient) table) f.third_round.ensures in
+    let remainder = back_is 1024 g last.0 kept.0 ∙ ap (λ (p : List ℕ × List ℕ). p.0) done in
+    let quotient = back_is 1024 h last.1.0 kept.1.0 ∙ ap (λ (p : List ℕ × List ℕ). p.1) done in
+    printed_as (λ t. third_lines (remainder t) (quotient t)) c.put_third_lines.ensures

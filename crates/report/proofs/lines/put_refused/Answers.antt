@@ -1,0 +1,82 @@
+-- `report::lines::put_refused` meets its contract. Assumes nothing.
+use mathlib.Core.Path.{ap}
+use mathlib.Core.List.{[], ◌∷◌, ◌++◌}
+use Prim.Native.Nat.{◌≤◌}
+use native.Mathlib.Omega.{arith}
+use lib.ListN.{length, length-append}
+use Rattle.text.specs.Decimal.{decimal}
+use Rattle.text.proofs.WrittenLaws.{written_then, written_as, written-length}
+use Rattle.report.specs.ProofText.{newline, line, refused_text}
+use Rattle.report.specs.Printed.{number}
+use Rattle.report.proofs.PrintedLaws.{word-digits, place_digits}
+use borrow.Author.Rules.{rules}
+use Rattle.report.proofs.lines.put_refused.Goals as goal
+
+pub put_number-numbered-requires : goal.put_number-numbered-requires
+put_number-numbered-requires c =
+    let b = c.put_bytes-named.ensures in
+    let w = c.wide in
+    omega (arith, c.requires, b.next, written-length b, word-digits w.result w.ensures.1)
+
+pub put_number-placed-requires : goal.put_number-placed-requires
+put_number-placed-requires c =
+    let b = c.put_bytes-named.ensures in
+    let n = c.put_number-numbered.ensures in
+    let w = c.wide in
+    let s = c in
+    omega (
+      arith,
+      s.requires,
+      b.next,
+      n.next,
+      written-length b,
+      written-length n,
+      word-digits w.result w.ensures.1,
+      place_digits s.args.position (search rules),
+    )
+
+pub put_byte-requires : goal.put_byte-requires
+put_byte-requires c =
+    let b = c.put_bytes-named.ensures in
+    let n = c.put_number-numbered.ensures in
+    let m = c.put_number-placed.ensures in
+    let w = c.wide in
+    let s = c in
+    omega (
+      arith,
+      s.requires,
+      b.next,
+      n.next,
+      m.next,
+      written-length b,
+      written-length n,
+      written-length m,
+      word-digits w.result w.ensures.1,
+      place_digits s.args.position (search rules),
+    )
+
+pub returns : goal.returns
+unfolding refused_text line
+returns c =
+    let at-put-number2 = c in
+    let at-put-number = at-put-number2 in
+    let at_wide = at-put-number in
+    let at-put-bytes = at_wide in
+    let s = at-put-bytes in
+    let b = at-put-bytes.put_bytes-named.ensures in
+    let n = at-put-number.put_number-numbered.ensures in
+    let m = at-put-number2.put_number-placed.ensures in
+    let w = at_wide.wide in
+    let numbered = written_as (ap number w.ensures.0) n in
+    let whole = written_then b (written_then numbered (written_then m c.put_byte.ensures)) in
+    let first : length (decimal s.args.number) ≤ 10 = word-digits s.args.number (search rules) in
+    let second : length (decimal s.args.position) ≤ 20 = place_digits s.args.position (search rules) in
+    record {
+      written = whole;
+      short =
+          omega (
+            arith,
+            length-append (decimal s.args.number) (number s.args.position ++ (newline ∷ [])),
+            length-append (decimal s.args.position) (newline ∷ []),
+          );
+    }

@@ -1,0 +1,48 @@
+-- `report::lines::put_verdict` meets its contract. Assumes nothing.
+use mathlib.Core.Path.{sym, ap, ◌∙◌}
+use native.Mathlib.Omega.{arith}
+use Rattle.protocol.specs.Checks.{Fails}
+use Rattle.protocol.specs.Session.{Judged}
+use Rattle.shared.specs.Meanings.{check_of, verdict_meaning}
+use Rattle.report.specs.ProofText.{answer_text}
+use Rattle.report.proofs.PrintedLaws.{printed_as}
+use Rattle.report.proofs.lines.put_verdict.Goals as goal
+
+pub returns-in-Accept : goal.returns-in-Accept
+unfolding answer_text
+returns-in-Accept c =
+    printed_as (sym (ap (λ v. answer_text (Judged (verdict_meaning v))) c.enum_told-1.given.1))
+    (record { written = c.put_bytes.ensures; short = omega arith })
+
+pub returns-in-Row : goal.returns-in-Row
+unfolding answer_text
+returns-in-Row c =
+    let at-enum-told2 = c in
+    let at-verdict = at-enum-told2 in
+    printed_as
+    (sym
+    (ap (λ v. answer_text (Judged (verdict_meaning v))) at-verdict.verdict-1.given.1
+    ∙ ap (λ k. answer_text (Judged (Fails (check_of k)))) at-enum-told2.enum_told-in-Row-1.given.1))
+    (record { written = c.put_bytes-in-Row.ensures; short = omega arith })
+
+pub returns-in-Line : goal.returns-in-Line
+unfolding answer_text
+returns-in-Line c =
+    let at-enum-told3 = c in
+    let at-verdict = at-enum-told3 in
+    printed_as
+    (sym
+    (ap (λ v. answer_text (Judged (verdict_meaning v))) at-verdict.verdict-1.given.1
+    ∙ ap (λ k. answer_text (Judged (Fails (check_of k)))) at-enum-told3.enum_told-in-Line-1.given.1))
+    (record { written = c.put_bytes-in-Line.ensures; short = omega arith })
+
+pub returns-in-Matrix : goal.returns-in-Matrix
+unfolding answer_text
+returns-in-Matrix c =
+    let at-enum-told4 = c in
+    let at-verdict = at-enum-told4 in
+    printed_as
+    (sym
+    (ap (λ v. answer_text (Judged (verdict_meaning v))) at-verdict.verdict-1.given.1
+    ∙ ap (λ k. answer_text (Judged (Fails (check_of k)))) at-enum-told4.enum_told-in-Matrix-1.given.1))
+    (record { written = c.put_bytes-in-Matrix.ensures; short = omega arith })

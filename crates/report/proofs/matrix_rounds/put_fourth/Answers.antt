@@ -1,0 +1,101 @@
+-- `report::matrix_rounds::put_fourth` meets its contract. Assumes nothing.
+use mathlib.Core.Path.{sym, ap, ◌∙◌}
+use mathlib.Core.List.{List}
+use Prim.Native.Nat.{ℕ}
+use Rattle.protocol.specs.Three.{Three}
+use Rattle.protocol.specs.Messages.{MessageLengths}
+use Rattle.shared.specs.Meanings.{three, message_lengths}
+use Rattle.protocol.specs.Calls.{ProverInput}
+use Rattle.circuit.specs.Given.{prover_input}
+use Rattle.poly.proofs.LentParts.{part_order, lent_length, back_holds, back_length, back_is}
+use Rattle.varuna.specs.Inputs.{three_of}
+use Rattle.varuna.proofs.AnswerLaws.{three_same}
+use Rattle.report.specs.Stages.{due, fourth_lines, fourth_text}
+use Rattle.report.proofs.PrintedLaws.{printed_as}
+use Rattle.report.proofs.Bounds.{Roomy, roomy}
+use Rattle.report.proofs.RoundResults.{fourth-done}
+use Rattle.report.proofs.matrix_rounds.put_fourth.Goals as goal
+use Rattle.report.proofs.matrix_rounds.put_fourth.Goals.{After-fourth_round-answer, After-lengths_of, Start}
+
+-- what is given, from the lengths due
+abbrev start : After-lengths_of → Start
+start c = c.before.before.before.before.before.before.before
+
+abbrev input : After-lengths_of → ProverInput
+input c =
+    let a = (start c).args in
+    prover_input a.r a.c a.x a.ea.now a.eb.now a.ec.now a.z.now a.mask a.m.now
+
+-- the messages find room in the arrays
+room : (c : After-lengths_of) → Roomy (message_lengths c.lengths_of.result)
+room c = roomy (input c) (start c).requires.free c.lengths_of.ensures
+
+-- the lengths due, from the round
+abbrev at-lengths : After-fourth_round-answer → After-lengths_of
+at-lengths c = c.before.before.before.before.before
+
+pub slice_bounds-ga-end : goal.slice_bounds-ga-end
+slice_bounds-ga-end c = (room c.before).a_most
+
+pub slice_bounds-gb-end : goal.slice_bounds-gb-end
+slice_bounds-gb-end c = (room c.before.before).b_most
+
+pub slice_bounds-gc-end : goal.slice_bounds-gc-end
+slice_bounds-gc-end c = (room c.before.before.before).c_most
+
+pub slice_bounds-ga-end-2 : goal.slice_bounds-ga-end-2
+slice_bounds-ga-end-2 c =
+    let f = c.before.before.before.before in
+    back_holds 1024 (room (at-lengths f)).a_most f.fourth_round-answer.new.ga
+    f.fourth_round-answer.auto.ga
+
+pub slice_bounds-gb-end-2 : goal.slice_bounds-gb-end-2
+slice_bounds-gb-end-2 c =
+    let f = c.before.before.before.before.before in
+    back_holds 1024 (room (at-lengths f)).b_most f.fourth_round-answer.new.gb
+    f.fourth_round-answer.auto.gb
+
+pub slice_bounds-gc-end-2 : goal.slice_bounds-gc-end-2
+slice_bounds-gc-end-2 c =
+    let f = c.before.before.before.before.before.before in
+    back_holds 1024 (room (at-lengths f)).c_most f.fourth_round-answer.new.gc
+    f.fourth_round-answer.auto.gc
+
+pub put_fourth_lines-place-requires : goal.put_fourth_lines-place-requires
+put_fourth_lines-place-requires c =
+    let f = c.before.before.before.before.before.before.before.before in
+    let last = f.fourth_round-answer.new.1.1.1.1.1.1.1.1.1.1.1.1 in
+    let kept = f.fourth_round-answer.auto.1.1.1.1.1.1.1.1.1.1.1.1 in
+    let n = at-lengths f in
+    let R = room n in record {
+      ga_len_bound = (
+        part_order (back_length 1024 R.a_most last.0 kept.0) R.a_most,
+        part_order (back_length 1024 R.b_most last.1.0 kept.1.0) R.b_most,
+        part_order (back_length 1024 R.c_most last.1.1.0 kept.1.1.0) R.c_most,
+      );
+      most_fourth_in_bounds = (start n).pre.1;
+    }
+
+pub returns : goal.returns
+unfolding fourth_text
+returns c =
+    let z = c in
+    let f = z.before.before.before.before.before.before.before.before.before.before.before in
+    let n = at-lengths f in
+    let a = (start n).args in
+    let last = f.fourth_round-answer.new.1.1.1.1.1.1.1.1.1.1.1.1 in
+    let kept = f.fourth_round-answer.auto.1.1.1.1.1.1.1.1.1.1.1.1 in
+    let R = room n in
+    let table = ap (λ (l : MessageLengths). l.matrix_remainders) n.lengths-of.ensures in
+    let lent =
+    three_same (due (input n)).matrix_remainders (sym (lent_length 1024 R.a_most) ∙ ap (λ (l : Three ℕ). l.a) table)
+    (sym (lent_length 1024 R.b_most) ∙ ap (λ (l : Three ℕ). l.b) table) (sym (lent_length 1024 R.c_most) ∙ ap (λ (l : Three ℕ). l.c) table) in
+    let done = fourth-done (input n) a.alpha (three a.eta) a.beta _ (start n).pre.0 lent f.fourth_round-answer.ensures in
+    let values = z.words_or_zeros-values.ensures ∙ done.0 in
+    let ga = back_is 1024 R.a_most last.0 kept.0 ∙ ap (λ (g : Three (List ℕ)). g.a) done.1 in
+    let gb = back_is 1024 R.b_most last.1.0 kept.1.0 ∙ ap (λ (g : Three (List ℕ)). g.b) done.1 in
+    let gc = back_is 1024 R.c_most last.1.1.0 kept.1.1.0 ∙ ap (λ (g : Three (List ℕ)). g.c) done.1 in
+    record {
+      values_value = values;
+      printed = printed_as (λ t. fourth_lines (values t) (three_of (ga t) (gb t) (gc t))) c.put_fourth_lines-place.ensures;
+    }

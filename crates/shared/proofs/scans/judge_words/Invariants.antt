@@ -1,0 +1,11 @@
+-- What the loop of `shared::scans::judge_words` keeps. Assumes nothing.
+use Prim.Native.Nat.{◌-◌, ◌≤◌}
+use lib.ListN.{length}
+use Rattle.protocol.proofs.Rows.{Passed}
+use Rattle.shared.proofs.scans.judge_words.Given as goal
+
+abbrev pub invariant-loop-i : goal.invariant-loop-i
+invariant-loop-i l = (l.i ≤ length l.words) × Passed 6 l.position (tests l.p l.words) l.i
+
+abbrev pub decreases-loop-i : goal.decreases-loop-i
+decreases-loop-i l = length l.words - l.i

@@ -1,0 +1,18 @@
+-- `sheet_lines::circuits::circuit_or_refusal` meets its contract. Assumes nothing.
+use mathlib.Core.Path.{sym, ap, ◌∙◌}
+use Rattle.shared.specs.Meanings.{fault_refusal}
+use Rattle.sheet_lines.specs.Lines.{circuit_line}
+use Rattle.sheet_lines.specs.Meanings.{given}
+use Rattle.sheet_lines.proofs.circuits.circuit_or_refusal.Goals as goal
+
+pub returns-in-Fine : goal.returns-in-Fine
+returns-in-Fine c =
+    let c1 = c in
+    let g = given c1.args.request in
+    ap (circuit_line g) (sym (ap fault_refusal c.enum_told-1.given.1) ∙ c1.judge-fault.ensures)
+
+pub returns-in-Refused : goal.returns-in-Refused
+returns-in-Refused c =
+    let c1 = c in
+    let g = given c1.args.request in
+    ap (circuit_line g) (sym (ap fault_refusal c.fault-1.given.1) ∙ c1.judge-fault.ensures)

@@ -1,0 +1,29 @@
+-- `step_refusals::holdings::left_by_steps` meets its contract. Assumes nothing.
+use mathlib.Core.Path.{sym, ap, ap₂, ◌∙◌}
+use mathlib.Core.Bool.{◌&&◌}
+use native.Mathlib.Omega.{arith}
+use borrow.Author.Tests.{not-true, not-false}
+use Rattle.domain.proofs.SizeLaws.{size_bound}
+use Rattle.shared.specs.Meanings.{sizes, transcript}
+use Rattle.protocol.specs.Session.{transcript_fits, left_by_steps}
+use Rattle.protocol.proofs.AllowedSizes.{allowed}
+use Rattle.step_refusals.proofs.holdings.left_by_steps.Goals as goal
+
+pub public_fits-requires : goal.public_fits-requires
+public_fits-requires c =
+    let s = c in
+    omega (arith, size_bound s.args.s.x (allowed (sizes s.args.s) s.requires.s_value.0).X-size, s.requires.s_value.1)
+
+pub returns-then-not-public_fits : goal.returns-then-not-public_fits
+unfolding left_by_steps
+returns-then-not-public_fits c q Q e stage =
+    let d = c in
+    let a = d.args in
+    ap (λ b. b && transcript_fits q (sizes a.s) (transcript a.t)) (sym (not-true _ c.if-not-public_fits.true) ∙ d.public_fits.ensures q e)
+
+pub returns : goal.returns
+unfolding left_by_steps
+returns c q Q e stage =
+    let n = c in
+    let d = n in
+    ap₂ ◌&&◌ (sym (not-false _ n.if-not-public_fits.false) ∙ d.public_fits.ensures q e) (c.transcript_fits.ensures q Q e)

@@ -1,0 +1,103 @@
+-- `step_refusals::holdings::transcript_fits` meets its contract: its tests in the order of the definition. Assumes nothing.
+use mathlib.Core.Path.{◌≡◌, sym, ap, ap₂, ◌∙◌}
+use mathlib.Core.Bool.{Bool, true, not, ◌&&◌, and-true}
+use mathlib.Core.List.{map}
+use lib.Dec.{ltb}
+use borrow.Author.Rules.{rules}
+use borrow.Author.Tests.{not-true, not-false}
+use Rattle.field.specs.Prime.{Prime}
+use Rattle.field.specs.Element.{of}
+use Rattle.domain.specs.Domain.{inside}
+use Rattle.domain.specs.Size.{is_size}
+use Rattle.domain.specs.Qualifies.{Qualifies}
+use Rattle.protocol.specs.Circuit.{largest}
+use Rattle.protocol.specs.Checks.{list_transcript}
+use Rattle.shared.specs.Meanings.{sizes, transcript}
+use Rattle.protocol.specs.Session.{all, all_below, transcript_fits}
+use Rattle.protocol.proofs.AllowedSizes.{Allowed, allowed, largest_size}
+use Rattle.step_refusals.proofs.holdings.transcript_fits.Goals as goal
+use Rattle.step_refusals.proofs.holdings.transcript_fits.Goals.{After-all_below, Else-is_inside, Else-is_inside-2, Else-not-all_below, Start}
+
+sized : (s : Start) → Allowed (sizes s.args.s)
+sized s = allowed (sizes s.args.s) s.requires.s_value
+
+module _ (q : Prime) where
+  -- the tests of γ, of β and γ, of all three
+  module _ (s : Start) where
+    abbrev at-γ : Bool
+    at-γ = not (inside {q = q} (largest (sizes s.args.s).|K|) (of s.args.t.gamma)) && true
+
+    abbrev from_β : Bool
+    from_β = not (inside {q = q} s.args.s.c (of s.args.t.beta)) && at-γ
+
+    abbrev from_α : Bool
+    from_α = not (inside {q = q} s.args.s.r (of s.args.t.alpha)) && from_β
+
+  words-is : (c : After-all_below) → let s = c.before.before.before in q.p ≡ s.args.p
+      → c.all_below.result ≡ all_below q (list_transcript (transcript s.args.t))
+  words-is c e =
+      c.all_below.ensures ∙ ap₂ (λ p ws. all (map (λ w. ltb w p) ws)) (sym e) c.transcript_words-words.ensures
+
+  -- past the words, past α, past β
+  past_words : (c : Else-not-all_below) → let s = c.before.before.before.before in q.p ≡ s.args.p
+      → from_α s ≡ (all_below q (list_transcript (transcript s.args.t)) && from_α s)
+  past_words c e = ap (λ b. b && from_α c.before.before.before.before) (sym (not-false _ c.if-not-all_below.false) ∙ words-is c.before e)
+
+  past_α : (c : Else-is_inside) → let i = c.before in let s = i.before.before.before.before.before in Qualifies q → q.p ≡ s.args.p → from_β s ≡ from_α s
+  past_α c Q e =
+      let i = c.before in
+      ap (λ b. not b && from_β i.before.before.before.before.before) (sym c.if-is_inside.false ∙ i.is_inside.ensures q Q e)
+
+  past_β : (c : Else-is_inside-2) → let i = c.before in let s = i.before.before.before.before.before.before.before in Qualifies q → q.p ≡ s.args.p → at-γ s ≡ from_β s
+  past_β c Q e =
+      let i = c.before in
+      ap (λ b. not b && at-γ i.before.before.before.before.before.before.before) (sym c.if-is_inside-2.false ∙ i.is_inside-2.ensures q Q e)
+
+pub returns-then-not-all_below : goal.returns-then-not-all_below
+unfolding transcript_fits
+returns-then-not-all_below c q Q e =
+    let s = c.before.before.before.before in
+    ap (λ b. b && from_α q s) (sym (not-true _ c.if-not-all_below.true) ∙ words-is q c.before e)
+
+pub is_inside-requires : goal.is_inside-requires
+is_inside-requires c = record {
+  lt_p = search rules;
+  n_value = (sized c.before.before.before.before).R-size;
+}
+
+pub returns-then-is_inside : goal.returns-then-is_inside
+unfolding transcript_fits
+returns-then-is_inside c q Q e =
+    let i = c.before.before in
+    let s = i.before.before.before.before.before in
+    ap (λ b. not b && from_β q s) (sym c.if-is_inside.true ∙ i.is_inside.ensures q Q e) ∙ past_words q i e
+
+pub is_inside-requires-2 : goal.is_inside-requires-2
+is_inside-requires-2 c = record {
+  lt_p = search rules;
+  n_value = (sized c.before.before.before.before.before.before).C-size;
+}
+
+pub returns-then-is_inside-2 : goal.returns-then-is_inside-2
+unfolding transcript_fits
+returns-then-is_inside-2 c q Q e =
+    let i = c.before.before.before.before in
+    let s = i.before.before.before.before.before.before.before in
+    ap (λ b. not b && at-γ q s) (sym c.if-is_inside-2.true ∙ i.is_inside-2.ensures q Q e) ∙ past_α q i.before Q e ∙ past_words q i e
+
+pub is_inside-requires-3 : goal.is_inside-requires-3
+is_inside-requires-3 c =
+    let s = c.before.before.before.before.before.before.before.before.before.before in
+    record {
+      lt_p = search rules;
+      n_value = ap is_size c.largest.ensures ∙ largest_size (sizes s.args.s) (sized s);
+    }
+
+pub returns : goal.returns
+unfolding transcript_fits
+returns c q Q e =
+    let β = c.before.before.before in
+    let α = β.before.before.before.before in
+    let s = α in
+    ap not (c.is_inside-3.ensures q Q e ∙ ap (λ n. inside {q = q} n (of s.args.t.gamma)) c.largest.ensures)
+    ∙ sym (and-true _) ∙ past_β q β Q e ∙ past_α q α Q e ∙ past_words q α e

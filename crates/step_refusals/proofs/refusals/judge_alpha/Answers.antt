@@ -1,0 +1,22 @@
+-- `step_refusals::refusals::judge_alpha` meets its contract: the table of lengths, then the rows of a step with a challenge. Assumes nothing.
+use mathlib.Core.Path.{refl, ap, ◌∙◌}
+use mathlib.Core.List.{[], ◌∷◌}
+use borrow.Author.Rules.{rules}
+use Rattle.shared.specs.Meanings.{sizes}
+use Rattle.protocol.specs.Session.{alpha_refusal}
+use Rattle.step_refusals.specs.ChallengeStep.{challenge_step}
+use Rattle.step_refusals.proofs.refusals.judge_alpha.Goals as goal
+
+pub judge_challenge-requires : goal.judge_challenge-requires
+judge_challenge-requires c = (search rules, ((λ allowed. allowed.R-size), refl))
+
+pub returns : goal.returns
+unfolding alpha_refusal
+returns c q Q e =
+    let m = c in
+    let a = m.args in
+    c.judge_challenge.ensures q Q e
+    ∙ ap
+    (λ l. challenge_step q 1 a.stage (sizes a.s) 0 a.s.r a.alpha (a.witness ∷ a.mask ∷ a.quotient ∷ [])
+    (l.witness ∷ l.mask ∷ l.row_quotient ∷ []))
+    m.message_lengths-table.ensures

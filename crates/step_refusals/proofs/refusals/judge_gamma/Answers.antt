@@ -1,0 +1,27 @@
+-- `step_refusals::refusals::judge_gamma` meets its contract: the table of lengths and |K|, then the rows of a step with a challenge.
+-- Assumes nothing.
+use mathlib.Core.Path.{refl, ap₂, ap, ◌∙◌}
+use mathlib.Core.List.{[], ◌∷◌}
+use borrow.Author.Rules.{rules}
+use Rattle.domain.specs.Size.{is_size}
+use Rattle.shared.specs.Meanings.{sizes}
+use Rattle.protocol.specs.Session.{gamma_refusal}
+use Rattle.protocol.proofs.AllowedSizes.{largest_size}
+use Rattle.step_refusals.specs.ChallengeStep.{challenge_step}
+use Rattle.step_refusals.proofs.refusals.judge_gamma.Goals as goal
+
+pub judge_challenge-requires : goal.judge_challenge-requires
+judge_challenge-requires c =
+    let k = c in
+    let s = sizes k.args.s in
+    (search rules, ((λ allowed. ap is_size k.largest.ensures ∙ largest_size s allowed), refl))
+
+pub returns : goal.returns
+unfolding gamma_refusal
+returns c q Q e =
+    let k = c in
+    let m = k in
+    let a = m.args in
+    c.judge_challenge.ensures q Q e
+    ∙ ap₂ (λ n l. challenge_step q 5 a.stage (sizes a.s) 2 n a.gamma (a.quotient ∷ []) (l.joined_quotient ∷ []))
+    k.largest.ensures m.message_lengths.ensures

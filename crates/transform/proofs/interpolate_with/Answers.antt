@@ -1,0 +1,58 @@
+-- `transform::interpolate_with` meets its contract. Assumes nothing.
+use mathlib.Core.Path.{◌≡◌, sym, ap, ◌∙◌}
+use mathlib.Core.List.{List, map}
+use Prim.Native.Nat.{ℕ, ◌-◌, ◌≤◌}
+use native.Mathlib.Omega.{arith}
+use lib.ListN.{length}
+use Rattle.algebra.specs.Halving.{transform}
+use Rattle.field.specs.Element.{Elem, of, words}
+use Rattle.field.proofs.ElementLaws.{prime_ring}
+use Rattle.domain.specs.Size.{is_size}
+use Rattle.field.specs.Power.{reciprocal}
+use Rattle.domain.specs.Domain.{element}
+use Rattle.domain.specs.Polynomial.{◌·◌, interpolate}
+use Rattle.domain.proofs.SizeLaws.{size_is-power, size_positive, size_bound}
+use Rattle.transform.proofs.Directions.{to_coefficients-words}
+use Rattle.transform.proofs.Parts.{part-whole}
+use Rattle.transform.proofs.TableLaws.{prepared_by_value, below_by_value}
+use Rattle.transform.proofs.interpolate_with.Goals as goal
+use Rattle.transform.proofs.interpolate_with.Goals.{After-size_inverse-share, After-transform, Start}
+
+-- the way back from a place in the code to an earlier one
+abbrev start-from-size-inverse : After-size_inverse-share → Start
+start-from-size-inverse c = c.before.before.before.before.before
+
+abbrev start-from-transform : After-transform → Start
+start-from-transform c = c.before.before.before.before.before.before.before
+
+pub overflow_cast-values : goal.overflow_cast-values
+overflow_cast-values c =
+    let s = c in
+    omega (arith, size_bound (length s.args.values.now) s.requires.out_len.0.1)
+
+pub transform-requires : goal.transform-requires
+transform-requires c =
+    let s = start-from-size-inverse c.before in
+    let n : ℕ = length s.args.values.now in
+    let same : length s.args.out.now ≡ n = s.pre.1.0.0 in
+    let in-powers : n ≤ length s.args.powers.now = s.pre.1.1.0 in
+    let in-quotients : n ≤ length s.args.quotients.now = s.pre.1.1.1 in (
+      omega (arith, s.pre.0),
+      (ap is_size same ∙ s.pre.1.0.1, (omega (arith, size_positive n s.pre.1.0.1), (omega arith, omega arith))),
+    )
+
+pub returns : goal.returns
+returns c q Q e tables =
+    let s = start-from-transform c.before.before in
+    let a = s.args in
+    let vs : List (Elem q) = map of a.values.now in
+    let n : ℕ = length a.values.now in
+    let (k, within, size) = size_is-power n s.pre.1.0.1 in
+    let share = c.size_inverse-share in
+    c.transform.ensures q e (below_by_value e Q.small) (element n (n - 1)) k (s.pre.1.0.0 ∙ size)
+    (tables k size).levels (prepared_by_value a.powers.now a.quotients.now e (tables k size).prepared)
+    ∙ ap words (part-whole share.result a.values.now k (element n (n - 1)) size
+    ∙ ap (λ (m : ℕ). transform (prime_ring q) k (element m (m - 1)) (of share.result · vs)) size
+    ∙ to_coefficients-words Q k within a.values.now size share.result
+    (share.ensures q Q e ∙ ap (λ (m : ℕ). (reciprocal (of {q = q} m)).word) size)
+    ∙ ap (λ (m : ℕ). interpolate m vs) (sym size))

@@ -1,0 +1,96 @@
+-- `transform::product::divide_product_into` meets its contract. Assumes nothing.
+use mathlib.Core.Path.{◌≡◌, sym, ap, ◌∙◌}
+use mathlib.Core.List.{List}
+use Prim.Native.Nat.{ℕ, ◌≤◌}
+use native.Mathlib.Omega.{arith}
+use lib.ListN.{length, take}
+use Rattle.domain.specs.Size.{is_size}
+use Rattle.domain.specs.Domain.{root}
+use Rattle.domain.proofs.SizeLaws.{size_bound}
+use Rattle.poly.proofs.LentParts.{returned, lent_length, back_holds, back_length}
+use Rattle.transform.proofs.TableLaws.{coefficients_lent}
+use Rattle.transform.proofs.product.divide_product_into.Goals as goal
+use Rattle.transform.proofs.product.divide_product_into.Goals.{After-divide_with, After-fill_inverse_tables, After-root_of-root, Start}
+
+-- the way back from a place in the code to an earlier one
+abbrev start-from-root-of : After-root_of-root → Start
+start-from-root-of c = c.before.before.before.before.before.before
+
+abbrev start-from-fill-inverse-tables : After-fill_inverse_tables → Start
+start-from-fill-inverse-tables c = start-from-root-of c.before.before.before
+
+abbrev fill-inverse-tables-from-divide-with : After-divide_with → After-fill_inverse_tables
+fill-inverse-tables-from-divide-with c = c.before.before.before.before.before.before.before.before
+
+abbrev root-of-from-fill-inverse-tables : After-fill_inverse_tables → After-root_of-root
+root-of-from-fill-inverse-tables c = c.before.before.before
+
+abbrev root-of-from-divide-with : After-divide_with → After-root_of-root
+root-of-from-divide-with c = root-of-from-fill-inverse-tables c.before.before.before.before.before.before.before.before
+
+bound : (c : Start) → length c.args.left.now ≤ 1024
+bound c = size_bound (length c.args.left.now) c.requires.left_value.0
+
+-- the tables in their arrays
+module _ (c : After-fill_inverse_tables) where
+  abbrev start : Start
+  start = start-from-fill-inverse-tables c
+
+  abbrev n : ℕ
+  n = length start.args.left.now
+
+  abbrev powers : List ℕ
+  powers = c.fill_inverse_tables.new.powers
+
+  abbrev quotients : List ℕ
+  quotients = c.fill_inverse_tables.new.quotients
+
+  powers-length : n ≡ length (take n (returned 1024 n powers))
+  powers-length = back_length 1024 (bound start) powers c.fill_inverse_tables.auto.powers
+
+  quotients-length : n ≡ length (take n (returned 1024 n quotients))
+  quotients-length = back_length 1024 (bound start) quotients c.fill_inverse_tables.auto.quotients
+
+pub overflow_cast-n : goal.overflow_cast-n
+overflow_cast-n c = omega (arith, bound c.before.before.before.before.before)
+
+pub slice_bounds-powers-end : goal.slice_bounds-powers-end
+slice_bounds-powers-end c = bound (start-from-root-of c)
+
+pub slice_bounds-quotients-end : goal.slice_bounds-quotients-end
+slice_bounds-quotients-end c = bound (start-from-root-of c.before)
+
+pub fill_inverse_tables-requires : goal.fill_inverse_tables-requires
+fill_inverse_tables-requires c =
+    let s = start-from-root-of c.before.before in
+    let part = lent_length 1024 (bound s) in
+    record {
+      lt_p = s.pre.0.0;
+      quotients_len = (sym part ∙ part, ap is_size (sym part) ∙ s.pre.1.0);
+    }
+
+pub slice_bounds-powers-end-2 : goal.slice_bounds-powers-end-2
+slice_bounds-powers-end-2 c =
+    let t = c.before.before in
+    back_holds 1024 (bound (start t)) (powers t) t.fill_inverse_tables.auto.powers
+
+pub slice_bounds-quotients-end-2 : goal.slice_bounds-quotients-end-2
+slice_bounds-quotients-end-2 c =
+    let t = c.before.before.before in
+    back_holds 1024 (bound (start t)) (quotients t) t.fill_inverse_tables.auto.quotients
+
+pub divide_with-requires : goal.divide_with-requires
+divide_with-requires c =
+    let s = start-from-fill-inverse-tables c.before.before.before.before.before.before.before in
+    let t = c.before.before.before.before.before.before.before in
+    (s.pre.0, (s.pre.1.0, ((omega (arith, powers-length t), omega (arith, quotients-length t)), s.pre.1.1)))
+
+pub returns : goal.returns
+returns c q known =
+    let t = fill-inverse-tables-from-divide-with c.before.before.before.before.before.before in
+    let call = t.fill-inverse-tables in
+    let fits = bound (start t) in
+    let root-word = (root-of-from-divide-with c.before.before.before.before.before.before).root_of-root.ensures q known in
+    c.divide_with.ensures q known root-word
+    (coefficients_lent q 1024 fits (powers t) (quotients t) call.kept.1.1.0 call.kept.1.1.1.0
+    (call.ensures q known.value (root-word ∙ ap (λ (m : ℕ). (root {q = q} m).word) (lent_length 1024 fits))))

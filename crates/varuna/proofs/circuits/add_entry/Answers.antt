@@ -1,0 +1,11 @@
+-- `varuna::circuits::add_entry` meets its contract. Assumes nothing.
+use mathlib.Core.Path.{refl, sym}
+use Rattle.domain.specs.BabyBear.{baby_bear}
+use Rattle.varuna.proofs.AnswerLent.{lent-done, lent-refused}
+use Rattle.varuna.proofs.circuits.add_entry.Goals as goal
+
+pub returns-in-Fine : goal.returns-in-Fine
+returns-in-Fine c = lent-done _ (sym c.enum_told-1.given.1) (c.add_entry-fault.ensures baby_bear refl)
+
+pub returns-in-Refused : goal.returns-in-Refused
+returns-in-Refused c = lent-refused _ (sym c.fault-1.given.1) (c.add_entry-fault.ensures baby_bear refl)

@@ -1,0 +1,36 @@
+-- `varuna::circuits::index_circuit` meets its contract: it is the index of the lists in memory. Assumes nothing.
+use mathlib.Core.Path.{◌≡◌, ap, ◌∙◌}
+use mathlib.Core.List.{List}
+use Prim.Native.Nat.{ℕ}
+use lib.ListN.{length, get_or}
+use Rattle.domain.specs.BabyBear.{baby_bear}
+use Rattle.protocol.specs.Three.{Three, map_three}
+use Rattle.protocol.specs.Index.{Index, map_index}
+use Rattle.protocol.specs.Calls.{CircuitWords, index_call}
+use Rattle.protocol.specs.Grown.{entry_words_in, grown_lists, grown_index_call}
+use Rattle.circuit.specs.Given.{given}
+use Rattle.varuna.specs.Answers.{fills}
+use Rattle.varuna.specs.Inputs.{twelve}
+use Rattle.varuna.proofs.circuits.index_circuit.Goals as goal
+
+-- the circuit that is handed on is the one in memory
+handed_on : (w ea eb ec : List ℕ) → ea ≡ entry_words_in w 0 → eb ≡ entry_words_in w 1 → ec ≡ entry_words_in w 2
+    → given (get_or w 0 0) (get_or w 1 0) (get_or w 2 0) ea eb ec ≡ grown_lists w
+unfolding grown_lists
+handed_on w ea eb ec a b c = λ t. given (get_or w 0 0) (get_or w 1 0) (get_or w 2 0) (a t) (b t) (c t)
+
+pub returns : goal.returns
+unfolding grown_index_call
+returns c =
+    let i = c in
+    let third = i in
+    let second = third in
+    let first = second in
+    let a = first.args in
+    let w = a.circuit.now in
+    let before : Three (Index (List ℕ)) =
+    twelve a.rowA.now a.colA.now a.rowcolA.now a.rowcolvalA.now a.rowB.now a.colB.now a.rowcolB.now
+    a.rowcolvalB.now a.rowC.now a.colC.now a.rowcolC.now a.rowcolvalC.now in
+    i.index.ensures
+    ∙ ap (λ (k : CircuitWords). fills (index_call baby_bear k (map_three (map_index length) before)) before)
+    (handed_on w _ _ _ first.matrix_entries.ensures second.matrix_entries-2.ensures third.matrix_entries-3.ensures)

@@ -1,0 +1,37 @@
+-- `varuna::polynomials::judge_evaluation` meets its contract. Assumes nothing.
+use borrow.Author.Tests.{lt-leb, lt-ltb, le-ltb, not-true, not-false}
+use mathlib.Core.Path.{sym, ap, ◌∙◌}
+use mathlib.Core.Bool.{Bool}
+use mathlib.Core.List.{[], ◌∷◌}
+use lib.ListN.{length}
+use Rattle.domain.specs.BabyBear.{baby_bear}
+use Rattle.protocol.specs.Refusals.{refuse, list_refusal}
+use Rattle.varuna.proofs.CallPolynomials.{evaluation_stops, evaluation_goes}
+use Rattle.varuna.proofs.polynomials.judge_evaluation.Goals as goal
+
+pub returns-then-f-gt-MAX_WORDS : goal.returns-then-f-gt-MAX_WORDS
+unfolding list_refusal
+returns-then-f-gt-MAX_WORDS c = simp (lt-leb _ _ c.if-f-gt-MAX_WORDS.true)
+
+pub returns-then-not-is_fine : goal.returns-then-not-is_fine
+returns-then-not-is_fine c =
+    let s = c in
+    evaluation_stops baby_bear (length s.args.f.now) s.args.f.now (s.args.y ∷ []) c.if-f-gt-MAX_WORDS.false
+    c.judge_words-fault.result c.judge_words-fault.ensures
+    (sym c.is_fine.ensures ∙ not-true _ c.if-not-is_fine.true)
+
+pub returns-then-y-lt-MODULE_PRIME : goal.returns-then-y-lt-MODULE_PRIME
+returns-then-y-lt-MODULE_PRIME c =
+    let s = c in
+    evaluation_goes baby_bear (length s.args.f.now) s.args.f.now (s.args.y ∷ []) c.if-f-gt-MAX_WORDS.false
+    c.judge_words-fault.result c.judge_words-fault.ensures
+    (sym c.is_fine.ensures ∙ not-false _ c.if-not-is_fine.false)
+    (ap (λ (t : Bool). refuse 6 (length s.args.f.now) (t ∷ [])) (sym (lt-ltb _ _ c.if-y-lt-MODULE_PRIME.true)))
+
+pub returns-else-y-lt-MODULE_PRIME : goal.returns-else-y-lt-MODULE_PRIME
+returns-else-y-lt-MODULE_PRIME c =
+    let s = c in
+    evaluation_goes baby_bear (length s.args.f.now) s.args.f.now (s.args.y ∷ []) c.if-f-gt-MAX_WORDS.false
+    c.judge_words-fault.result c.judge_words-fault.ensures
+    (sym c.is_fine.ensures ∙ not-false _ c.if-not-is_fine.false)
+    (ap (λ (t : Bool). refuse 6 (length s.args.f.now) (t ∷ [])) (sym (le-ltb _ _ c.if-y-lt-MODULE_PRIME.false)))

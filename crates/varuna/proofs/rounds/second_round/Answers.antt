@@ -1,0 +1,79 @@
+-- `varuna::rounds::second_round` meets its contract. Assumes nothing.
+use mathlib.Core.Path.{◌≡◌, refl}
+use mathlib.Core.List.{List, [], ◌∷◌}
+use Prim.Native.Nat.{ℕ}
+use lib.Dec.{lit<}
+use Rattle.field.specs.Element.{Elem, of}
+use Rattle.domain.specs.BabyBear.{baby_bear}
+use Rattle.domain.proofs.Qualification.{baby_bear-qualifies}
+use Rattle.protocol.specs.Three.{map_three}
+use Rattle.protocol.specs.Circuit.{Circuit}
+use Rattle.protocol.specs.Messages.{sums}
+use Rattle.shared.specs.Meanings.{fault_refusal}
+use Rattle.protocol.specs.Calls.{ProverInput, circuit_of, round_refusal, second_round_call}
+use Rattle.circuit.specs.Given.{given, prover_input}
+use Rattle.prover.specs.CallGiven.{assignment_in}
+use Rattle.varuna.proofs.AnswerLaws.{matched, done}
+use Rattle.circuit.proofs.Fitting.{R-fits, shares}
+use Rattle.prover.proofs.CallLaws.{assignment_on-C}
+use Rattle.varuna.proofs.CallRounds.{InputFits, input_fits, known-prime}
+use Rattle.varuna.proofs.rounds.second_round.Goals as goal
+use Rattle.varuna.proofs.rounds.second_round.Goals.{After-judge_round-fault, In-Fine, Start}
+
+-- what the call is given, the lengths of its lent slices, the lengths that they must have, its challenge words and its points
+abbrev input : Start → ProverInput
+input s =
+    let a = s.args in
+    prover_input a.r a.c a.x a.ea.now a.eb.now a.ec.now a.z.now a.mask a.m.now
+
+abbrev lent : Start → List ℕ
+lent s = []
+
+abbrev due : Start → List ℕ
+due s = []
+
+abbrev challenges : Start → List ℕ
+challenges s = s.args.alpha ∷ []
+
+abbrev points : Start → List ℕ
+points s = s.args.alpha ∷ []
+
+-- the start, from the judgement
+abbrev start : After-judge_round-fault → Start
+start c = c.before.before.before.before.before.before.before.before.before
+
+judgement : (c : After-judge_round-fault)
+    → fault_refusal c.judge_round-fault.result
+    ≡ round_refusal baby_bear (input (start c)) (lent (start c)) (due (start c)) (challenges (start c)) (points (start c))
+judgement c = c.judge_round-fault.ensures baby_bear baby_bear-qualifies refl
+
+-- nothing was refused
+fits : (c : In-Fine)
+    → let s = start c.before.before in InputFits (input s) (lent s) (due s) (challenges s) (points s)
+fits c =
+    let j = c.before.before in
+    let s = start j in
+    input_fits (input s) (lent s) (due s) (challenges s) (points s) j.judge_round-fault.result (judgement j) c.enum_told-1.given.1
+
+pub sums_at-requires : goal.sums_at-requires
+sums_at-requires c =
+    let F = fits c in
+    (lit< tt, (R-fits F.fits, shares F.fits))
+
+pub returns-in-Fine : goal.returns-in-Fine
+unfolding second_round_call circuit_of
+returns-in-Fine c =
+    let d = c.before.before.before in
+    let s = start d in
+    let a = s.args in
+    let F = fits d in
+    let k : Circuit = circuit_of (given a.r a.c a.x a.ea.now a.eb.now a.ec.now) in
+    let assigned = assignment_in baby_bear (input s) in
+    done (map_three (λ (e : Elem baby_bear). e.word) (sums k assigned (of a.alpha)))
+    (matched d.enum_told-1.given.1 (judgement d))
+    (c.sums_at.ensures baby_bear known-prime baby_bear-qualifies k F.fits.well_formed refl refl assigned
+    (assignment_on-C F.fits refl baby_bear-qualifies a.mask))
+
+pub returns-in-Refused : goal.returns-in-Refused
+unfolding second_round_call
+returns-in-Refused c = rw (matched c.fault-1.given.1 (judgement c.before.before.before))

@@ -1,0 +1,10 @@
+-- `varuna_c::arithmetic::varuna_subtract` meets its contract. Assumes nothing.
+use mathlib.Core.Path.{ap, ◌∙◌}
+use Rattle.c_numbers.specs.Answers.{answered}
+use Rattle.varuna_c.proofs.arithmetic.varuna_subtract.Goals as goal
+
+pub returns : goal.returns
+returns c =
+    let at-subtract = c in
+    let start = at-subtract in
+    c.give_word.ensures ∙ ap (λ o. answered o start.args.res.now) at-subtract.subtract.ensures

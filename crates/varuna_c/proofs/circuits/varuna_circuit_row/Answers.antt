@@ -1,0 +1,10 @@
+-- `varuna_c::circuits::varuna_circuit_row` meets its contract. Assumes nothing.
+use mathlib.Core.Path.{ap, ◌∙◌}
+use Rattle.c_numbers.specs.Answers.{answered}
+use Rattle.varuna_c.proofs.circuits.varuna_circuit_row.Goals as goal
+
+pub returns : goal.returns
+returns c =
+    let found = c in
+    let a = found.args in
+    c.give_place.ensures ∙ ap (λ o. answered o (a.start.now, a.length.now)) found.find_row.ensures

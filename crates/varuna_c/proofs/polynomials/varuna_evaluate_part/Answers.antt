@@ -1,0 +1,11 @@
+-- `varuna_c::polynomials::varuna_evaluate_part` meets its contract. Assumes nothing.
+use mathlib.Core.Path.{ap, ◌∙◌}
+use Rattle.algebra.specs.Polynomial.{running}
+use Rattle.c_numbers.specs.Answers.{answered}
+use Rattle.varuna_c.proofs.polynomials.varuna_evaluate_part.Goals as goal
+
+pub returns : goal.returns
+returns c =
+    let at-evaluate = c in
+    let a = at-evaluate.args in
+    c.give_evaluated.ensures ∙ ap (λ o. answered o (running a.nextSum.now a.nextPower.now)) at-evaluate.evaluate_part.ensures

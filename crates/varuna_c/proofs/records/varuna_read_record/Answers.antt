@@ -1,0 +1,11 @@
+-- `varuna_c::records::varuna_read_record` meets its contract. Assumes nothing.
+use mathlib.Core.Path.{ap, ◌∙◌}
+use Rattle.c_numbers.specs.Answers.{answered, sizes_listed}
+use Rattle.varuna_c.proofs.records.varuna_read_record.Goals as goal
+
+pub returns : goal.returns
+returns c =
+    let at-read-record = c in
+    let start = at-read-record in
+    let a = start.args in
+    c.give_sizes.ensures ∙ ap (λ o. answered (sizes_listed o) a.sizes.now) at-read-record.read_record.ensures

@@ -1,0 +1,10 @@
+-- `varuna_c::records::varuna_section` meets its contract. Assumes nothing.
+use mathlib.Core.Path.{ap, ◌∙◌}
+use Rattle.c_numbers.specs.Answers.{answered}
+use Rattle.varuna_c.proofs.records.varuna_section.Goals as goal
+
+pub returns : goal.returns
+returns c =
+    let at-find-section = c in
+    let a = at-find-section.args in
+    c.give_place.ensures ∙ ap (λ o. answered o (a.start.now, a.length.now)) at-find-section.find_section.ensures

@@ -1,0 +1,10 @@
+-- `varuna_c::rounds::varuna_second_round` meets its contract. Assumes nothing.
+use mathlib.Core.Path.{ap, ◌∙◌}
+use Rattle.c_numbers.specs.Answers.{answered, three_listed}
+use Rattle.varuna_c.proofs.rounds.varuna_second_round.Goals as goal
+
+pub returns : goal.returns
+returns c =
+    let at-second-round = c in
+    let start = at-second-round in
+    c.give_three.ensures ∙ ap (λ o. answered (three_listed o) start.args.sums.now) at-second-round.second_round-answer.ensures

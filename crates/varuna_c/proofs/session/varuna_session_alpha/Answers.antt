@@ -1,0 +1,17 @@
+-- `varuna_c::session::varuna_session_alpha` meets its contract. Assumes nothing.
+use mathlib.Core.Path.{ap, ◌∙◌}
+use Rattle.domain.specs.BabyBear.{baby_bear}
+use Rattle.c_numbers.specs.Answers.{step_answered}
+use Rattle.protocol.specs.Session.{alpha_step}
+use Rattle.varuna_c.proofs.session.varuna_session_alpha.Goals as goal
+
+pub returns : goal.returns
+returns c =
+    let at-alpha = c in
+    let at-from-words = at-alpha in
+    let start = at-from-words in
+    let a = start.args in
+    c.give_step.ensures
+    ∙ ap (λ s. step_answered s a.session.now)
+    (at-alpha.alpha.ensures
+    ∙ ap (λ s. alpha_step baby_bear s a.witness a.mask a.row_quotient a.alpha) at-from-words.from_words-s.ensures)

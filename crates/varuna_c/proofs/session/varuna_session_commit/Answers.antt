@@ -1,0 +1,23 @@
+-- `varuna_c::session::varuna_session_commit` meets its contract. Assumes nothing.
+use mathlib.Core.Path.{ap, ap₂, ◌∙◌}
+use Rattle.domain.specs.BabyBear.{baby_bear}
+use Rattle.verifier.specs.Session.{three_at}
+use Rattle.c_numbers.specs.Answers.{commit_answered}
+use Rattle.c_numbers.specs.Inputs.{openings_in}
+use Rattle.shared.specs.Meanings.{openings}
+use Rattle.protocol.specs.Session.{commit_step}
+use Rattle.varuna_c.proofs.session.varuna_session_commit.Goals as goal
+
+pub returns : goal.returns
+unfolding openings_in three_at
+returns c =
+    let at-commit = c in
+    let at-indexes-in = at-commit in
+    let at-messages-in = at-indexes-in in
+    let at-from-words = at-messages-in in
+    let start = at-from-words in
+    let a = start.args in
+    let opened = ap₂ openings at-messages-in.messages_in.ensures at-indexes-in.indexes_in.ensures in
+    c.give_commit.ensures
+    ∙ ap (λ s. commit_answered s a.session.now)
+    (at-commit.commit.ensures ∙ ap₂ (commit_step baby_bear) at-from-words.from_words-s.ensures opened)

@@ -1,0 +1,26 @@
+-- `varuna_c::session::varuna_session_eta` meets its contract. Assumes nothing.
+use Rattle.shared.specs.Meanings.{three}
+use mathlib.Core.Path.{ap, ap₂, ◌∙◌}
+use Rattle.domain.specs.BabyBear.{baby_bear}
+use Rattle.protocol.specs.Three.{Three}
+use Prim.Native.Nat.{ℕ}
+use Rattle.protocol.specs.Session as steps
+use Rattle.verifier.specs.Session.{session_of}
+use Rattle.c_numbers.specs.Answers.{step_answered}
+use Rattle.protocol.specs.Session.{eta_step}
+use Rattle.varuna_c.proofs.session.varuna_session_eta.Goals as goal
+
+pub returns : goal.returns
+returns c =
+    let at-eta = c in
+    let at-triple2 = at-eta in
+    let at-triple = at-triple2 in
+    let at-from-words = at-triple in
+    let start = at-from-words in
+    let a = start.args in
+    let step : steps.Session → Three ℕ → Three ℕ → steps.Stepped = eta_step baby_bear in
+    c.give_step.ensures
+    ∙ ap (λ s. step_answered s a.session.now)
+    (at-eta.eta.ensures
+    ∙ ap (λ s. step s (three at-triple.triple.result) (three at-triple2.triple-2.result)) at-from-words.from_words-s.ensures
+    ∙ ap₂ (step (session_of a.session.now)) at-triple.triple.ensures at-triple2.triple-2.ensures)

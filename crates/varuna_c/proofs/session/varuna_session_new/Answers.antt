@@ -1,0 +1,9 @@
+-- `varuna_c::session::varuna_session_new` meets its contract. Assumes nothing.
+use mathlib.Core.Path.{ap, ◌∙◌}
+use Rattle.verifier.specs.Session.{session_words}
+use Rattle.varuna_c.proofs.session.varuna_session_new.Goals as goal
+
+pub returns : goal.returns
+returns c =
+    let at_new = c in
+    c.into_words.ensures ∙ ap session_words at_new.new-s.ensures

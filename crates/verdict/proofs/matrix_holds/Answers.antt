@@ -1,0 +1,65 @@
+-- `verdict::matrix_holds` meets its contract. Assumes nothing.
+use Prim.Native.Nat.{◌<◌}
+use Rattle.domain.specs.Domain.{vanishing}
+use Rattle.domain.specs.Size.{is_size}
+use Rattle.field.proofs.Words.{of-result}
+use Rattle.field.specs.Element.{Elem, of, ◌⊕◌, ◌⊗◌}
+use Rattle.protocol.specs.Checks.{map_transcript, map_openings, selector, matrix_left, joined_left, joined_right}
+use Rattle.protocol.specs.Circuit.{largest}
+use Rattle.shared.specs.Meanings.{three, sizes, transcript, openings}
+use Rattle.protocol.specs.Three.{MatrixName, A, B, C, at}
+use Rattle.protocol.proofs.AllowedSizes.{allowed}
+use lib.Dec.{eqb}
+use mathlib.Core.Bool.{true}
+use mathlib.Core.Path.{◌≡◌, refl, ap, ap₂, ◌∙◌}
+use native.Mathlib.Omega.{arith}
+use Rattle.verdict.proofs.matrix_holds.Goals as goal
+use Rattle.verdict.proofs.matrix_holds.Goals.{Start}
+
+-- what one matrix's term takes
+takes : (start : Start) (M : MatrixName) → let a = start.args in (1 < a.p) × (is_size (at (three a.s.k) M) ≡ true)
+takes start M = (start.requires.lt_p, (allowed (sizes start.args.s) start.requires.s_value.0).K-size M)
+
+pub matrix_term-a-requires : goal.matrix_term-a-requires
+matrix_term-a-requires c = takes c.before.before.before.before.before.before.before.before A
+
+pub matrix_term-b-requires : goal.matrix_term-b-requires
+matrix_term-b-requires c = takes c.before.before.before.before.before.before.before.before.before.before B
+
+pub matrix_term-c-requires : goal.matrix_term-c-requires
+matrix_term-c-requires c =
+    takes c.before.before.before.before.before.before.before.before.before.before.before.before C
+
+pub multiply-requires : goal.multiply-requires
+multiply-requires c =
+    let v = c in
+    omega (arith, v.requires.lt_p)
+
+pub returns : goal.returns
+unfolding joined_left joined_right
+returns c q Q e is-scale x =
+    let d = c in
+    let chosen = d in
+    let v = chosen.before in
+    let a = v.args in
+    let s = sizes a.s in
+    let t = map_transcript (of {q = q}) (transcript a.t) in
+    let o = map_openings (of {q = q}) (openings a.o a.t5) in
+    let whole = v.vanishing_value-whole.ensures q e ∙ ap (λ k. (vanishing k t.γ).word) v.largest.ensures in
+    let shares = chosen.selectors-share.ensures q Q e whole in
+    let left : MatrixName → Elem q = λ M. matrix_left s t M (at o.index M) (at o.matrix_remainders M) in
+    let term : MatrixName → Elem q = λ M. at t.δ M ⊗ selector s M t.γ ⊗ left M in
+    let first = of-result (term A)
+    (d.matrix_term-a.ensures q Q e is-scale A refl refl
+    ∙ ap (λ u. (t.δ.a ⊗ u ⊗ left A).word) (of-result (selector s A t.γ) (ap (λ w. w.a) shares))) in
+    let second = of-result (term B)
+    (d.matrix_term-b.ensures q Q e is-scale B refl refl
+    ∙ ap (λ u. (t.δ.b ⊗ u ⊗ left B).word) (of-result (selector s B t.γ) (ap (λ w. w.b) shares))) in
+    let third = of-result (term C)
+    (d.matrix_term-c.ensures q Q e is-scale C refl refl
+    ∙ ap (λ u. (t.δ.c ⊗ u ⊗ left C).word) (of-result (selector s C t.γ) (ap (λ w. w.c) shares))) in
+    let two = of-result (of {q = q} _ ⊕ of _) (c.add.ensures q e) ∙ ap₂ ◌⊕◌ first second in
+    let sum = c.add-left.ensures q e ∙ ap₂ (λ u v. (u ⊕ v).word) two third in
+    let vanish = of-result (vanishing (largest s.|K|) t.γ) whole in
+    let right = c.multiply.ensures q e ∙ ap (λ v. (o.joined_quotient ⊗ v).word) vanish in
+    ap₂ eqb sum right

@@ -1,0 +1,48 @@
+-- `verdict::public_value` meets its contract. Assumes nothing.
+use Rattle.algebra.specs.Lists.{tabulate}
+use Rattle.domain.specs.Domain.{element, lagrange}
+use Rattle.domain.specs.Size.{is_size}
+use Rattle.domain.proofs.LentWords.{part_length, filled_within, filled_part, filled_length}
+use Rattle.domain.proofs.SizeLaws.{size_bound}
+use Rattle.field.specs.Element.{of, words}
+use Prim.Native.Nat.{ℕ, ◌≤◌}
+use mathlib.Core.Path.{sym, ap, ◌∙◌}
+use native.Mathlib.Omega.{arith}
+use Rattle.verdict.proofs.public_value.Goals as goal
+use Rattle.verdict.proofs.public_value.Goals.{Start}
+
+bound : (c : Start) → c.args.n ≤ 1024
+bound c = size_bound c.args.n c.requires.n_value.0
+
+pub slice_bounds-weights-end : goal.slice_bounds-weights-end
+slice_bounds-weights-end c = bound c.before
+
+pub lagrange_values_into-requires : goal.lagrange_values_into-requires
+lagrange_values_into-requires c =
+    let start = c.before.before in
+    record {
+      lt_p = start.requires.modulus.0;
+      out_value = ap is_size (sym (part_length _ _ (bound start))) ∙ start.requires.n_value.0;
+    }
+
+pub slice_bounds-weights-end-2 : goal.slice_bounds-weights-end-2
+slice_bounds-weights-end-2 c =
+    let call = c.lagrange_values_into in
+    filled_within _ _ (bound c.before.before.before.before) call.new.out call.auto.out
+
+pub interpolated_at-requires : goal.interpolated_at-requires
+interpolated_at-requires c =
+    let call = c.lagrange_values_into in
+    let start = c.before.before.before.before.before in record {
+      p_nonzero = omega (arith, start.requires.modulus.0);
+      values_len = start.requires.n_value.1 ∙ filled_length _ _ (bound start) call.new.out call.auto.out;
+    }
+
+pub returns : goal.returns
+returns c q K Q =
+    let call = c.lagrange_values_into in
+    let start = c.before.before.before.before.before.before in
+    let a = start.args in
+    c.interpolated_at.ensures q Q K.value a.n start.requires.n_value.0 (of a.y)
+    (filled_part _ _ (bound start) call.new.out call.auto.out ∙ call.ensures q K
+    ∙ ap (λ (n : ℕ). words (tabulate n (λ i. lagrange n (element n i) (of {q = q} a.y)))) (sym (part_length _ _ (bound start))))

@@ -1,0 +1,97 @@
+-- `verdict::verdict` meets its contract. Where a check reads no x, or no openings of index polynomials, [] stands for them. Assumes
+-- nothing.
+use Rattle.algebra.proofs.Choice.{pick_true, pick-false}
+use Rattle.domain.specs.Domain.{vanishing}
+use Rattle.domain.specs.Known.{Known}
+use Rattle.domain.specs.Qualifies.{Qualifies}
+use Rattle.field.proofs.Words.{of-result}
+use Rattle.field.specs.Element.{of, ◌⊗◌}
+use Rattle.field.specs.Prime.{Prime}
+use Rattle.protocol.specs.Checks.{map_transcript, map_openings, Check, Row, Line, passes, verdict}
+use Rattle.shared.specs.Meanings.{sizes, transcript, openings}
+use Rattle.protocol.proofs.AllowedSizes.{allowed}
+use Rattle.verdict.specs.Scale.{scale_word}
+use borrow.Author.Tests.{not-true, not-false}
+use mathlib.Core.Bool.{Bool, true, false, not}
+use mathlib.Core.List.{[], map}
+use mathlib.Core.Path.{◌≡◌, sym, ap₂, ◌∙◌}
+use Rattle.verdict.proofs.verdict.Goals as goal
+use Rattle.verdict.proofs.verdict.Goals.{After-multiply-scale, Else-not-line_holds, Else-not-row_holds, Start}
+
+-- a test that was found to fail, or to pass
+fails : {found test : Bool} → found ≡ test → not found ≡ true → test ≡ false
+fails e n = sym e ∙ not-true _ n
+
+holds : {found test : Bool} → found ≡ test → not found ≡ false → test ≡ true
+holds e n = sym e ∙ not-false _ n
+
+pub returns-then-not-row_holds : goal.returns-then-not-row_holds
+unfolding verdict
+returns-then-not-row_holds c q K Q =
+    let v = c in
+    let s = sizes v.args.s in
+    let found = c.row_holds.ensures q K.value s [] [] (v.vanishing_value-rows.ensures q K.value) in
+    sym (pick-false _ _ (fails found c.if-not-row_holds.true))
+
+pub line_holds-requires : goal.line_holds-requires
+line_holds-requires c =
+    let start = c in
+    let W = allowed (sizes start.args.s) start.requires.s_value.0 in
+    ((start.requires.lt_p, start.requires.s_value.1.1.over), (W.X-size, (start.requires.s_value.1.0, W.C-size)))
+
+-- the test of a check
+abbrev test : (s : Start) (q : Prime) → Check → Bool
+test s q =
+    let a = s.args in
+    passes (sizes a.s) (map (of {q = q}) a.x.now) (map_transcript of (transcript a.t)) (map_openings of (openings a.o a.index))
+
+-- past the check Row
+row_passed : (c : Else-not-row_holds) (q : Prime) → Known q c.args.p
+    → test c.before.before.before.before q Row ≡ true
+row_passed c q K =
+    let v = c in
+    let s = sizes v.args.s in
+    holds (c.row_holds.ensures q K.value s [] [] (v.vanishing_value-rows.ensures q K.value)) c.if-not-row_holds.false
+
+pub returns-then-not-line_holds : goal.returns-then-not-line_holds
+unfolding verdict
+returns-then-not-line_holds c q K Q =
+    let v = c.before.before.before in
+    sym
+    (pick_true _ _ (row_passed v q K)
+    ∙ pick-false _ _ (fails (c.line_holds.ensures q K Q [] (v.vanishing_value-columns.ensures q K.value)) c.if-not-line_holds.true))
+
+-- past the check Line
+line_passed : (c : Else-not-line_holds) (q : Prime) → Known q c.args.p → Qualifies q
+    → test c.before.before.before.before.before.before.before q Line ≡ true
+line_passed c q K Q =
+    holds (c.line_holds.ensures q K Q [] (c.vanishing_value-columns.ensures q K.value)) c.if-not-line_holds.false
+
+-- v_R(α) v_C(β)
+scaled : (c : After-multiply-scale) (q : Prime) → let a = c.args in
+    q.p ≡ a.p → c.multiply-scale.result ≡ scale_word q (sizes a.s) a.t.alpha a.t.beta
+scaled c q e =
+    let v = c in
+    let u = v in
+    let a = u.args in
+    c.multiply-scale.ensures q e
+    ∙ ap₂ (λ x y. (x ⊗ y).word) (of-result (vanishing a.s.r (of {q = q} a.t.alpha)) (u.vanishing_value-rows.ensures q e))
+    (of-result (vanishing a.s.c (of {q = q} a.t.beta)) (v.vanishing_value-columns.ensures q e))
+
+pub returns-then-not-matrix_holds : goal.returns-then-not-matrix_holds
+unfolding verdict
+returns-then-not-matrix_holds c q K Q =
+    let m = c.before.before in
+    let line = m.before in
+    sym
+    (pick_true _ _ (row_passed line.before.before.before q K) ∙ pick_true _ _ (line_passed line q K Q)
+    ∙ pick-false _ _ (fails (c.matrix_holds.ensures q Q K.value (scaled m q K.value) []) c.if-not-matrix_holds.true))
+
+pub returns : goal.returns
+unfolding verdict
+returns c q K Q =
+    let m = c.before.before in
+    let line = m.before in
+    sym
+    (pick_true _ _ (row_passed line.before.before.before q K) ∙ pick_true _ _ (line_passed line q K Q)
+    ∙ pick_true _ _ (holds (c.matrix_holds.ensures q Q K.value (scaled m q K.value) []) c.if-not-matrix_holds.false))

@@ -1,0 +1,27 @@
+-- `verifier::session::Session::eta` meets its contract. Assumes nothing.
+use Rattle.domain.specs.BabyBear.{baby_bear}
+use Rattle.shared.specs.Meanings.{fault_refusal, three, sizes}
+use Rattle.protocol.specs.Session.{eta_refusal, eta_step}
+use Rattle.protocol.proofs.UnrefusedSteps.{eta_passes}
+use mathlib.Core.Path.{◌≡◌, refl, sym, ap, ◌∙◌}
+use native.Mathlib.Omega.{arith}
+use Rattle.verifier.proofs.session.Session.eta.Goals as goal
+use Rattle.verifier.proofs.session.Session.eta.Goals.{After-judge_eta}
+
+judged : (c : After-judge_eta) → let a = c.args in
+    eta_refusal baby_bear a.self.stage (sizes a.self.sizes) (three a.sums) (three a.eta) ≡ fault_refusal c.judge_eta.result
+judged c = sym (c.judge_eta.ensures baby_bear refl)
+
+pub taken-requires : goal.taken-requires
+taken-requires c =
+    let j = c.before.before.before in
+    let passed = judged j ∙ ap fault_refusal c.enum_told-1.given.1 in
+    omega (arith, ((eta_passes baby_bear _ _ _ _).0 passed).0.Stage-is)
+
+pub returns-in-Refused : goal.returns-in-Refused
+unfolding eta_step
+returns-in-Refused c = rw (judged c.before.before.before.before ∙ ap fault_refusal c.number-1.given.1) c.refused.ensures
+
+pub returns-in-Fine : goal.returns-in-Fine
+unfolding eta_step
+returns-in-Fine c = rw (judged c.before.before.before.before ∙ ap fault_refusal c.enum_told-1.given.1) c.taken.ensures

@@ -1,0 +1,31 @@
+-- `verifier::session::Session::into_words` meets its contract. Assumes nothing.
+use mathlib.Core.List.{◌++◌}
+use mathlib.Core.Path.{◌≡◌, sym, ap, ◌∙◌}
+use native.Mathlib.Omega.{arith}
+use lib.ListN.{length, length-map}
+use Rattle.domain.specs.Size.{max_size}
+use Rattle.verifier.proofs.SessionWords.{three-put}
+use Rattle.verifier.specs.Session.{session_meaning, session_words, opening_words}
+use Rattle.verifier.proofs.session.Session.into_words.Goals as goal
+use Rattle.verifier.proofs.session.Session.into_words.Goals.{Start}
+
+-- the words of x are 1,024, as owning the session tells
+whole : (c : Start) → length c.args.self.x ≡ max_size
+whole c = sym (length-map c.args.self.x (λ w. w)) ∙ c.well_formed.0.1.1.1.1.0.1.0.1
+
+pub put_words-requires-2 : goal.put_words-requires-2
+put_words-requires-2 c = omega (arith, whole c.before.before.before.before.before.before.before.before.before)
+
+pub returns : goal.returns
+unfolding session_words opening_words
+returns c =
+    let put-x = c in
+    let put-opening = put-x in
+    let transcript = put-opening in
+    let start = transcript.before.before.before.before.before.before.before.before.before.before.before.before.before in
+    let s = session_meaning start.args.self in
+    let size : length start.args.out.now ≡ 1046 = omega arith in
+    let x-size = whole start in
+    three-put (opening_words s) s.x transcript.transcript_words-last.result start.args.out.now (omega arith) 1031 (omega arith) put-opening.put_words.ensures
+    put-x.put_words-2.ensures c.put_words-3.ensures
+    ∙ ap (λ l. opening_words s ++ (s.x ++ l)) transcript.transcript_words-last.ensures
