@@ -21,6 +21,7 @@ TOKEN = re.compile(rf'[^{DELIMITERS}]+')
 # In Rust a colon, an operator or a bracket ends a name, too.
 IN_RUST = re.compile(r"(?<![\w-])\w[\w'-]*")
 QUOTED = re.compile(r"""(b?'(?:[^'\\]|\\.)'|"(?:[^"\\]|\\.)*")""", re.S)
+ON_A_LINE = re.compile(r'"[^"]*"')
 MARKS = r"(?:(?:pattern|unfoldable|abbrev|pub|axiom|record|data|ruleset) )*"
 DECLARED = re.compile(rf"^ *({MARKS})([^{DELIMITERS}:]+)(?: [^=]*?)? ?:(?: |$)")
 LIBRARY = re.compile(r"use (?:Rattle\.(?:std|core|io|libc|os)\b|Prim\b|borrow\b|mathlib\b|lib\b)[^\s{]*\.\{([^}]*)\}", re.S)
@@ -167,7 +168,8 @@ def turned(text, rows, rt, library):
             if line.lstrip().startswith(comment):
                 out.append(token.sub(lambda m: rows[m[0]] if m[0] in rows and "-" not in m[0] else m[0], line))
             else:
-                out.append(token.sub(lambda m: rows[m[0]] if m[0] in rows and m[0] not in library and not of_module(line, m) else m[0], line))
+                strings = [m.span() for m in ON_A_LINE.finditer(line)]
+                out.append(token.sub(lambda m: rows[m[0]] if m[0] in rows and m[0] not in library and not of_module(line, m) and not any(a < m.start() < b for a, b in strings) else m[0], line))
         return "\n".join(out)
 
     parts = QUOTED.split(text) if rt else [text]

@@ -67,35 +67,35 @@ module _ (q : Prime) where
   -- the degrees and the allowed points of the checks
   abbrev pub check_figures : List Figure
   check_figures =
-      figure "degree of Row" (λ g. 2 * g.|R| - 2) "row_means"
-      ∷ figure "allowed points of Row" (λ g. q.p - g.|R|) "allowed_points"
-      ∷ figure "degree of Line" (λ g. 2 * g.|C| - 1) "line_means"
-      ∷ figure "allowed points of Line" (λ g. q.p - g.|C|) "allowed_points"
-      ∷ figure "degree of Matrix for A" (λ g. 2 * (sizes_for g).|K|.a - 2) "matrix_means"
-      ∷ figure "degree of Matrix for B" (λ g. 2 * (sizes_for g).|K|.b - 2) "matrix_means"
-      ∷ figure "degree of Matrix for C" (λ g. 2 * (sizes_for g).|K|.c - 2) "matrix_means"
-      ∷ figure "degree of Matrix joined" (λ g. 2 * |K| g - 2) "values_caught"
-      ∷ figure "allowed points of Matrix" (λ g. q.p - |K| g) "allowed_points"
+      figure "degree of Row" (λ g. 2 * g.|R| - 2) "row-means"
+      ∷ figure "allowed points of Row" (λ g. q.p - g.|R|) "allowed-points"
+      ∷ figure "degree of Line" (λ g. 2 * g.|C| - 1) "line-means"
+      ∷ figure "allowed points of Line" (λ g. q.p - g.|C|) "allowed-points"
+      ∷ figure "degree of Matrix for A" (λ g. 2 * (sizes_for g).|K|.a - 2) "matrix-means"
+      ∷ figure "degree of Matrix for B" (λ g. 2 * (sizes_for g).|K|.b - 2) "matrix-means"
+      ∷ figure "degree of Matrix for C" (λ g. 2 * (sizes_for g).|K|.c - 2) "matrix-means"
+      ∷ figure "degree of Matrix joined" (λ g. 2 * |K| g - 2) "values-caught"
+      ∷ figure "allowed points of Matrix" (λ g. q.p - |K| g) "allowed-points"
       ∷ []
 
   -- how many triples of challenges save a false claim, of how many
   abbrev pub triple_figures : List Figure
   triple_figures =
-      figure "triples of eta" (λ g. q.p * q.p * q.p) "all_triples"
-      ∷ figure "triples of eta that save a false sum" (λ g. q.p * q.p) "sums_caught"
-      ∷ figure "triples of delta" (λ g. q.p * q.p * q.p) "all_triples"
-      ∷ figure "triples of delta that save a false matrix value, at most" (λ g. q.p * q.p) "values_caught"
+      figure "triples of eta" (λ g. q.p * q.p * q.p) "all-triples"
+      ∷ figure "triples of eta that save a false sum" (λ g. q.p * q.p) "sums-caught"
+      ∷ figure "triples of delta" (λ g. q.p * q.p * q.p) "all-triples"
+      ∷ figure "triples of delta that save a false matrix value, at most" (λ g. q.p * q.p) "values-caught"
       ∷ []
 
   -- how many tuples of challenges end in Accept though there is no witness, of how many
   abbrev pub tuple_figures : List Figure
   tuple_figures =
-      figure "allowed challenge tuples" (λ g. all_tuples q (sizes_for g)) "allowed_tuples"
-      ∷ figure "tuples that alpha saves, at most" (λ g. saved_byα q (sizes_for g)) "saved_by_alpha"
-      ∷ figure "tuples that eta saves, at most" (λ g. saved_byη q (sizes_for g)) "saved_by_eta"
-      ∷ figure "tuples that beta saves, at most" (λ g. saved_byβ q (sizes_for g)) "saved_by_beta"
-      ∷ figure "tuples that delta saves, at most" (λ g. saved_byδ q (sizes_for g)) "saved_by_delta"
-      ∷ figure "tuples that gamma saves, at most" (λ g. saved_byγ q (sizes_for g)) "saved_by_gamma"
+      figure "allowed challenge tuples" (λ g. all_tuples q (sizes_for g)) "allowed-tuples"
+      ∷ figure "tuples that alpha saves, at most" (λ g. saved_byα q (sizes_for g)) "saved-by-alpha"
+      ∷ figure "tuples that eta saves, at most" (λ g. saved_byη q (sizes_for g)) "saved-by-eta"
+      ∷ figure "tuples that beta saves, at most" (λ g. saved_byβ q (sizes_for g)) "saved-by-beta"
+      ∷ figure "tuples that delta saves, at most" (λ g. saved_byδ q (sizes_for g)) "saved-by-delta"
+      ∷ figure "tuples that gamma saves, at most" (λ g. saved_byγ q (sizes_for g)) "saved-by-gamma"
       ∷ figure "tuples accepted without a witness, at most" (λ g. five_counts q (sizes_for g)) "few-accepted"
       ∷ figure "tuples accepted without a witness, at most one in" (λ g. one_in_many q (sizes_for g)) "one-in"
       ∷ []
@@ -103,7 +103,7 @@ module _ (q : Prime) where
 -- how many masks the honest prover may take, and how many of them lead to the same three openings
 abbrev pub mask_figures : List Figure
 mask_figures =
-    figure "masks, as a power of p" (λ g. 2 * g.|C|) "all_masks"
+    figure "masks, as a power of p" (λ g. 2 * g.|C|) "all-masks"
     ∷ figure "masks for one list of openings, as a power of p" (λ g. 2 * g.|C| - 3) "any-three"
     ∷ []
 
@@ -111,8 +111,8 @@ module _ (q : Prime) where
   -- how many conversations, all to be accepted, until at most one list of challenge tuples in so many lets a false proof pass
   abbrev pub repeat_figures : List Figure
   repeat_figures =
-      figure "conversations for at most one false proof in 2^64" (λ g. fewest_repeats (one_in_many q (sizes_for g)) (2 ^ 64)) "one_list_in"
-      ∷ figure "conversations for at most one false proof in 2^128" (λ g. fewest_repeats (one_in_many q (sizes_for g)) (2 ^ 128)) "one_list_in"
+      figure "conversations for at most one false proof in 2^64" (λ g. fewest_repeats (one_in_many q (sizes_for g)) (2 ^ 64)) "one-list-in"
+      ∷ figure "conversations for at most one false proof in 2^128" (λ g. fewest_repeats (one_in_many q (sizes_for g)) (2 ^ 128)) "one-list-in"
       ∷ []
 
   -- the rows on whole conversations
