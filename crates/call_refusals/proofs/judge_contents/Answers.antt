@@ -110,7 +110,7 @@ module _ (q : Prime) (Q : Qualifies q) (k : Circuit) {x : Option Refusal} where
 pub check_call_words-in_words-requires : goal.check_call_words-in_words-requires
 check_call_words-in_words-requires c =
     let s = c in
-    let h = s.requires.shaped.0 in
+    let h = s.requires.shaped in
     let bound = size_bound s.args.c h.circuit.C-size in
     record {
       three_lists = h.circuit.lists;
@@ -180,13 +180,11 @@ check_assignment-in_rows-requires c =
     let o = c in
     let m = o.before.before.before.before.before.before in
     let s = from-mask m in
-    let h = s.pre.1.0 in (
-      omega arith,
-      (
-        size_bound s.args.r h.circuit.R-size,
-        subst⁻¹ (λ (n : ℕ). EachWithin s.args.r n s.args.ea.now s.args.eb.now s.args.ec.now) h.z-length (within m),
-      ),
-    )
+    let h = s.pre.1.0 in record {
+      p_nonzero = omega arith;
+      r_le_max_size = size_bound s.args.r h.circuit.R-size;
+      each_within = subst⁻¹ (λ (n : ℕ). EachWithin s.args.r n s.args.ea.now s.args.eb.now s.args.ec.now) h.z-length (within m);
+    }
 
 pub is_fine-requires-5 : goal.is_fine-requires-5
 is_fine-requires-5 c = tt
@@ -209,7 +207,11 @@ check_points-requires c =
     let size : is_size c.largest_size.result ≡ true =
     ap is_size (c.largest_size.ensures (circuit s) refl ∙ largest_by_counts (circuit s) s.args.ea.now s.args.eb.now s.args.ec.now refl)
     ∙ larger_is_size (length (entries_of s.args.ea.now)) (length (entries_of s.args.eb.now)) (length (entries_of s.args.ec.now)) in
-    (s.pre.0, ((h.circuit.R-size, (h.circuit.C-size, size)), s.pre.1.1))
+    record {
+      lt_p = s.pre.0;
+      r_value = (h.circuit.R-size, (h.circuit.C-size, size));
+      points_len_bound = s.pre.1.1;
+    }
 
 pub returns : goal.returns
 returns c q Q e k er ec matrices =

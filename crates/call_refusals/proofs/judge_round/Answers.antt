@@ -95,7 +95,11 @@ judge_contents-requires c =
     let fits =
     shape_fits a.r a.c a.x a.ea.now a.eb.now a.ec.now a.z.now a.m.now
     (fine_none j.judge_shape-shape.result {o = shape s} j.judge_shape-shape.ensures (shape_fine c.before.before.before)) in
-    (s.pre.0, (fits, s.pre.1.1))
+    record {
+      lt_p = s.pre.0;
+      shaped = fits;
+      points_len_bound = s.pre.1.1;
+    }
 
 pub returns : goal.returns
 unfolding circuit_of

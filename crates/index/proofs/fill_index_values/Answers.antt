@@ -115,7 +115,7 @@ made_words c q Q same k listed =
 pub loop-i-init : goal.loop-i-init
 loop-i-init c =
     let s = c in
-    (omega arith, s.requires.rows_nonzero.1, λ q Q e k listed. made_none _ _ _)
+    (omega arith, s.requires.index_lengths, λ q Q e k listed. made_none _ _ _)
 
 pub loop-i-smaller : goal.loop-i-smaller
 loop-i-smaller c = simp length-set (omega arith)

@@ -20,10 +20,10 @@ abbrev start : After-slice_known-12-1 → Start
 start c = c.before.before.before.before.before.before.before.before.before.before.before.before.before.before.before
 
 rows_fit : (s : Start) → s.args.r ≤ 1024
-rows_fit s = size_bound _ s.requires.circuit_shaped.0.R-size
+rows_fit s = size_bound _ s.requires.circuit_shaped.R-size
 
 columns_fit : (s : Start) → s.args.c ≤ 1024
-columns_fit s = size_bound _ s.requires.circuit_shaped.0.C-size
+columns_fit s = size_bound _ s.requires.circuit_shaped.C-size
 
 -- the two lists
 abbrev at_rows : After-fill_powers-2 → After-fill_powers
@@ -52,17 +52,17 @@ module _ (c : After-fill_powers-2) where
   columns-length = back_length 1024 (columns_fit (begun c)) c.fill_powers-2.new.out c.fill_powers-2.auto.out
 
   some-rows : 0 < length rows
-  some-rows = subst (λ (k : ℕ). 0 < k) rows-length (size_positive _ (begun c).requires.circuit_shaped.0.R-size)
+  some-rows = subst (λ (k : ℕ). 0 < k) rows-length (size_positive _ (begun c).requires.circuit_shaped.R-size)
 
   some-columns : 0 < length columns
-  some-columns = subst (λ (k : ℕ). 0 < k) columns-length (size_positive _ (begun c).requires.circuit_shaped.0.C-size)
+  some-columns = subst (λ (k : ℕ). 0 < k) columns-length (size_positive _ (begun c).requires.circuit_shaped.C-size)
 
   both_listed : (q : Prime) → Known q (begun c).args.p → (k : Circuit) → k.|R| ≡ m → k.|C| ≡ n → Listed q k rows columns
   both_listed q known k er ec =
       let e = at_rows c in
       record {
-        R-size = ap is_size er ∙ (begun c).requires.circuit_shaped.0.R-size;
-        C-size = ap is_size ec ∙ (begun c).requires.circuit_shaped.0.C-size;
+        R-size = ap is_size er ∙ (begun c).requires.circuit_shaped.R-size;
+        C-size = ap is_size ec ∙ (begun c).requires.circuit_shaped.C-size;
         R-words =
             listed q e.fill-powers.last.1.1.0 er (rows_fit (begun c)) e.fill-powers.kept.1.1.0
             (e.before.before.root-of.ensures q known) (e.fill-powers.ensures q known.value);
@@ -88,7 +88,7 @@ abbrev at_c : After-slice_known-24-1 → After-index_matrix_into-3
 at_c c = c.before.before.before.before.before.before.before.before
 
 pub root_of-requires : goal.root_of-requires
-root_of-requires c = (start c).requires.circuit_shaped.0.R-size
+root_of-requires c = (start c).requires.circuit_shaped.R-size
 
 pub slice_bounds-rows-end : goal.slice_bounds-rows-end
 slice_bounds-rows-end c = rows_fit (start c.before)
@@ -97,7 +97,7 @@ pub fill_powers-requires : goal.fill_powers-requires
 fill_powers-requires c = (start c.before.before).requires.lt_p
 
 pub root_of-requires-2 : goal.root_of-requires-2
-root_of-requires-2 c = (start c.before.before.before.before).requires.circuit_shaped.0.C-size
+root_of-requires-2 c = (start c.before.before.before.before).requires.circuit_shaped.C-size
 
 pub slice_bounds-columns-end : goal.slice_bounds-columns-end
 slice_bounds-columns-end c = columns_fit (start c.before.before.before.before.before)
@@ -119,19 +119,31 @@ pub index_matrix_into-requires : goal.index_matrix_into-requires
 index_matrix_into-requires c =
     let f = from-lists c.before.before.before.before in
     let h = (begun f).pre in
-    (h.0, ((some-rows f, (some-columns f, h.1.0.lists.list-a)), h.1.1.0))
+    record {
+      lt_p = h.0;
+      rows_nonzero = (some-rows f, (some-columns f, h.1.0.lists.list-a));
+      index_lengths = h.1.1.0;
+    }
 
 pub index_matrix_into-requires-2 : goal.index_matrix_into-requires-2
 index_matrix_into-requires-2 c =
     let f = from_a c.before.before.before.before.before.before.before.before.before.before.before.before in
     let h = (begun f).pre in
-    (h.0, ((some-rows f, (some-columns f, h.1.0.lists.list-b)), h.1.1.1.0))
+    record {
+      lt_p = h.0;
+      rows_nonzero = (some-rows f, (some-columns f, h.1.0.lists.list-b));
+      index_lengths = h.1.1.1.0;
+    }
 
 pub index_matrix_into-requires-3 : goal.index_matrix_into-requires-3
 index_matrix_into-requires-3 c =
     let f = from_a (at_a c.before.before.before.before.before.before.before.before.before.before.before.before) in
     let h = (begun f).pre in
-    (h.0, ((some-rows f, (some-columns f, h.1.0.lists.list-c)), h.1.1.1.1))
+    record {
+      lt_p = h.0;
+      rows_nonzero = (some-rows f, (some-columns f, h.1.0.lists.list-c));
+      index_lengths = h.1.1.1.1;
+    }
 
 pub shape_of-rowA : goal.shape_of-rowA
 shape_of-rowA c = (at_a (at_b (at_c c))).index_matrix_into.auto.row

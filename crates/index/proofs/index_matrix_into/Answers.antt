@@ -86,18 +86,16 @@ module _ (c : After-fill_inverse_tables) where
 pub fill_index_values-requires : goal.fill_index_values-requires
 fill_index_values-requires c =
     let h = c.requires in
-    let lengths = h.1.1 in (
-      omega (arith, h.0),
-      (
-        (h.1.0.0, h.1.0.1.0),
-        record {
-          row-length = refl;
-          col-length = lengths.col-length ∙ sym lengths.row-length;
-          rowcol-length = lengths.rowcol-length ∙ sym lengths.row-length;
-          rowcolval-length = lengths.rowcolval-length ∙ sym lengths.row-length;
-        },
-      ),
-    )
+    let lengths = h.1.1 in record {
+      p_nonzero = omega (arith, h.0);
+      rows_nonzero = (h.1.0.0, h.1.0.1.0);
+      index_lengths = record {
+        row-length = refl;
+        col-length = lengths.col-length ∙ sym lengths.row-length;
+        rowcol-length = lengths.rowcol-length ∙ sym lengths.row-length;
+        rowcolval-length = lengths.rowcolval-length ∙ sym lengths.row-length;
+      };
+    }
 
 pub overflow_cast-n : goal.overflow_cast-n
 overflow_cast-n c = omega (arith, fits c.before.before.before.before.before.before.before.before)
@@ -134,21 +132,17 @@ pub interpolate_four-requires : goal.interpolate_four-requires
 interpolate_four-requires c =
     let t = c.before.before.before.before.before.before.before.before in
     let v = at-values t in
-    let lengths = long v in (
-      (start v).pre.0,
-      (
-        size_is _ lengths.row-length,
-        (
-          (omega (arith, powers-length t), omega (arith, quotients-length t)),
-          record {
-            row-length = refl;
-            col-length = lengths.col-length ∙ sym lengths.row-length;
-            rowcol-length = lengths.rowcol-length ∙ sym lengths.row-length;
-            rowcolval-length = lengths.rowcolval-length ∙ sym lengths.row-length;
-          },
-        ),
-      ),
-    )
+    let lengths = long v in record {
+      lt_p = (start v).pre.0;
+      row_value = size_is _ lengths.row-length;
+      row_in_bounds = (omega (arith, powers-length t), omega (arith, quotients-length t));
+      index_lengths = record {
+        row-length = refl;
+        col-length = lengths.col-length ∙ sym lengths.row-length;
+        rowcol-length = lengths.rowcol-length ∙ sym lengths.row-length;
+        rowcolval-length = lengths.rowcolval-length ∙ sym lengths.row-length;
+      };
+    }
 
 pub returns : goal.returns
 returns c q known k M listed matrix =

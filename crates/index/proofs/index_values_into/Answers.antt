@@ -20,10 +20,10 @@ at_rows c = c.before.before.before.before
 
 -- |R| and |C| words fit into an array
 rows_fit : (s : Start) → s.args.r ≤ 1024
-rows_fit s = size_bound _ s.requires.r_value.0.0
+rows_fit s = size_bound _ s.requires.r_value.0
 
 columns_fit : (s : Start) → s.args.c ≤ 1024
-columns_fit s = size_bound _ s.requires.r_value.0.1
+columns_fit s = size_bound _ s.requires.r_value.1
 
 -- the lists as they are lent the second time
 rows-length : (c : After-fill_powers) → let n : ℕ = (start c).args.r in
@@ -53,16 +53,14 @@ slice_bounds-columns-end-2 c =
 pub fill_index_values-requires : goal.fill_index_values-requires
 fill_index_values-requires c =
     let f = c.before.before.before.before.before.before.before in
-    let h = (start (at_rows f)).requires in (
-      omega (arith, h.0),
-      (
-        (
-          subst (λ (n : ℕ). 0 < n) (rows-length (at_rows f)) (size_positive _ h.1.0.0),
-          subst (λ (n : ℕ). 0 < n) (columns-length f) (size_positive _ h.1.0.1),
-        ),
-        h.1.1,
-      ),
-    )
+    let h = (start (at_rows f)).requires in record {
+      p_nonzero = omega (arith, h.0);
+      rows_nonzero = (
+        subst (λ (n : ℕ). 0 < n) (rows-length (at_rows f)) (size_positive _ h.1.0.0),
+        subst (λ (n : ℕ). 0 < n) (columns-length f) (size_positive _ h.1.0.1),
+      );
+      index_lengths = h.1.1;
+    }
 
 pub returns : goal.returns
 returns c q known k er ec =

@@ -37,7 +37,7 @@ interpolate-in-place3-from-interpolate-in-place4 c = c.before.before.before.befo
 -- what is asked for a list as long as the first
 ready : (s : Start) {m : ℕ} → m ≡ length s.args.row.now
     → (1 < s.args.p) × ((is_size m ≡ true) × ((m ≤ length s.args.powers.now) × (m ≤ length s.args.quotients.now)))
-ready s e = (s.requires.lt_p, (ap is_size e ∙ s.requires.row_value.0, (part_order (sym e) s.requires.row_value.1.0.0, part_order (sym e) s.requires.row_value.1.0.1)))
+ready s e = (s.requires.lt_p, (ap is_size e ∙ s.requires.row_value, (part_order (sym e) s.requires.row_in_bounds.0, part_order (sym e) s.requires.row_in_bounds.1)))
 
 pub interpolate_in_place-requires-2 : goal.interpolate_in_place-requires-2
 interpolate_in_place-requires-2 c =

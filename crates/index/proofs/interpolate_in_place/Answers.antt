@@ -33,24 +33,22 @@ copied c =
     ap (take (length l)) c.copy_front.ensures ∙ take_at l (drop (length l) (array 1024)) (length l) refl
 
 pub copy_front-requires : goal.copy_front-requires
-copy_front-requires c = size_bound _ c.requires.out_value.0
+copy_front-requires c = size_bound _ c.requires.out_value
 
 pub slice_bounds-values-end : goal.slice_bounds-values-end
 slice_bounds-values-end c =
     let f = c.before in
-    omega (arith, size_bound _ (start f).requires.out_value.0, f.copy_front.auto.out)
+    omega (arith, size_bound _ (start f).requires.out_value, f.copy_front.auto.out)
 
 pub interpolate_with-requires : goal.interpolate_with-requires
 interpolate_with-requires c =
     let f = c.before.before.before in
     let s = start f in
-    let long = ap length (sym (copied f)) in (
-      s.pre.0,
-      (
-        (long, ap is_size (sym long) ∙ s.pre.1.0),
-        (part_order long s.pre.1.1.0, part_order long s.pre.1.1.1),
-      ),
-    )
+    let long = ap length (sym (copied f)) in record {
+      lt_p = s.pre.0;
+      out_len = (long, ap is_size (sym long) ∙ s.pre.1.0);
+      values_in_bounds = (part_order long s.pre.1.1.0, part_order long s.pre.1.1.1);
+    }
 
 pub returns : goal.returns
 returns c q known tables =

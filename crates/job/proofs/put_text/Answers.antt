@@ -32,7 +32,11 @@ put_words_text-requires c =
     let at-words-into = c in
     let start = at-words-into in
     let call = at-words-into.words_into in
-    (sym (filled_length _ _ (few_words (length start.args.bytes.now) (search rules)) call.new.words call.auto.words), (search rules, search rules))
+    record {
+      words_len = sym (filled_length _ _ (few_words (length start.args.bytes.now) (search rules)) call.new.words call.auto.words);
+      head_bytes_le_count = search rules;
+      most_proof_in_bounds = search rules;
+    }
 
 pub returns : goal.returns
 returns c =

@@ -47,7 +47,11 @@ put_whole-requires c =
     let s = at-judge-head in
     let same : s.args.count ≡ 4 * job_length s.args.words.now =
     omega (arith, at-job-length.job_length-due.ensures, c.if-count-due.false, c.if-due-count.false) in
-    (matched at-enum-told.enum_told-1.given.1 at-judge-head.judge_head-head.ensures, (omega (arith, s.requires.words_len, same), search rules))
+    record {
+      ws_value = matched at-enum-told.enum_told-1.given.1 at-judge-head.judge_head-head.ensures;
+      ws_len = omega (arith, s.requires.words_len, same);
+      most_proof_in_bounds = search rules;
+    }
 
 pub returns-in-Refused : goal.returns-in-Refused
 returns-in-Refused c =

@@ -33,10 +33,10 @@ abbrev at-columns : After-weights_from → After-lagrange_values_into-2
 at-columns c = c.before.before.before.before
 
 rows_fit : (s : Start) → s.args.r ≤ 1024
-rows_fit s = size_bound s.args.r (R-fits s.requires.fits.0)
+rows_fit s = size_bound s.args.r (R-fits s.requires.fits)
 
 columns_fit : (s : Start) → s.args.c ≤ 1024
-columns_fit s = size_bound s.args.c (C-fits s.requires.fits.0)
+columns_fit s = size_bound s.args.c (C-fits s.requires.fits)
 
 -- the three lists as they were made
 rows_made : (c : After-lagrange_values_into) → MadeIn 1024 (start c).args.r c.lagrange_values_into.new.out
@@ -58,7 +58,7 @@ lagrange_values_into-requires c =
     let s = c.before.before.before.before.before.before in
     record {
       lt_p = s.requires.lt_p;
-      out_value = ap is_size (sym (lent_length 1024 (rows_fit s))) ∙ R-fits s.requires.fits.0;
+      out_value = ap is_size (sym (lent_length 1024 (rows_fit s))) ∙ R-fits s.requires.fits;
     }
 
 pub slice_bounds-columns-end : goal.slice_bounds-columns-end
@@ -102,7 +102,12 @@ opened_from-requires c =
     let l = at-columns w in
     let h = (start (at_rows l)).requires in
     let long = made_length (rows_made (at_rows l)) in
-    (h.0, (h.1.0, (h.1.1, (sym long, sym (made_length (columns_made l)), sym (made_length (weights_made w))))))
+    record {
+      lt_p = h.0;
+      fits = h.1.0;
+      points_outside = h.1.1;
+      rows_len = (sym long, sym (made_length (columns_made l)), sym (made_length (weights_made w)));
+    }
 
 pub returns : goal.returns
 unfolding circuit_of

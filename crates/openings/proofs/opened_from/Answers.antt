@@ -46,17 +46,17 @@ challenges : (s : Start) {q : Prime} → Known q s.args.p → Challenged q s.arg
 unfolding circuit_of
 challenges s K =
     record {
-      well_formed = s.requires.fits.0.well_formed;
-      α-outside = outside_here K s.requires.fits.1.0.α-outside;
-      β-outside = outside_here K s.requires.fits.1.0.β-outside;
+      well_formed = s.requires.fits.well_formed;
+      α-outside = outside_here K s.requires.points_outside.α-outside;
+      β-outside = outside_here K s.requires.points_outside.β-outside;
     }
 
 -- one matrix's entries, where rows and columns have lists of their numbers
 entries_fit : (s : Start) {l : List ℕ} → EntryWords l → All (Within s.args.r s.args.c) (entries_of l)
     → EntriesWithin (length s.args.rows.now) (length s.args.columns.now) l
 entries_fit s whole within =
-    let F = s.requires.fits.0 in
-    let long = s.requires.fits.1.1 in
+    let F = s.requires.fits in
+    let long = s.requires.rows_len in
     entries-within (R-fits F) (C-fits F) whole within (sym long.0) (sym long.1)
 
 -- v_R(α) v_C(β)
@@ -73,49 +73,76 @@ matrix_at-of_a-requires c =
     let s = start c in
     let h = s.pre in
     let F = h.1.0 in
-    (h.0, ((R-fits F, C-fits F), (entries_fit s F.lists.list-a F.within.in_a, outside-matrix h.1.1.0 A)))
+    record {
+      lt_p = h.0;
+      r_value = (R-fits F, C-fits F);
+      entries_within = entries_fit s F.lists.list-a F.within.in_a;
+      outside_domain = outside-matrix h.1.1.0 A;
+    }
 
 pub matrix_at-of_b-requires : goal.matrix_at-of_b-requires
 matrix_at-of_b-requires c =
     let s = start c.before in
     let h = s.pre in
     let F = h.1.0 in
-    (h.0, ((R-fits F, C-fits F), (entries_fit s F.lists.list-b F.within.in_b, outside-matrix h.1.1.0 B)))
+    record {
+      lt_p = h.0;
+      r_value = (R-fits F, C-fits F);
+      entries_within = entries_fit s F.lists.list-b F.within.in_b;
+      outside_domain = outside-matrix h.1.1.0 B;
+    }
 
 pub matrix_at-of_c-requires : goal.matrix_at-of_c-requires
 matrix_at-of_c-requires c =
     let s = start c.before.before in
     let h = s.pre in
     let F = h.1.0 in
-    (h.0, ((R-fits F, C-fits F), (entries_fit s F.lists.list-c F.within.in_c, outside-matrix h.1.1.0 C)))
+    record {
+      lt_p = h.0;
+      r_value = (R-fits F, C-fits F);
+      entries_within = entries_fit s F.lists.list-c F.within.in_c;
+      outside_domain = outside-matrix h.1.1.0 C;
+    }
 
 pub assignment_at-assignment-requires : goal.assignment_at-assignment-requires
 assignment_at-assignment-requires c =
     let h = (start (at-scale c)).requires in
-    (h.0, (C-fits h.1.0, (h.1.1.1.1, h.1.0.z-length)))
+    record {
+      lt_p = h.0;
+      c_value = C-fits h.1.0;
+      columns_len = (h.1.1.1.1, h.1.0.z-length);
+    }
 
 pub line_at-at_beta-requires : goal.line_at-at_beta-requires
 line_at-at_beta-requires c =
     let h = (start (at-scale c.before)).requires in
-    (h.0, ((C-fits h.1.0, h.1.1.0.β-outside), (h.1.1.1.1, h.1.1.1.2, h.1.0.z-length)))
+    record {
+      lt_p = h.0;
+      c_value = (C-fits h.1.0, h.1.1.0.β-outside);
+      columns_len = (h.1.1.1.1, h.1.1.1.2, h.1.0.z-length);
+    }
 
 pub witness_at-requires : goal.witness_at-requires
 witness_at-requires c =
     let s = start (at-scale c.before.before) in
     let h = s.pre in
-    let F = h.1.0 in (
-      h.0,
-      (
-        (C-fits F, X-fits F, X-below F),
-        (F.z-length, outside_smaller s.args.x (X-fits F) (C-fits F) (X-below F) h.1.1.0.β-outside),
-      ),
-    )
+    let F = h.1.0 in record {
+      lt_p = h.0;
+      c_value = (C-fits F, X-fits F, X-below F);
+      z_len = F.z-length;
+      outside_domain = outside_smaller s.args.x (X-fits F) (C-fits F) (X-below F) h.1.1.0.β-outside;
+    }
 
 pub row_quotient_at-requires : goal.row_quotient_at-requires
 row_quotient_at-requires c =
     let h = (start (at-scale c.before.before.before)).requires in
     let F = h.1.0 in
-    (h.0, ((R-fits F, h.1.1.0.α-outside), (h.1.1.1.0, ((shares F).in_a, (shares F).in_b))))
+    record {
+      lt_p = h.0;
+      r_value = (R-fits F, h.1.1.0.α-outside);
+      rows_len = h.1.1.1.0;
+      all = ((shares F).in_a, (shares F).in_b);
+    }
 
 pub joined_at-requires : goal.joined_at-requires
 joined_at-requires c = (start (at-scale c.before.before.before.before)).requires.lt_p

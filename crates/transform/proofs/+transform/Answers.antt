@@ -86,7 +86,7 @@ module _ (t : ℕ) where
       s.pre.1.1.0 c.if-out-eq1.false s.pre.1.1.1.0
 
   mul-multiply : lts.Need-overflow-mul-multiply (claims t) (at t) transform.Post
-  mul-multiply c = omega (arith, (start-from-then1 c).requires.out_value.1.0)
+  mul-multiply c = omega (arith, (start-from-then1 c).requires.out_in_bounds)
 
   shared-slice-read-multiply : lts.Need-shared-slice-read-multiply (claims t) (at t) transform.Post
   shared-slice-read-multiply c = omega (arith, (start-from-then1 c.before).pre.1.1.1.0)

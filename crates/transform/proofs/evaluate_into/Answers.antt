@@ -69,7 +69,11 @@ pub evaluate_with-requires : goal.evaluate_with-requires
 evaluate_with-requires c =
     let s = start-from-fill-tables c.before.before.before.before.before in
     let t = c.before.before.before.before.before in
-    (s.pre.0, (s.pre.1, (omega (arith, powers-length t), omega (arith, quotients-length t))))
+    record {
+      lt_p = s.pre.0;
+      out_len = s.pre.1;
+      f_in_bounds = (omega (arith, powers-length t), omega (arith, quotients-length t));
+    }
 
 pub returns : goal.returns
 returns c q Q e root-word =

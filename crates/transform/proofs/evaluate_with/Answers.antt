@@ -25,12 +25,14 @@ pub transform-requires : goal.transform-requires
 transform-requires c =
     let s = c in
     let n : ℕ = length s.args.f.now in
-    let same : length s.args.out.now ≡ n = s.requires.out_len.0.0 in
-    let in-powers : n ≤ length s.args.powers.now = s.requires.out_len.1.0 in
-    let in-quotients : n ≤ length s.args.quotients.now = s.requires.out_len.1.1 in (
-      omega (arith, s.requires.lt_p),
-      (ap is_size same ∙ s.requires.out_len.0.1, (omega (arith, size_positive n s.requires.out_len.0.1), (omega arith, omega arith))),
-    )
+    let same : length s.args.out.now ≡ n = s.requires.out_len.0 in
+    let in-powers : n ≤ length s.args.powers.now = s.requires.f_in_bounds.0 in
+    let in-quotients : n ≤ length s.args.quotients.now = s.requires.f_in_bounds.1 in record {
+      p_nonzero = omega (arith, s.requires.lt_p);
+      out_value = ap is_size same ∙ s.requires.out_len.1;
+      out_in_bounds = omega (arith, size_positive n s.requires.out_len.1);
+      out_in_bounds_2 = (omega arith, omega arith);
+    }
 
 pub returns : goal.returns
 returns c q Q e tables =

@@ -28,7 +28,7 @@ start-from-transform c = c.before.before.before.before.before.before.before
 pub overflow_cast-values : goal.overflow_cast-values
 overflow_cast-values c =
     let s = c in
-    omega (arith, size_bound (length s.args.values.now) s.requires.out_len.0.1)
+    omega (arith, size_bound (length s.args.values.now) s.requires.out_len.1)
 
 pub transform-requires : goal.transform-requires
 transform-requires c =
@@ -36,10 +36,12 @@ transform-requires c =
     let n : ℕ = length s.args.values.now in
     let same : length s.args.out.now ≡ n = s.pre.1.0.0 in
     let in-powers : n ≤ length s.args.powers.now = s.pre.1.1.0 in
-    let in-quotients : n ≤ length s.args.quotients.now = s.pre.1.1.1 in (
-      omega (arith, s.pre.0),
-      (ap is_size same ∙ s.pre.1.0.1, (omega (arith, size_positive n s.pre.1.0.1), (omega arith, omega arith))),
-    )
+    let in-quotients : n ≤ length s.args.quotients.now = s.pre.1.1.1 in record {
+      p_nonzero = omega (arith, s.pre.0);
+      out_value = ap is_size same ∙ s.pre.1.0.1;
+      out_in_bounds = omega (arith, size_positive n s.pre.1.0.1);
+      out_in_bounds_2 = (omega arith, omega arith);
+    }
 
 pub returns : goal.returns
 returns c q Q e tables =

@@ -18,7 +18,7 @@ use Rattle.verdict.proofs.matrix_holds.Goals.{Start}
 
 -- what one matrix's term takes
 takes : (start : Start) (M : MatrixName) → let a = start.args in (1 < a.p) × (is_size (at (three a.s.k) M) ≡ true)
-takes start M = (start.requires.lt_p, (allowed (sizes start.args.s) start.requires.s_value.0).K-size M)
+takes start M = (start.requires.lt_p, (allowed (sizes start.args.s) start.requires.s_value).K-size M)
 
 pub matrix_term-a-requires : goal.matrix_term-a-requires
 matrix_term-a-requires c = takes c.before.before.before.before.before.before.before.before A

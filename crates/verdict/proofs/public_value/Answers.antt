@@ -12,7 +12,7 @@ use Rattle.verdict.proofs.public_value.Goals as goal
 use Rattle.verdict.proofs.public_value.Goals.{Start}
 
 bound : (c : Start) → c.args.n ≤ 1024
-bound c = size_bound c.args.n c.requires.n_value.0
+bound c = size_bound c.args.n c.requires.n_value
 
 pub slice_bounds-weights-end : goal.slice_bounds-weights-end
 slice_bounds-weights-end c = bound c.before
@@ -22,7 +22,7 @@ lagrange_values_into-requires c =
     let start = c.before.before in
     record {
       lt_p = start.requires.modulus.0;
-      out_value = ap is_size (sym (part_length _ _ (bound start))) ∙ start.requires.n_value.0;
+      out_value = ap is_size (sym (part_length _ _ (bound start))) ∙ start.requires.n_value;
     }
 
 pub slice_bounds-weights-end-2 : goal.slice_bounds-weights-end-2
@@ -35,7 +35,7 @@ interpolated_at-requires c =
     let call = c.lagrange_values_into in
     let start = c.before.before.before.before.before in record {
       p_nonzero = omega (arith, start.requires.modulus.0);
-      values_len = start.requires.n_value.1 ∙ filled_length _ _ (bound start) call.new.out call.auto.out;
+      values_len = start.requires.x_len ∙ filled_length _ _ (bound start) call.new.out call.auto.out;
     }
 
 pub returns : goal.returns
@@ -43,6 +43,6 @@ returns c q K Q =
     let call = c.lagrange_values_into in
     let start = c.before.before.before.before.before.before in
     let a = start.args in
-    c.interpolated_at.ensures q Q K.value a.n start.requires.n_value.0 (of a.y)
+    c.interpolated_at.ensures q Q K.value a.n start.requires.n_value (of a.y)
     (filled_part _ _ (bound start) call.new.out call.auto.out ∙ call.ensures q K
     ∙ ap (λ (n : ℕ). words (tabulate n (λ i. lagrange n (element n i) (of {q = q} a.y)))) (sym (part_length _ _ (bound start))))

@@ -26,7 +26,7 @@ use Rattle.verdict.proofs.selectors.Goals.{After-multiply-product, After-vanishi
 
 -- |K| is a size
 whole_size : (s : Start) → is_size (largest (three s.args.s.k)) ≡ true
-whole_size s = let k = sizes s.args.s in largest_size k (allowed k s.requires.s_value.0)
+whole_size s = let k = sizes s.args.s in largest_size k (allowed k s.requires.s_value)
 
 -- the word of v_{K_M}(γ) is not 0
 not-zero : (s : Start) (M : MatrixName) (w : ℕ) (q : Prime) → q.p ≡ s.args.p
@@ -35,8 +35,8 @@ not-zero : (s : Start) (M : MatrixName) (w : ℕ) (q : Prime) → q.p ≡ s.args
 not-zero s M w q e made =
     let k = sizes s.args.s in
     let m : ℕ = at k.|K| M in
-    let size = (allowed k s.requires.s_value.0).K-size M in
-    vanishing-word-not-zero (outside_smaller m size (whole_size s) (size_within k M) s.requires.s_value.1) size w made q e
+    let size = (allowed k s.requires.s_value).K-size M in
+    vanishing-word-not-zero (outside_smaller m size (whole_size s) (size_within k M) s.requires.outside_domain) size w made q e
 
 -- the values of v_{K_M}(γ)
 module _ (c : After-vanishing_value-c) (q : Prime) (e : q.p ≡ c.args.p) where

@@ -36,8 +36,13 @@ returns-then-not-row_holds c q K Q =
 pub line_holds-requires : goal.line_holds-requires
 line_holds-requires c =
     let start = c in
-    let W = allowed (sizes start.args.s) start.requires.s_value.0 in
-    ((start.requires.lt_p, start.requires.s_value.1.1.over), (W.X-size, (start.requires.s_value.1.0, W.C-size)))
+    let W = allowed (sizes start.args.s) start.requires.s_value in
+    record {
+      modulus = (start.requires.lt_p, start.requires.outside_domain.over);
+      x_value = W.X-size;
+      x_len = start.requires.x_len;
+      c_value = W.C-size;
+    }
 
 -- the test of a check
 abbrev test : (s : Start) (q : Prime) → Check → Bool

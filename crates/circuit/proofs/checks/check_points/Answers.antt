@@ -37,7 +37,7 @@ abbrev due : Prime → Start → List Bool
 due q s = tests q (s.args.r ∷ s.args.c ∷ s.args.k ∷ []) s.args.points.now
 
 due-count : (q : Prime) (s : Start) → length (due q s) ≡ length s.args.points.now
-due-count q s = tests_count q (s.args.r ∷ s.args.c ∷ s.args.k ∷ []) s.args.points.now s.requires.r_value.1
+due-count q s = tests_count q (s.args.r ∷ s.args.c ∷ s.args.k ∷ []) s.args.points.now s.requires.points_len_bound
 
 abbrev start : After-is_inside → Start
 start c = c.before.before.before.before.before
@@ -68,7 +68,7 @@ pub is_inside-requires : goal.is_inside-requires
 is_inside-requires c =
     let s = c in
     let ns : List ℕ = s.args.r ∷ s.args.c ∷ s.args.k ∷ [] in
-    let sizes = s.requires.r_value.0 in
+    let sizes = s.requires.r_value in
     record {
       lt_p = s.requires.lt_p;
       n_value = all-at (λ n. is_size n ≡ true) ns (sizes.0, (sizes.1.0, (sizes.1.1, tt))) c.loop-i.i 0 (omega arith);

@@ -13,7 +13,7 @@ returns c =
     let c2 = c3 in
     let c1 = c2 in
     let start = c1 in
-    within_less (omega (arith, start.requires.count_le_most_circuits.0))
+    within_less (omega (arith, start.requires.count_le_most_circuits))
     (within_then c1.put_name-place.ensures
     (within_then c2.put_cells-place.ensures
     (within_then (within-room 1 (omega arith) c3.put_byte-place.ensures)

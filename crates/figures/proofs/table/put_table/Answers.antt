@@ -21,7 +21,11 @@ pub put_row-place-requires : goal.put_row-place-requires
 put_row-place-requires c =
     let l = c in
     let start = l in
-    (search rules, (start.requires.count_le_most_circuits, omega (arith, start.requires.sheet_room_in_bounds, l.loop-row.invariant.1.within, within-length l.loop-row.invariant.1)))
+    record {
+      row_lt_row_count = search rules;
+      count_le_most_circuits = start.requires.count_le_most_circuits;
+      row_room_in_bounds = omega (arith, start.requires.sheet_room_in_bounds, l.loop-row.invariant.1.within, within-length l.loop-row.invariant.1);
+    }
 
 pub loop-row-preserved : goal.loop-row-preserved
 loop-row-preserved c =

@@ -52,19 +52,13 @@ store-requires c =
     let F = fits c.before in
     let s = start (judged c.before) in
     let a = s.args in
-    let bound = size_bound a.r F.shape.R-size in (
-      s.pre.0,
-      (
-        F.shape.lists,
-        (
-          rows-below a.r a.c (entries_of a.ea.now) bound F.within.in_a,
-          (
-            rows-below a.r a.c (entries_of a.eb.now) bound F.within.in_b,
-            rows-below a.r a.c (entries_of a.ec.now) bound F.within.in_c,
-          ),
-        ),
-      ),
-    )
+    let bound = size_bound a.r F.shape.R-size in record {
+      circuit_len = s.pre.0;
+      three_lists = F.shape.lists;
+      all = rows-below a.r a.c (entries_of a.ea.now) bound F.within.in_a;
+      all_2 = rows-below a.r a.c (entries_of a.eb.now) bound F.within.in_b;
+      all_3 = rows-below a.r a.c (entries_of a.ec.now) bound F.within.in_c;
+    }
 
 pub returns : goal.returns
 unfolding begin_from_call circuit_refusal

@@ -59,8 +59,12 @@ slice_bounds-store_matrix-end-2 c = omega (arith, with_a-length c.before.before)
 pub store_matrix-requires-2 : goal.store_matrix-requires-2
 store_matrix-requires-2 c =
     let m = c.before.before.before in
-    let given = (start m).requires.three_lists in
-    (part-b m, (given.0.list-b, given.1.1.0))
+    let given = (start m).requires.1 in
+    record {
+      out_len = part-b m;
+      entry_words = given.0.list-b;
+      all = given.1.1.0;
+    }
 
 pub slice_bounds-store_matrix-end-3 : goal.slice_bounds-store_matrix-end-3
 slice_bounds-store_matrix-end-3 c = omega (arith, with_b-length c.before.before)
@@ -69,7 +73,11 @@ pub store_matrix-requires-3 : goal.store_matrix-requires-3
 store_matrix-requires-3 c =
     let m = c.before.before.before in
     let given = (start (after-a m)).pre.1 in
-    (part_c m, (given.0.list-c, given.1.1.1))
+    record {
+      out_len = part_c m;
+      entry_words = given.0.list-c;
+      all = given.1.1.1;
+    }
 
 pub shape_of-circuit : goal.shape_of-circuit
 shape_of-circuit c =

@@ -45,8 +45,8 @@ pub count_rows-requires : goal.count_rows-requires
 count_rows-requires c =
     let s = c.before.before.before in
     record {
-      entries_len_bound = s.requires.entry_words.0.few;
-      all = subst⁻¹ (λ (n : ℕ). All (λ (e : Entry). e.row < n) (entries_of s.args.entries.now)) (rows s) s.requires.entry_words.1;
+      entries_len_bound = s.requires.entry_words.few;
+      all = subst⁻¹ (λ (n : ℕ). All (λ (e : Entry). e.row < n) (entries_of s.args.entries.now)) (rows s) s.requires.all;
     }
 
 pub slice_bounds-copy_words-end : goal.slice_bounds-copy_words-end
@@ -69,4 +69,4 @@ returns c =
     (m.count_rows.auto.out ∙ rows (start m))
     ∙ matrix-stored a.entries.now counts words (length (take 1024 (drop 1 (begun (start m)))))
     (length (take 3072 (drop 1025 (counted m))))
-    (start m).requires.entry_words.0.whole (rows (start m)) (room m) m.count_rows.ensures copied.ensures
+    (start m).requires.entry_words.whole (rows (start m)) (room m) m.count_rows.ensures copied.ensures

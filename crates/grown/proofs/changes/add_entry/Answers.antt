@@ -61,19 +61,17 @@ pub put_entry-requires : goal.put_entry-requires
 put_entry-requires c =
     let f = c.before.before in
     let a = (start f).args in
-    let w = words (start f) in (
-      omega arith,
-      (
+    let w = words (start f) in record {
+      circuit_len = omega arith;
+      matrix_bound = (
+        (room f).0,
         (
-          (room f).0,
-          (
-            total-below w a.matrix (room f).1.0,
-            omega (arith, f.find_entry-found.ensures.1.0, place_within w a.matrix a.row a.column),
-          ),
+          total-below w a.matrix (room f).1.0,
+          omega (arith, f.find_entry-found.ensures.1.0, place_within w a.matrix a.row a.column),
         ),
-        (omega (arith, f.find_entry-found.ensures.1.1, row-few w a.matrix a.row), (room f).1.1),
-      ),
-    )
+      );
+      before_le_max_size = (omega (arith, f.find_entry-found.ensures.1.1, row-few w a.matrix a.row), (room f).1.1);
+    }
 
 pub returns : goal.returns
 unfolding with_entry

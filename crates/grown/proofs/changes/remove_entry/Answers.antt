@@ -46,16 +46,14 @@ pub take_entry-requires : goal.take_entry-requires
 take_entry-requires c =
     let f = c.before.before.before in
     let a = (start f).args in
-    let taken = taken-within a.circuit.now a.matrix a.row a.column (there c.before) in (
-      omega arith,
-      (
-        (matrix f, omega (arith, f.find_entry-found.ensures.1.0, taken.0)),
-        (
-          omega (arith, f.find_entry-found.ensures.1.1, taken.1),
-          (omega (arith, f.find_entry-found.ensures.1.1, row-few a.circuit.now a.matrix a.row), row f),
-        ),
-      ),
-    )
+    let taken = taken-within a.circuit.now a.matrix a.row a.column (there c.before) in record {
+      circuit_len = omega arith;
+      matrix_bound = (matrix f, omega (arith, f.find_entry-found.ensures.1.0, taken.0));
+      before_nonzero = (
+        omega (arith, f.find_entry-found.ensures.1.1, taken.1),
+        (omega (arith, f.find_entry-found.ensures.1.1, row-few a.circuit.now a.matrix a.row), row f),
+      );
+    }
 
 pub returns : goal.returns
 unfolding without_entry

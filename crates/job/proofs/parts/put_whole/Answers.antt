@@ -12,23 +12,23 @@ use Rattle.job.proofs.parts.put_whole.Goals as goal
 pub places_of-p-requires : goal.places_of-p-requires
 places_of-p-requires c =
     let s = c in
-    omega (arith, s.requires.ws_len.0, whole_length s.args.ws.now)
+    omega (arith, s.requires.ws_len, whole_length s.args.ws.now)
 
 pub slice_bounds-challenges_in-count : goal.slice_bounds-challenges_in-count
 slice_bounds-challenges_in-count c =
     let s = c in
-    omega (arith, whole_end_lem s.args.ws.now s.requires.ws_len.0 _ c.places_of-p.ensures.placed)
+    omega (arith, whole_end_lem s.args.ws.now s.requires.ws_len _ c.places_of-p.ensures.placed)
 
 pub slice_bounds-challenges_in-start : goal.slice_bounds-challenges_in-start
 slice_bounds-challenges_in-start c =
     let s = c in
-    omega (arith, whole_end_lem s.args.ws.now s.requires.ws_len.0 _ c.places_of-p.ensures.placed)
+    omega (arith, whole_end_lem s.args.ws.now s.requires.ws_len _ c.places_of-p.ensures.placed)
 
 pub challenges_in-drawn-requires : goal.challenges_in-drawn-requires
 challenges_in-drawn-requires c =
     let at_places = c in
     let s = at_places in
-    omega (arith, nine_words s.args.ws.now s.requires.ws_len.0 _ at_places.places_of-p.ensures.placed)
+    omega (arith, nine_words s.args.ws.now s.requires.ws_len _ at_places.places_of-p.ensures.placed)
 
 pub put_parts-requires : goal.put_parts-requires
 put_parts-requires c =
@@ -36,7 +36,11 @@ put_parts-requires c =
     let s = at_places in
     let ws = s.args.ws.now in
     let placed = at_places.places_of-p.ensures.placed in
-    (in_order ws s.requires.ws_len.0 _ placed, (lists_agree ws s.requires.ws_len.0 _ placed s.requires.ws_value, search rules))
+    record {
+      le_b = in_order ws s.requires.ws_len _ placed;
+      end_value = lists_agree ws s.requires.ws_len _ placed s.requires.ws_value;
+      most_proof_in_bounds = search rules;
+    }
 
 pub returns : goal.returns
 returns c =
@@ -45,5 +49,5 @@ returns c =
     let s = at_places in
     written_as
     (ap (outcome_text baby_bear)
-    (job_in_parts s.args.ws.now s.requires.ws_len.0 _ at_places.places_of-p.ensures.placed _ at-challenges.challenges_in-drawn.ensures))
+    (job_in_parts s.args.ws.now s.requires.ws_len _ at_places.places_of-p.ensures.placed _ at-challenges.challenges_in-drawn.ensures))
     c.put_parts.ensures

@@ -44,7 +44,7 @@ made_length :
 made_length c = back_length 1024 (fits (at_size c)) (made c) c.product_quotient_into.auto.out
 
 pub overflow_cast-out : goal.overflow_cast-out
-overflow_cast-out c = omega (arith, size_bound (length (start c).args.out.now + 1) (start c).requires.entries_within.1.1.1)
+overflow_cast-out c = omega (arith, size_bound (length (start c).args.out.now + 1) (start c).requires.entries_in_bounds.1)
 
 pub overflow_sub-n : goal.overflow_sub-n
 overflow_sub-n c = sized_positive _ c.size_of-size.ensures
@@ -56,7 +56,12 @@ pub product_quotient_into-requires : goal.product_quotient_into-requires
 product_quotient_into-requires c =
     let size = c.before.before.before in
     let pre = (start size).requires in
-    (pre.0, (pre.1.0, (pre.1.1.0, lent_size size)))
+    record {
+      modulus = pre.0;
+      entries_within = pre.1.0;
+      entries_within_2 = pre.1.1.0;
+      out_len = lent_size size;
+    }
 
 pub slice_bounds-quotient-end-2 : goal.slice_bounds-quotient-end-2
 slice_bounds-quotient-end-2 c =

@@ -50,28 +50,43 @@ fit :
     → let a = s.args in
     let n : ℕ = length a.out.now in
     (size_of a.ea.now ≤ n + 1) × (size_of a.eb.now ≤ n + 1) × (size_of a.ec.now ≤ n + 1) × (is_size (n + 1) ≡ true)
-fit s = joined-fits s.args.ea.now s.args.eb.now s.args.ec.now (length s.args.out.now) s.requires.three_within.1.1
+fit s = joined-fits s.args.ea.now s.args.eb.now s.args.ec.now (length s.args.out.now) s.requires.out_len
 
 pub add_matrix-requires : goal.add_matrix-requires
 add_matrix-requires c =
     let z = c.before.before.before in
     let s = start z in
     let kept = z.clear.auto.out in
-    (s.pre.0, (s.pre.1.0.in_a, (s.pre.1.1.0.in_a, (room kept (fit s).0, sized kept (fit s).3))))
+    record {
+      modulus = s.pre.0;
+      entries_within = s.pre.1.0.in_a;
+      entries_within_2 = s.pre.1.1.0.in_a;
+      entries_in_bounds = (room kept (fit s).0, sized kept (fit s).3);
+    }
 
 pub add_matrix-requires-2 : goal.add_matrix-requires-2
 add_matrix-requires-2 c =
     let f = c.before.before.before in
     let s = start (at_clear f) in
     let kept = kept_by_first f in
-    (s.pre.0, (s.pre.1.0.in_b, (s.pre.1.1.0.in_b, (room kept (fit s).1, sized kept (fit s).3))))
+    record {
+      modulus = s.pre.0;
+      entries_within = s.pre.1.0.in_b;
+      entries_within_2 = s.pre.1.1.0.in_b;
+      entries_in_bounds = (room kept (fit s).1, sized kept (fit s).3);
+    }
 
 pub add_matrix-requires-3 : goal.add_matrix-requires-3
 add_matrix-requires-3 c =
     let f = c.before.before.before in
     let s = start (at_clear (at_first f)) in
     let kept = kept_by_second f in
-    (s.pre.0, (s.pre.1.0.in_c, (s.pre.1.1.0.in_c, (room kept (fit s).2, sized kept (fit s).3))))
+    record {
+      modulus = s.pre.0;
+      entries_within = s.pre.1.0.in_c;
+      entries_within_2 = s.pre.1.1.0.in_c;
+      entries_in_bounds = (room kept (fit s).2, sized kept (fit s).3);
+    }
 
 pub returns : goal.returns
 returns c q k r m alpha beta G H L D =

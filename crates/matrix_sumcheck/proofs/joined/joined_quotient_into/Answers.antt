@@ -33,16 +33,16 @@ outset c = start (at_rows (at-columns (at-row-distances c)))
 
 -- |R| and |C| words fit into an array, and as they are lent they are sizes
 rows_fit : (s : Start) → s.args.r ≤ 1024
-rows_fit s = size_bound _ s.requires.circuit_shaped.0.R-size
+rows_fit s = size_bound _ s.requires.circuit_shaped.R-size
 
 columns_fit : (s : Start) → s.args.c ≤ 1024
-columns_fit s = size_bound _ s.requires.circuit_shaped.0.C-size
+columns_fit s = size_bound _ s.requires.circuit_shaped.C-size
 
 rows_size : (s : Start) → is_size (length (take s.args.r (array 1024))) ≡ true
-rows_size s = ap is_size (sym (lent_length 1024 (rows_fit s))) ∙ s.requires.circuit_shaped.0.R-size
+rows_size s = ap is_size (sym (lent_length 1024 (rows_fit s))) ∙ s.requires.circuit_shaped.R-size
 
 columns_size : (s : Start) → is_size (length (take s.args.c (array 1024))) ≡ true
-columns_size s = ap is_size (sym (lent_length 1024 (columns_fit s))) ∙ s.requires.circuit_shaped.0.C-size
+columns_size s = ap is_size (sym (lent_length 1024 (columns_fit s))) ∙ s.requires.circuit_shaped.C-size
 
 -- the words of the four lists, and their lengths as they are lent the second time
 abbrev rows : After-lagrange_values_into → List ℕ
@@ -136,13 +136,12 @@ joined_by_lists-requires c =
     let d = c.before.before.before.before.before.before in
     let e = at-row-distances d in
     let l = at-columns e in
-    let pre = (outset d).requires in (
-      pre.0,
-      (
-        three-within pre.1.0 pre.1.1.0 (rows-length (at_rows l)) (columns-length l),
-        (three-within pre.1.0 pre.1.1.0 (row-distances-length e) (column-distances-length d), pre.1.1.1),
-      ),
-    )
+    let pre = (outset d).requires in record {
+      modulus = pre.0;
+      three_within = three-within pre.1.0 pre.1.1.0 (rows-length (at_rows l)) (columns-length l);
+      three_within_2 = three-within pre.1.0 pre.1.1.0 (row-distances-length e) (column-distances-length d);
+      out_len = pre.1.1.1;
+    }
 
 pub returns : goal.returns
 returns c q k G H =

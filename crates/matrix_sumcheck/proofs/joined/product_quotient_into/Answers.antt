@@ -29,7 +29,7 @@ divided {q} left right f g {n} long left_is right_is =
 
 -- |K_M| words fit into an array
 fits : (s : Start) → length s.args.out.now + 1 ≤ 1024
-fits s = size_fits _ s.requires.entries_within.1.1
+fits s = size_fits _ s.requires.out_len
 
 -- the start, from the values of b_M, and those from the terms
 abbrev start : After-products_into → Start
@@ -61,7 +61,11 @@ slice_bounds-below-end c = fits c.before.before.before.before.before.before
 pub products_into-requires : goal.products_into-requires
 products_into-requires c =
     let s = c.before.before.before.before.before.before.before in
-    (omega (arith, s.requires.modulus.0), (s.requires.entries_within.1.0, sym (lent_length 1024 (fits s)) ∙ s.requires.entries_within.1.1))
+    record {
+      p_nonzero = omega (arith, s.requires.modulus.0);
+      entries_within = s.requires.entries_within_2;
+      out_len = sym (lent_length 1024 (fits s)) ∙ s.requires.out_len;
+    }
 
 pub slice_bounds-terms-end : goal.slice_bounds-terms-end
 slice_bounds-terms-end c = fits (start c.before)
@@ -69,7 +73,11 @@ slice_bounds-terms-end c = fits (start c.before)
 pub terms_into-requires : goal.terms_into-requires
 terms_into-requires c =
     let s = start c.before.before in
-    (omega (arith, s.pre.0.0), (s.pre.1.0, sym (lent_length 1024 (fits s)) ∙ s.pre.1.1.1))
+    record {
+      p_nonzero = omega (arith, s.pre.0.0);
+      entries_within = s.pre.1.0;
+      out_len = sym (lent_length 1024 (fits s)) ∙ s.pre.1.1.1;
+    }
 
 pub slice_bounds-below-end-2 : goal.slice_bounds-below-end-2
 slice_bounds-below-end-2 c =
@@ -93,10 +101,12 @@ divide_product_into-requires c =
     let b = at-below t in
     let s = start b in
     let long = below_length b in
-    let lent = sym (lent_length 1024 (fits s)) ∙ long in (
-      s.pre.0,
-      (ap is_size (sym long) ∙ size_is _ s.pre.1.1.1, ((sym (made_length t) ∙ long, lent), (lent, long))),
-    )
+    let lent = sym (lent_length 1024 (fits s)) ∙ long in record {
+      modulus = s.pre.0;
+      left_value = ap is_size (sym long) ∙ size_is _ s.pre.1.1.1;
+      right_len = (sym (made_length t) ∙ long, lent);
+      rest_len = (lent, long);
+    }
 
 pub returns : goal.returns
 returns c q k M r m alpha beta G H L D =

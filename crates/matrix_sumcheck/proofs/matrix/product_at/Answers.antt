@@ -11,14 +11,14 @@ bounds-rows-row c =
     let w = c in
     let s = w in
     subst (λ (i : ℕ). i < length s.args.rows.now) (sym w.word_or_zero-row.ensures)
-    (within-at s.requires.entries_within.0 s.args.i).row_below
+    (within-at s.requires.entries_within s.args.i).row_below
 
 pub bounds-columns-column : goal.bounds-columns-column
 bounds-columns-column c =
     let w = c in
     let s = w in
     subst (λ (i : ℕ). i < length s.args.columns.now) (sym w.word_or_zero-column.ensures)
-    (within-at s.requires.entries_within.0 s.args.i).column-below
+    (within-at s.requires.entries_within s.args.i).column-below
 
 pub returns : goal.returns
 returns c q e =

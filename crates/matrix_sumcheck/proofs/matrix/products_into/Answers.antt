@@ -23,7 +23,11 @@ loop-i-init c = (omega arith, refl, λ q e. fill_none _ _)
 pub product_at-requires : goal.product_at-requires
 product_at-requires c =
     let s = c in
-    (omega arith, (s.requires.entries_within.0, omega (arith, size_fits _ s.requires.entries_within.1)))
+    record {
+      p_nonzero = omega arith;
+      entries_within = s.requires.entries_within;
+      i_lt_max_size = omega (arith, size_fits _ s.requires.out_len);
+    }
 
 pub offset_bounds-out-i : goal.offset_bounds-out-i
 offset_bounds-out-i c = omega arith

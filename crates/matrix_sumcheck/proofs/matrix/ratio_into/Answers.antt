@@ -27,7 +27,7 @@ interpolated q l t long read at-root call =
 
 -- the slice fits into an array
 fits : (s : Start) → length s.args.out.now ≤ 1024
-fits s = size_fits _ s.requires.entries_within.1
+fits s = size_fits _ s.requires.out_len
 
 -- the start, from the terms, and the terms' words
 abbrev start : After-terms_into → Start
@@ -46,13 +46,17 @@ slice_bounds-values-end c = fits c.before.before.before.before
 pub terms_into-requires : goal.terms_into-requires
 terms_into-requires c =
     let s = c.before.before.before.before.before in
-    (omega (arith, s.requires.lt_p), (s.requires.entries_within.0, sym (lent_length 1024 (fits s)) ∙ s.requires.entries_within.1))
+    record {
+      p_nonzero = omega (arith, s.requires.lt_p);
+      entries_within = s.requires.entries_within;
+      out_len = sym (lent_length 1024 (fits s)) ∙ s.requires.out_len;
+    }
 
 pub overflow_cast-n : goal.overflow_cast-n
 overflow_cast-n c = omega (arith, fits (start c.before))
 
 pub root_of-root-requires : goal.root_of-root-requires
-root_of-root-requires c = size_is _ (start c.before).requires.entries_within.1
+root_of-root-requires c = size_is _ (start c.before).requires.out_len
 
 pub slice_bounds-values-end-2 : goal.slice_bounds-values-end-2
 slice_bounds-values-end-2 c =

@@ -13,7 +13,7 @@ use Rattle.matrix_sumcheck.proofs.matrix.value_into.Goals.{After-ratio_into, Sta
 
 -- |K_M| words fit into an array
 fits : (s : Start) → length s.args.out.now + 1 ≤ 1024
-fits s = size_fits _ s.requires.entries_within.1
+fits s = size_fits _ s.requires.out_len
 
 -- the start, from the ratio, and the ratio's words
 abbrev start : After-ratio_into → Start
@@ -40,7 +40,11 @@ slice_bounds-ratio-end c = fits c.before.before.before.before
 pub ratio_into-requires : goal.ratio_into-requires
 ratio_into-requires c =
     let s = c.before.before.before.before.before in
-    (s.requires.lt_p, (s.requires.entries_within.0, sym (lent_length 1024 (fits s)) ∙ s.requires.entries_within.1))
+    record {
+      lt_p = s.requires.lt_p;
+      entries_within = s.requires.entries_within;
+      out_len = sym (lent_length 1024 (fits s)) ∙ s.requires.out_len;
+    }
 
 pub slice_bounds-ratio-end-2 : goal.slice_bounds-ratio-end-2
 slice_bounds-ratio-end-2 c =

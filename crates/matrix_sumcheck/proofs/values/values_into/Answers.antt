@@ -23,10 +23,10 @@ at_rows c = c.before.before.before
 
 -- |R| and |C| words fit into an array
 rows_fit : (s : Start) → s.args.r ≤ 1024
-rows_fit s = size_bound _ s.requires.circuit_shaped.0.R-size
+rows_fit s = size_bound _ s.requires.circuit_shaped.R-size
 
 columns_fit : (s : Start) → s.args.c ≤ 1024
-columns_fit s = size_bound _ s.requires.circuit_shaped.0.C-size
+columns_fit s = size_bound _ s.requires.circuit_shaped.C-size
 
 -- the words of the two lists, and their lengths as they are lent the second time
 abbrev rows : After-lagrange_values_into → List ℕ
@@ -51,7 +51,7 @@ lagrange_values_into-requires c =
     let s = c.before.before.before.before.before.before.before in
     record {
       lt_p = s.requires.lt_p;
-      out_value = ap is_size (sym (lent_length 1024 (rows_fit s))) ∙ s.requires.circuit_shaped.0.R-size;
+      out_value = ap is_size (sym (lent_length 1024 (rows_fit s))) ∙ s.requires.circuit_shaped.R-size;
     }
 
 pub slice_bounds-columns-end : goal.slice_bounds-columns-end

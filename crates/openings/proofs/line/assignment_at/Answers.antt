@@ -21,7 +21,7 @@ returns c q K made k W eC =
     let Q = known-qualifies K in
     let z : List (Elem q) = map of a.z.now in
     let β : Elem q = of a.beta in
-    let value = of-result (eval (interpolate a.c z) β) (i.interpolated_at-value.ensures q Q K.value a.c s.requires.c_value.0 β made) in
+    let value = of-result (eval (interpolate a.c z) β) (i.interpolated_at-value.ensures q Q K.value a.c s.requires.c_value β made) in
     let vanished = of-result (vanishing a.c β) (v.vanishing_value.ensures q K.value) in
     c.multiply_add.ensures q K.value
     ∙ ap₂ (λ (u w : Elem q). (of a.mask ⊗ u ⊕ w).word) vanished value

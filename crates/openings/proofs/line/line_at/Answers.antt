@@ -23,7 +23,7 @@ abbrev start : After-rest_into → Start
 start c = c.before.before.before.before.before.before
 
 room : (s : Start) → s.args.c ≤ 1024
-room s = size_bound s.args.c s.requires.c_value.0.0
+room s = size_bound s.args.c s.requires.c_value.0
 
 -- the remainder as it was made, and as it is read
 made : (c : After-rest_into) → MadeIn 1024 (start c).args.c c.rest_into.new.out
@@ -39,7 +39,11 @@ pub rest_into-requires : goal.rest_into-requires
 rest_into-requires c =
     let s = c.before.before.before.before.before in
     let long = lent_length 1024 (room s) in
-    (s.requires.lt_p, (ap is_size (sym long) ∙ s.requires.c_value.0.0, (s.requires.c_value.1.1 ∙ long, s.requires.c_value.1.2 ∙ long)))
+    record {
+      lt_p = s.requires.lt_p;
+      out_value = ap is_size (sym long) ∙ s.requires.c_value.0;
+      weights_len = (s.requires.columns_len.1 ∙ long, s.requires.columns_len.2 ∙ long);
+    }
 
 pub slice_bounds-rest-end-2 : goal.slice_bounds-rest-end-2
 slice_bounds-rest-end-2 c = made_holds (made c.before)
@@ -49,7 +53,7 @@ parted_at-parts-requires c =
     let m = c.before.before in
     record {
       p_nonzero = omega (arith, (start m).requires.lt_p);
-      f_nonzero = omega (arith, made_length (made m), size_positive _ (start m).requires.c_value.0.0);
+      f_nonzero = omega (arith, made_length (made m), size_positive _ (start m).requires.c_value.0);
     }
 
 pub returns : goal.returns

@@ -31,7 +31,7 @@ abbrev at-product : After-remainder_into → After-interpolate_into
 at-product c = c.before.before.before
 
 room : (s : Start) → length s.args.out.now ≤ 1024
-room s = size_bound (length s.args.out.now) s.requires.out_value.0
+room s = size_bound (length s.args.out.now) s.requires.out_value
 
 -- the products and their polynomial as they were made
 products_made : (c : After-products_into) → MadeIn 1024 (length (start c).args.out.now) c.products_into.new.out
@@ -50,7 +50,7 @@ products_into-requires c =
     let long = lent_length 1024 (room s) in
     record {
       p_nonzero = omega arith;
-      left_len = (s.requires.out_value.1.0 ∙ long, s.requires.out_value.1.1 ∙ long);
+      left_len = (s.requires.weights_len.0 ∙ long, s.requires.weights_len.1 ∙ long);
     }
 
 pub overflow_cast-n : goal.overflow_cast-n

@@ -32,7 +32,7 @@ abbrev at-lagrange : After-public_words_into → After-lagrange_values_into
 at-lagrange c = c.before.before.before
 
 room : (s : Start) → s.args.x ≤ 1024
-room s = size_bound s.args.x s.requires.c_value.0.1
+room s = size_bound s.args.x s.requires.c_value.1
 
 -- the Lagrange values and the public words as they were made
 lagrange_made : (c : After-lagrange_values_into) → MadeIn 1024 (start c).args.x c.lagrange_values_into.new.out
@@ -49,11 +49,11 @@ lagrange_values_into-requires c =
     let s = c.before.before in
     record {
       lt_p = s.requires.lt_p;
-      out_value = ap is_size (sym (lent_length 1024 (room s))) ∙ s.requires.c_value.0.1;
+      out_value = ap is_size (sym (lent_length 1024 (room s))) ∙ s.requires.c_value.1;
     }
 
 pub nonzero_div-c : goal.nonzero_div-c
-nonzero_div-c c = size_positive _ (start c.before).requires.c_value.0.1
+nonzero_div-c c = size_positive _ (start c.before).requires.c_value.1
 
 pub overflow_cast-c : goal.overflow_cast-c
 overflow_cast-c c =

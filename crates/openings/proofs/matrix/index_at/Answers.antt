@@ -29,7 +29,7 @@ abbrev count : Start → ℕ
 count s = length s.args.places.now
 
 room : (s : Start) → count s ≤ 1024
-room s = size_fits _ s.requires.r_value.1.1
+room s = size_fits _ s.requires.places_len
 
 -- the four lists of values as they were made
 row_made : (c : After-index_values_into) → MadeIn 1024 (count (start c)) c.index_values_into.new.row
@@ -63,7 +63,11 @@ slice_bounds-rowcolval-end c = room c.before.before.before.before.before
 pub index_values_into-requires : goal.index_values_into-requires
 index_values_into-requires c =
     let s = c in
-    (s.requires.lt_p, (s.requires.r_value.0, record { row-length = refl; col-length = refl; rowcol-length = refl; rowcolval-length = refl }))
+    record {
+      lt_p = s.requires.lt_p;
+      r_value = s.requires.r_value;
+      index_lengths = record { row-length = refl; col-length = refl; rowcol-length = refl; rowcolval-length = refl };
+    }
 
 pub slice_bounds-row-end-2 : goal.slice_bounds-row-end-2
 slice_bounds-row-end-2 c = made_holds (row_made c.before.before.before.before)

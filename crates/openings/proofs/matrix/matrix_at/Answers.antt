@@ -73,7 +73,12 @@ index_at-opened-requires c =
     let l = c.before.before in
     let n = at_size l in
     let h = (start n).pre in
-    (h.0, (h.1.0, (h.1.1.0.words, sym (made_length (places_made l)) ∙ n.type_size.ensures)))
+    record {
+      lt_p = h.0;
+      r_value = h.1.0;
+      entry_words = h.1.1.0.words;
+      places_len = sym (made_length (places_made l)) ∙ n.type_size.ensures;
+    }
 
 pub slice_bounds-ratio-end : goal.slice_bounds-ratio-end
 slice_bounds-ratio-end c = room (at_size c.before.before.before)
@@ -82,7 +87,11 @@ pub ratio_into-requires : goal.ratio_into-requires
 ratio_into-requires c =
     let n = at_size c.before.before.before.before in
     let h = (start n).pre in
-    (h.0, (h.1.1.0, sym (lent_length 1024 (room n)) ∙ n.type_size.ensures))
+    record {
+      lt_p = h.0;
+      entries_within = h.1.1.0;
+      out_len = sym (lent_length 1024 (room n)) ∙ n.type_size.ensures;
+    }
 
 pub slice_bounds-ratio-end-2 : goal.slice_bounds-ratio-end-2
 slice_bounds-ratio-end-2 c = made_holds (ratio_made c.before)
@@ -100,7 +109,11 @@ pub over_vanishing-requires : goal.over_vanishing-requires
 over_vanishing-requires c =
     let n = at_size (at_places c.before.before.before.before) in
     let s = start n in
-    (s.pre.0, (sized n, subst⁻¹ (λ (m : ℕ). OutsideDomain s.args.p m s.args.gamma) n.type_size.ensures s.pre.1.1.1))
+    record {
+      lt_p = s.pre.0;
+      n_value = sized n;
+      outside_domain = subst⁻¹ (λ (m : ℕ). OutsideDomain s.args.p m s.args.gamma) n.type_size.ensures s.pre.1.1.1;
+    }
 
 pub returns : goal.returns
 unfolding matrix_remainder sizes_of

@@ -19,7 +19,7 @@ abbrev start : After-products_into → Start
 start c = c.before.before.before.before.before
 
 room : (s : Start) → s.args.n ≤ 1024
-room s = size_bound s.args.n s.requires.n_value.0.0
+room s = size_bound s.args.n s.requires.n_value.0
 
 -- the products as they were made
 made : (c : After-products_into) → MadeIn 1024 (start c).args.n c.products_into.new.out
@@ -34,7 +34,7 @@ products_into-requires c =
     let long = lent_length 1024 (room s) in
     record {
       p_nonzero = omega arith;
-      left_len = (s.requires.n_value.1.1 ∙ long, s.requires.n_value.1.2 ∙ long);
+      left_len = (s.requires.lagrange_len.1 ∙ long, s.requires.lagrange_len.2 ∙ long);
     }
 
 pub slice_bounds-products-end-2 : goal.slice_bounds-products-end-2

@@ -28,7 +28,7 @@ abbrev first : After-row_sums-2 → After-row_sums
 first c = c.before.before.before
 
 room : (s : Start) → s.args.r ≤ 1024
-room s = size_bound s.args.r s.requires.r_value.0.0
+room s = size_bound s.args.r s.requires.r_value.0
 
 -- the rows' sums as they were made, and as they are read
 left_made : (c : After-row_sums) → MadeIn 1024 (start c).args.r c.row_sums.new.out
@@ -48,7 +48,7 @@ row_sums-requires c =
     let s = c.before.before.before.before.before in
     record {
       p_nonzero = omega arith;
-      all = rows-within (lent_length 1024 (room s)) (length s.args.z.now) (entries_of s.args.ea.now) s.requires.r_value.1.1.0;
+      all = rows-within (lent_length 1024 (room s)) (length s.args.z.now) (entries_of s.args.ea.now) s.requires.all.0;
     }
 
 pub slice_bounds-right-end : goal.slice_bounds-right-end
@@ -72,7 +72,11 @@ pub product_quotient_at-requires : goal.product_quotient_at-requires
 product_quotient_at-requires c =
     let b = c.before.before.before in
     let s = start (first b) in
-    (s.pre.0, (s.pre.1.0, (s.pre.1.1.0, sym (made_length (left_made (first b))), sym (made_length (right_made b)))))
+    record {
+      lt_p = s.pre.0;
+      n_value = s.pre.1.0;
+      lagrange_len = (s.pre.1.1.0, sym (made_length (left_made (first b))), sym (made_length (right_made b)));
+    }
 
 pub returns : goal.returns
 returns c q K lagrange k W eR matrix-a matrix-b ẑ on =

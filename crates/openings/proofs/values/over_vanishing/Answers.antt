@@ -22,7 +22,7 @@ divide-requires c =
     let s = c in
     record {
       lt_p = s.requires.lt_p;
-      b_nonzero = vanishing-word-not-zero s.requires.n_value.1 s.requires.n_value.0 _ c.vanishing_value.ensures;
+      b_nonzero = vanishing-word-not-zero s.requires.outside_domain s.requires.n_value _ c.vanishing_value.ensures;
     }
 
 pub returns : goal.returns
@@ -30,4 +30,4 @@ returns c q K h e =
     let s = c in
     let a = s.args in
     c.divide.ensures q K.value ∙ ap₂ (λ (u v : Elem q). (u ⊘ v).word) e (divisor c.before q K.value)
-    ∙ exact_quotient a.n s.requires.n_value.0 K a.y (outside_here K s.requires.n_value.1) h
+    ∙ exact_quotient a.n s.requires.n_value K a.y (outside_here K s.requires.outside_domain) h

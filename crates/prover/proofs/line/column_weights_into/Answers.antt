@@ -15,7 +15,7 @@ use Rattle.prover.proofs.line.column_weights_into.Goals as goal
 use Rattle.prover.proofs.line.column_weights_into.Goals.{After-lagrange_values_into, Start}
 
 bound : (c : Start) → c.args.r ≤ 1024
-bound c = size_bound c.args.r c.requires.r_value.0
+bound c = size_bound c.args.r c.requires.r_value
 
 -- the start, from the fill with the rows' values, and the words that it leaves
 abbrev start : After-lagrange_values_into → Start
@@ -32,7 +32,7 @@ lagrange_values_into-requires c =
     let s = c.before.before.before.before.before in
     record {
       lt_p = s.requires.lt_p;
-      out_value = ap is_size (sym (part_length _ _ (bound s))) ∙ s.requires.r_value.0;
+      out_value = ap is_size (sym (part_length _ _ (bound s))) ∙ s.requires.r_value;
     }
 
 pub slice_bounds-rows-end-2 : goal.slice_bounds-rows-end-2

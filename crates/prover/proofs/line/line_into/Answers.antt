@@ -28,7 +28,7 @@ use Rattle.prover.proofs.line.line_into.Goals as goal
 use Rattle.prover.proofs.line.line_into.Goals.{After-column_weights_into, After-divide_product_into, After-quotient_from, After-remainder_from, Start}
 
 C-size : (c : Start) → is_size c.args.c ≡ true
-C-size c = C-fits c.requires.fits.0
+C-size c = C-fits c.requires.fits
 
 positive : (c : Start) → 0 < c.args.c
 positive c = size_positive c.args.c (C-size c)
@@ -93,8 +93,12 @@ slice_bounds-values-end c = bound c.before.before.before.before.before.before.be
 pub column_weights_into-requires : goal.column_weights_into-requires
 column_weights_into-requires c =
     let s = c.before.before.before.before.before.before.before.before in
-    let F = s.requires.fits.0 in
-    (s.requires.modulus.0, (R-fits F, each_within refl (lent_length 1024 (bound s)) F.within))
+    let F = s.requires.fits in
+    record {
+      lt_p = s.requires.modulus.0;
+      r_value = R-fits F;
+      each_within = each_within refl (lent_length 1024 (bound s)) F.within;
+    }
 
 pub slice_bounds-values-end-2 : goal.slice_bounds-values-end-2
 slice_bounds-values-end-2 c =
@@ -117,13 +121,12 @@ divide_product_into-requires c =
     let n : ℕ = s.args.c in
     let left = values-whole v in
     let lent = sym (lent_length 1024 (bound s)) ∙ left in
-    let last : n - 1 + 1 ≡ n = omega (arith, positive s) in (
-      s.pre.0,
-      (
-        ap is_size (sym left) ∙ C-size s,
-        ((s.pre.1.0.z-length ∙ left, lent), (lent, ap (λ (k : ℕ). k + 1) (sym (lent_length 1024 (short s))) ∙ last ∙ left)),
-      ),
-    )
+    let last : n - 1 + 1 ≡ n = omega (arith, positive s) in record {
+      modulus = s.pre.0;
+      left_value = ap is_size (sym left) ∙ C-size s;
+      right_len = (s.pre.1.0.z-length ∙ left, lent);
+      rest_len = (lent, ap (λ (k : ℕ). k + 1) (sym (lent_length 1024 (short s))) ∙ last ∙ left);
+    }
 
 pub slice_bounds-rest-end-2 : goal.slice_bounds-rest-end-2
 slice_bounds-rest-end-2 c =
@@ -156,10 +159,11 @@ quotient_from-requires c =
     let s = start (at-values d) in
     let size : length s.args.quotient.now ≡ s.args.c = s.pre.1.1.1 in
     let above : 0 < length s.args.quotient.now = omega (arith, positive s) in
-    let below : s.args.c - 1 ≤ length s.args.quotient.now = omega arith in (
-      omega arith,
-      ((above, sym (size ∙ weights_whole d), part_order (high_whole d) below), s.pre.1.0.m-length ∙ ap (λ (n : ℕ). 2 * n) (sym size)),
-    )
+    let below : s.args.c - 1 ≤ length s.args.quotient.now = omega arith in record {
+      p_nonzero = omega arith;
+      out_nonzero = (above, sym (size ∙ weights_whole d), part_order (high_whole d) below);
+      m_len = s.pre.1.0.m-length ∙ ap (λ (n : ℕ). 2 * n) (sym size);
+    }
 
 pub shape_of-remainder : goal.shape_of-remainder
 shape_of-remainder c = (at-remainder c.before.before).remainder_from.auto.out

@@ -18,7 +18,7 @@ use Rattle.prover.proofs.rows.row_quotient_into.Goals as goal
 use Rattle.prover.proofs.rows.row_quotient_into.Goals.{After-row_sums, After-row_sums-2, Start}
 
 bound : (c : Start) → c.args.r ≤ 1024
-bound c = size_bound c.args.r c.requires.r_value.0
+bound c = size_bound c.args.r c.requires.r_value
 
 -- the start, from the first fill; the place of the first fill, from the second; the words that the fills leave
 abbrev start : After-row_sums → Start
@@ -41,7 +41,7 @@ row_sums-requires c =
     let s = c.before.before.before.before.before in
     record {
       p_nonzero = omega arith;
-      all = rows-within (lent_length 1024 (bound s)) (length s.args.z.now) (entries_of s.args.ea.now) s.requires.r_value.1.1.0;
+      all = rows-within (lent_length 1024 (bound s)) (length s.args.z.now) (entries_of s.args.ea.now) s.requires.all.0;
     }
 
 pub slice_bounds-right-end : goal.slice_bounds-right-end
@@ -80,7 +80,12 @@ divide_product_into-requires c =
     let right = filled_length _ _ (bound s) (sums-b b) b.row_sums-2.auto.out in
     let lent = sym (part_length _ _ (bound s)) ∙ left in
     let whole : length s.args.out.now + 1 ≡ s.args.r = omega (arith, size_positive s.args.r s.pre.1.0) in
-    (s.pre.0, (ap is_size (sym left) ∙ s.pre.1.0, ((sym right ∙ left, lent), (lent, whole ∙ left))))
+    record {
+      modulus = s.pre.0;
+      left_value = ap is_size (sym left) ∙ s.pre.1.0;
+      right_len = (sym right ∙ left, lent);
+      rest_len = (lent, whole ∙ left);
+    }
 
 pub shape_of-out : goal.shape_of-out
 shape_of-out c = c.divide_product_into.auto.out

@@ -15,7 +15,7 @@ use Rattle.prover.proofs.witness.private_quotient_into.Goals as goal
 use Rattle.prover.proofs.witness.private_quotient_into.Goals.{After-interpolate_into, Start}
 
 bound : (c : Start) → c.args.c ≤ 1024
-bound c = size_bound c.args.c c.requires.c_value.0.0
+bound c = size_bound c.args.c c.requires.c_value.0
 
 -- the start, from the fill with the coefficients
 abbrev start : After-interpolate_into → Start
@@ -27,10 +27,10 @@ slice_bounds-whole-end c = bound c.before.before.before
 pub interpolate_into-requires : goal.interpolate_into-requires
 interpolate_into-requires c =
     let s = c.before.before.before.before in
-    let size : length s.args.z.now ≡ s.args.c = s.requires.c_value.1.0 in
+    let size : length s.args.z.now ≡ s.args.c = s.requires.z_len.0 in
     record {
       lt_p = s.requires.lt_p;
-      out_len = (sym (size ∙ part_length _ _ (bound s)), ap is_size size ∙ s.requires.c_value.0.0);
+      out_len = (sym (size ∙ part_length _ _ (bound s)), ap is_size size ∙ s.requires.c_value.0);
     }
 
 pub slice_bounds-whole-end-2 : goal.slice_bounds-whole-end-2
@@ -43,7 +43,11 @@ quotient_into-requires c =
     let v = c.before.before.before in
     let s = start v in
     let size = filled_length _ _ (bound s) v.interpolate_into.new.out v.interpolate_into.auto.out in
-    (omega arith, (size_positive _ s.pre.1.0.1, s.pre.1.1.1 ∙ ap (λ (n : ℕ). n - s.args.x) size))
+    record {
+      p_nonzero = omega arith;
+      n_nonzero = size_positive _ s.pre.1.0.1;
+      out_len = s.pre.1.1.1 ∙ ap (λ (n : ℕ). n - s.args.x) size;
+    }
 
 pub shape_of-out : goal.shape_of-out
 shape_of-out c = c.quotient_into.auto.out

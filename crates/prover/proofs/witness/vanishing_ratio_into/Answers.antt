@@ -11,10 +11,10 @@ use Rattle.prover.proofs.witness.vanishing_ratio_into.Goals as goal
 use Rattle.prover.proofs.witness.vanishing_ratio_into.Goals.{After-fill_vanishing, Start}
 
 bound : (c : Start) → c.args.c + 1 ≤ 1025
-bound c = omega (arith, size_bound c.args.c c.requires.c_value.0.0)
+bound c = omega (arith, size_bound c.args.c c.requires.c_value.0)
 
 positive : (c : Start) → 0 < c.args.c
-positive c = size_positive c.args.c c.requires.c_value.0.0
+positive c = size_positive c.args.c c.requires.c_value.0
 
 -- the start, from the fill
 abbrev start : After-fill_vanishing → Start
@@ -46,7 +46,11 @@ quotient_into-requires c =
     let x : ℕ = s.args.x in
     let length-out : length s.args.out.now ≡ s.args.c + 1 - x = omega arith in
     let whole = filled_length _ _ (bound s) f.fill_vanishing.new.out f.fill_vanishing.auto.out in
-    (omega arith, (size_positive _ s.pre.1.0.1, length-out ∙ ap (λ (n : ℕ). n - x) whole))
+    record {
+      p_nonzero = omega arith;
+      n_nonzero = size_positive _ s.pre.1.0.1;
+      out_len = length-out ∙ ap (λ (n : ℕ). n - x) whole;
+    }
 
 pub shape_of-out : goal.shape_of-out
 shape_of-out c = c.quotient_into.auto.out

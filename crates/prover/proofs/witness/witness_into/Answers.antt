@@ -18,7 +18,7 @@ short : (c : Start) → c.args.c - c.args.x ≤ length c.args.out.now
 short c = omega arith
 
 bound : (c : Start) → c.args.c - c.args.x + 1 ≤ 1024
-bound c = omega (arith, size_bound c.args.c c.requires.c_value.0.0, size_positive c.args.x c.requires.c_value.0.1, c.requires.c_value.0.2)
+bound c = omega (arith, size_bound c.args.c c.requires.c_value.0, size_positive c.args.x c.requires.c_value.1, c.requires.c_value.2)
 
 -- the slice with its first part filled and a 0 behind it is as long as before
 padded-length : (c : Start) (e : List ℕ) → length e ≡ length (take (c.args.c - c.args.x) c.args.out.now)
@@ -44,7 +44,11 @@ slice_bounds-private_quotient_into-end c = omega arith
 pub private_quotient_into-requires : goal.private_quotient_into-requires
 private_quotient_into-requires c =
     let s = c.before.before.before in
-    (s.requires.lt_p, (s.requires.c_value.0, (s.requires.c_value.1.0, sym (part_length _ _ (short s)))))
+    record {
+      lt_p = s.requires.lt_p;
+      c_value = s.requires.c_value;
+      z_len = (s.requires.z_len.0, sym (part_length _ _ (short s)));
+    }
 
 pub offset_bounds-out-n : goal.offset_bounds-out-n
 offset_bounds-out-n c = omega arith
@@ -61,7 +65,11 @@ slice_bounds-ratio-end c = bound (start c.before.before)
 pub vanishing_ratio_into-requires : goal.vanishing_ratio_into-requires
 vanishing_ratio_into-requires c =
     let s = start c.before.before.before in
-    (s.pre.0, (s.pre.1.0, sym (part_length _ _ (bound s))))
+    record {
+      lt_p = s.pre.0;
+      c_value = s.pre.1.0;
+      out_len = sym (part_length _ _ (bound s));
+    }
 
 pub slice_bounds-ratio-end-2 : goal.slice_bounds-ratio-end-2
 slice_bounds-ratio-end-2 c =

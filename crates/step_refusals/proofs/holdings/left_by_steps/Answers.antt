@@ -12,7 +12,7 @@ use Rattle.step_refusals.proofs.holdings.left_by_steps.Goals as goal
 pub public_fits-requires : goal.public_fits-requires
 public_fits-requires c =
     let s = c in
-    omega (arith, size_bound s.args.s.x (allowed (sizes s.args.s) s.requires.s_value.0).X-size, s.requires.s_value.1)
+    omega (arith, size_bound s.args.s.x (allowed (sizes s.args.s) s.requires.s_value).X-size, s.requires.x_len)
 
 pub returns-then-not-public_fits : goal.returns-then-not-public_fits
 unfolding left_by_steps

@@ -8,7 +8,11 @@ use Rattle.step_refusals.specs.ChallengeStep.{challenge_step}
 use Rattle.step_refusals.proofs.refusals.judge_alpha.Goals as goal
 
 pub judge_challenge-requires : goal.judge_challenge-requires
-judge_challenge-requires c = (search rules, ((λ allowed. allowed.R-size), refl))
+judge_challenge-requires c = record {
+  lt_p = search rules;
+  n_value = (λ allowed. allowed.R-size);
+  most_len = refl;
+}
 
 pub returns : goal.returns
 unfolding alpha_refusal

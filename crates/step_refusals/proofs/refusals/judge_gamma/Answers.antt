@@ -14,7 +14,11 @@ pub judge_challenge-requires : goal.judge_challenge-requires
 judge_challenge-requires c =
     let k = c in
     let s = sizes k.args.s in
-    (search rules, ((λ allowed. ap is_size k.largest.ensures ∙ largest_size s allowed), refl))
+    record {
+      lt_p = search rules;
+      n_value = (λ allowed. ap is_size k.largest.ensures ∙ largest_size s allowed);
+      most_len = refl;
+    }
 
 pub returns : goal.returns
 unfolding gamma_refusal

@@ -37,7 +37,11 @@ returns-then-not-in_turn c q Q e =
 pub left_by_steps-requires : goal.left_by_steps-requires
 left_by_steps-requires c =
     let s = c in
-    (search rules, (all_true (six_size_tests (sizes s.args.s)) (in_turn_lem 6 s.args.stage (sizes s.args.s) (turn c)).sizes-allowed, search rules))
+    record {
+      lt_p = search rules;
+      s_value = all_true (six_size_tests (sizes s.args.s)) (in_turn_lem 6 s.args.stage (sizes s.args.s) (turn c)).sizes-allowed;
+      x_len = search rules;
+    }
 
 pub returns-then-not-left_by_steps : goal.returns-then-not-left_by_steps
 unfolding openings_refusal turn_refusal

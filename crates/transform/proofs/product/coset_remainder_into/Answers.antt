@@ -45,7 +45,7 @@ abbrev coset-values-into2-from-remainder-from : After-remainder_from → After-c
 coset-values-into2-from-remainder-from c = c.before.before.before.before.before
 
 bound : (c : Start) → length c.args.out.now ≤ 1024
-bound c = size_bound (length c.args.out.now) c.requires.out_value.0
+bound c = size_bound (length c.args.out.now) c.requires.out_value
 
 -- the tables for values, and what the two calls left, each in its array
 module _ (c : After-fill_tables) where
@@ -121,16 +121,12 @@ pub coset_values_into-requires : goal.coset_values_into-requires
 coset_values_into-requires c =
     let s = start-from-fill-tables c.before.before.before.before.before in
     let t = c.before.before.before.before.before in
-    let part = lent_length 1024 (bound s) in (
-      s.pre.0,
-      (
-        ap is_size (sym part) ∙ s.pre.1.0,
-        (
-          s.pre.1.1.0.0 ∙ part,
-          (parts_order part (value-powers-length t) (le_refl _), parts_order part (value-quotients-length t) (le_refl _)),
-        ),
-      ),
-    )
+    let part = lent_length 1024 (bound s) in record {
+      lt_p = s.pre.0;
+      out_value = ap is_size (sym part) ∙ s.pre.1.0;
+      f_len = s.pre.1.1.0.0 ∙ part;
+      out_in_bounds = (parts_order part (value-powers-length t) (le_refl _), parts_order part (value-quotients-length t) (le_refl _));
+    }
 
 pub slice_bounds-value_powers-end-3 : goal.slice_bounds-value_powers-end-3
 slice_bounds-value_powers-end-3 c = value-powers_holds (fill-tables-from-coset-values-into c.before)
@@ -145,16 +141,12 @@ pub coset_values_into-requires-2 : goal.coset_values_into-requires-2
 coset_values_into-requires-2 c =
     let s = start-from-coset-values-into c.before.before.before.before in
     let t = fill-tables-from-coset-values-into c.before.before.before.before in
-    let part = lent_length 1024 (bound s) in (
-      s.pre.0,
-      (
-        ap is_size (sym part) ∙ s.pre.1.0,
-        (
-          s.pre.1.1.0.1 ∙ part,
-          (parts_order part (value-powers-length t) (le_refl _), parts_order part (value-quotients-length t) (le_refl _)),
-        ),
-      ),
-    )
+    let part = lent_length 1024 (bound s) in record {
+      lt_p = s.pre.0;
+      out_value = ap is_size (sym part) ∙ s.pre.1.0;
+      f_len = s.pre.1.1.0.1 ∙ part;
+      out_in_bounds = (parts_order part (value-powers-length t) (le_refl _), parts_order part (value-quotients-length t) (le_refl _));
+    }
 
 pub slice_bounds-left-end-2 : goal.slice_bounds-left-end-2
 slice_bounds-left-end-2 c =
@@ -168,20 +160,16 @@ slice_bounds-right-end-2 c =
 
 pub remainder_from-requires : goal.remainder_from-requires
 remainder_from-requires c =
-    let s = start-from-coset-values-into2 c.before.before.before.before in (
-      s.pre.0,
-      (
-        s.pre.1.0,
-        (
-          (
-            sym (first-length (coset-values-into-from-coset-values-into2 c.before.before.before.before)),
-            sym
-                (second-length c.before.before.before.before),
-          ),
-          s.pre.1.1.1,
-        ),
-      ),
-    )
+    let s = start-from-coset-values-into2 c.before.before.before.before in record {
+      lt_p = s.pre.0;
+      out_value = s.pre.1.0;
+      left_len = (
+        sym (first-length (coset-values-into-from-coset-values-into2 c.before.before.before.before)),
+        sym
+            (second-length c.before.before.before.before),
+      );
+      out_in_bounds = s.pre.1.1.1;
+    }
 
 pub returns : goal.returns
 returns c q Q e root-word tables =

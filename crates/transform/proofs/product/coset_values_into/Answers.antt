@@ -22,7 +22,7 @@ abbrev twist-into-from-evaluate-with : After-evaluate_with → After-twist_into
 twist-into-from-evaluate-with c = c.before.before.before.before
 
 bound : (c : Start) → length c.args.out.now ≤ 1024
-bound c = size_bound (length c.args.out.now) c.requires.out_value.0
+bound c = size_bound (length c.args.out.now) c.requires.out_value
 
 -- the start, from the twist, and the twist's length
 abbrev start : After-twist_into → Start
@@ -46,7 +46,7 @@ twist_into-requires c =
     let s = c.before.before.before.before.before in
     record {
       lt_p = s.requires.lt_p;
-      f_len = s.requires.out_value.1.0 ∙ lent_length 1024 (bound s);
+      f_len = s.requires.f_len ∙ lent_length 1024 (bound s);
     }
 
 pub slice_bounds-twisted-end-2 : goal.slice_bounds-twisted-end-2
@@ -58,13 +58,11 @@ pub evaluate_with-requires : goal.evaluate_with-requires
 evaluate_with-requires c =
     let t = c.before.before.before in
     let s = start t in
-    let long = made_length t in (
-      s.pre.0,
-      (
-        (long, ap is_size (sym long) ∙ s.pre.1.0),
-        (part_order long s.pre.1.1.1.0, part_order long s.pre.1.1.1.1),
-      ),
-    )
+    let long = made_length t in record {
+      lt_p = s.pre.0;
+      out_len = (long, ap is_size (sym long) ∙ s.pre.1.0);
+      f_in_bounds = (part_order long s.pre.1.1.1.0, part_order long s.pre.1.1.1.1);
+    }
 
 pub returns : goal.returns
 returns c q Q e tables =

@@ -29,7 +29,7 @@ abbrev root-of-from-divide-with : After-divide_with → After-root_of-root
 root-of-from-divide-with c = root-of-from-fill-inverse-tables c.before.before.before.before.before.before.before.before
 
 bound : (c : Start) → length c.args.left.now ≤ 1024
-bound c = size_bound (length c.args.left.now) c.requires.left_value.0
+bound c = size_bound (length c.args.left.now) c.requires.left_value
 
 -- the tables in their arrays
 module _ (c : After-fill_inverse_tables) where

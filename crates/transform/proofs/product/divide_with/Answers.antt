@@ -64,7 +64,7 @@ abbrev coset-remainder-into-from-quotient-from : After-quotient_from → After-c
 coset-remainder-into-from-quotient-from c = c.before.before.before.before
 
 bound : (c : Start) → length c.args.left.now ≤ 1024
-bound c = size_bound (length c.args.left.now) c.requires.left_value.0
+bound c = size_bound (length c.args.left.now) c.requires.left_value
 
 fewer : {k m : ℕ} → k + 1 ≡ m → k ≤ m
 fewer e = omega arith
@@ -103,27 +103,21 @@ slice_bounds-other-end c = bound (start-from-interpolate-with c.before.before)
 pub interpolate_with-requires-2 : goal.interpolate_with-requires-2
 interpolate_with-requires-2 c =
     let s = start-from-interpolate-with c.before.before.before in
-    let right : length s.args.right.now ≡ length s.args.left.now = s.pre.1.1.1.0.0 in (
-      s.pre.0.0,
-      (
-        (sym (lent_length 1024 (bound s)) ∙ sym right, ap is_size right ∙ s.pre.1.0),
-        (part_order (sym right) s.pre.1.1.0.0, part_order (sym right) s.pre.1.1.0.1),
-      ),
-    )
+    let right : length s.args.right.now ≡ length s.args.left.now = s.pre.1.1.1.0.0 in record {
+      lt_p = s.pre.0.0;
+      out_len = (sym (lent_length 1024 (bound s)) ∙ sym right, ap is_size right ∙ s.pre.1.0);
+      values_in_bounds = (part_order (sym right) s.pre.1.1.0.0, part_order (sym right) s.pre.1.1.0.1);
+    }
 
 pub remainder_from-requires : goal.remainder_from-requires
 remainder_from-requires c =
     let s = start-from-interpolate-with2 c.before.before in
-    let rest : length s.args.rest.now ≡ length s.args.left.now = s.pre.1.1.1.1.0 in (
-      s.pre.0.0,
-      (
-        ap is_size rest ∙ s.pre.1.0,
-        (
-          (sym rest, s.pre.1.1.1.0.0 ∙ sym rest),
-          (part_order (sym rest) s.pre.1.1.0.0, part_order (sym rest) s.pre.1.1.0.1),
-        ),
-      ),
-    )
+    let rest : length s.args.rest.now ≡ length s.args.left.now = s.pre.1.1.1.1.0 in record {
+      lt_p = s.pre.0.0;
+      out_value = ap is_size rest ∙ s.pre.1.0;
+      left_len = (sym rest, s.pre.1.1.1.0.0 ∙ sym rest);
+      out_in_bounds = (part_order (sym rest) s.pre.1.1.0.0, part_order (sym rest) s.pre.1.1.0.1);
+    }
 
 pub slice_bounds-other-end-2 : goal.slice_bounds-other-end-2
 slice_bounds-other-end-2 c =
@@ -136,20 +130,16 @@ slice_bounds-turned-end c = bound (start-from-remainder-from c.before.before.bef
 pub coset_remainder_into-requires : goal.coset_remainder_into-requires
 coset_remainder_into-requires c =
     let s = start-from-remainder-from c.before.before.before.before in
-    let part = lent_length 1024 (bound s) in (
-      s.pre.0.0,
-      (
-        ap is_size (sym part) ∙ s.pre.1.0,
-        (
-          (
-            (interpolate-with-from-remainder-from c.before.before.before.before).interpolate_with.auto.out
-                ∙ s.pre.1.1.1.0.1 ∙ part,
-            sym (other_length (interpolate-with2-from-remainder-from c.before.before.before.before)) ∙ part,
-          ),
-          (part_order part s.pre.1.1.0.0, part_order part s.pre.1.1.0.1),
-        ),
-      ),
-    )
+    let part = lent_length 1024 (bound s) in record {
+      lt_p = s.pre.0.0;
+      out_value = ap is_size (sym part) ∙ s.pre.1.0;
+      f_len = (
+        (interpolate-with-from-remainder-from c.before.before.before.before).interpolate_with.auto.out
+            ∙ s.pre.1.1.1.0.1 ∙ part,
+        sym (other_length (interpolate-with2-from-remainder-from c.before.before.before.before)) ∙ part,
+      );
+      out_in_bounds = (part_order part s.pre.1.1.0.0, part_order part s.pre.1.1.0.1);
+    }
 
 pub overflow_cast-n : goal.overflow_cast-n
 overflow_cast-n c = omega (arith, bound (start-from-coset-remainder-into c.before))
@@ -164,20 +154,16 @@ pub quotient_from-requires : goal.quotient_from-requires
 quotient_from-requires c =
     let s = start-from-coset-remainder-into c.before.before.before in
     let m : ℕ = length s.args.out.now in
-    let less : m ≤ length s.args.left.now = fewer s.pre.1.1.1.1.1 in (
-      s.pre.0.0,
-      (
-        s.pre.1.0,
-        (
-          (shift_outside s.pre.0.1 _ s.pre.1.0, shift_not-zero s.pre.0.1),
-          (
-            subst (λ (k : ℕ). m ≤ k) (sym ((remainder-from-from-coset-remainder-into
-                c.before.before.before).remainder_from.auto.out ∙ s.pre.1.1.1.1.0)) less,
-            subst (λ (k : ℕ). m ≤ k) (turned_length c.before.before.before) less,
-          ),
-        ),
-      ),
-    )
+    let less : m ≤ length s.args.left.now = fewer s.pre.1.1.1.1.1 in record {
+      lt_p = s.pre.0.0;
+      n_value = s.pre.1.0;
+      outside_domain = (shift_outside s.pre.0.1 _ s.pre.1.0, shift_not-zero s.pre.0.1);
+      out_in_bounds = (
+        subst (λ (k : ℕ). m ≤ k) (sym ((remainder-from-from-coset-remainder-into
+            c.before.before.before).remainder_from.auto.out ∙ s.pre.1.1.1.1.0)) less,
+        subst (λ (k : ℕ). m ≤ k) (turned_length c.before.before.before) less,
+      );
+    }
 
 pub returns : goal.returns
 returns c q known root-word tables =

@@ -11,7 +11,7 @@ divide-share-requires c =
     let start = c in
     record {
       lt_p = start.requires.lt_p;
-      b_nonzero = vanishing-word-not-zero start.requires.n_value.1.0.0 start.requires.n_value.0 _ c.vanishing_value.ensures;
+      b_nonzero = vanishing-word-not-zero start.requires.outside_domain.0 start.requires.n_value _ c.vanishing_value.ensures;
     }
 
 pub divide-turn-requires : goal.divide-turn-requires
@@ -19,7 +19,7 @@ divide-turn-requires c =
     let start = c in
     record {
       lt_p = start.requires.lt_p;
-      b_nonzero = start.requires.n_value.1.0.1;
+      b_nonzero = start.requires.outside_domain.1;
     }
 
 pub returns : goal.returns
@@ -30,6 +30,6 @@ returns c q Q e shift f g long short is_plain is_turned =
     let share = c.divide-share in
     let turn = c.divide-turn in
     c.combine_into.ensures q e
-    ∙ ap words (quotient-words Q a.n start.requires.n_value.0 f g (length a.out.now) a.s turn.result share.result v.result
+    ∙ ap words (quotient-words Q a.n start.requires.n_value f g (length a.out.now) a.s turn.result share.result v.result
     shift long short a.plain.now a.turned.now is_plain is_turned (reciprocal_word q a.s (turn.ensures q e)) (v.ensures q e)
     (reciprocal_word q v.result (share.ensures q e)))

@@ -23,7 +23,7 @@ abbrev products-into-from-interpolate-with : After-interpolate_with → After-pr
 products-into-from-interpolate-with c = c.before.before.before.before
 
 bound : (c : Start) → length c.args.out.now ≤ 1024
-bound c = size_bound (length c.args.out.now) c.requires.out_value.0
+bound c = size_bound (length c.args.out.now) c.requires.out_value
 
 -- the start, from the products, and their length
 abbrev start : After-products_into → Start
@@ -48,7 +48,7 @@ products_into-requires c =
     let part = lent_length 1024 (bound s) in
     record {
       p_nonzero = omega (arith, s.requires.lt_p);
-      left_len = (s.requires.out_value.1.0.0 ∙ part, s.requires.out_value.1.0.1 ∙ part);
+      left_len = (s.requires.left_len.0 ∙ part, s.requires.left_len.1 ∙ part);
     }
 
 pub slice_bounds-products-end-2 : goal.slice_bounds-products-end-2
@@ -60,13 +60,11 @@ pub interpolate_with-requires : goal.interpolate_with-requires
 interpolate_with-requires c =
     let m = c.before.before.before in
     let s = start m in
-    let long = made_length m in (
-      s.pre.0,
-      (
-        (long, ap is_size (sym long) ∙ s.pre.1.0),
-        (part_order long s.pre.1.1.1.0, part_order long s.pre.1.1.1.1),
-      ),
-    )
+    let long = made_length m in record {
+      lt_p = s.pre.0;
+      out_len = (long, ap is_size (sym long) ∙ s.pre.1.0);
+      values_in_bounds = (part_order long s.pre.1.1.1.0, part_order long s.pre.1.1.1.1);
+    }
 
 pub returns : goal.returns
 returns c q Q e tables f g of_left of_right =

@@ -51,7 +51,13 @@ judge_index-fault-requires c = tt
 pub index_into-requires : goal.index_into-requires
 index_into-requires c =
     let F = fits c.before.before.before.before.before.before.before.before.before.before.before.before in
-    (lit< tt, (F.shape, (F.lent-a, (F.lent-b, F.lent-c))))
+    record {
+      lt_p = lit< tt;
+      circuit_shaped = F.shape;
+      index_lengths = F.lent-a;
+      index_lengths_2 = F.lent-b;
+      index_lengths_3 = F.lent-c;
+    }
 
 pub shape_of-rowA : goal.shape_of-rowA
 shape_of-rowA c = (filled c).index_into.auto.rowA

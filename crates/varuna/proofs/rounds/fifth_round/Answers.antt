@@ -73,7 +73,12 @@ pub joined_quotient_into-requires : goal.joined_quotient_into-requires
 unfolding lengths sizes_of circuit_of largest
 joined_quotient_into-requires c =
     let F = fits c.before in
-    (baby_bear_modulus, (shaped F.fits, (F.fits.within, one_below-largest _ _ _ _ F.lent_fit.0)))
+    record {
+      modulus = baby_bear_modulus;
+      circuit_shaped = shaped F.fits;
+      each_within = F.fits.within;
+      out_len = one_below-largest _ _ _ _ F.lent_fit.0;
+    }
 
 pub shape_of-out : goal.shape_of-out
 shape_of-out c = c.joined_quotient_into.auto.out

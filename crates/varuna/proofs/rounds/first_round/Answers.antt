@@ -74,13 +74,22 @@ pub witness_into-requires : goal.witness_into-requires
 unfolding lengths sizes_of circuit_of
 witness_into-requires c =
     let F = fits c.before in
-    (lit< tt, ((C-fits F.fits, X-fits F.fits, X-below F.fits), (F.fits.z-length, eqb-true _ _ F.lent_fit.0)))
+    record {
+      lt_p = lit< tt;
+      c_value = (C-fits F.fits, X-fits F.fits, X-below F.fits);
+      z_len = (F.fits.z-length, eqb-true _ _ F.lent_fit.0);
+    }
 
 pub row_quotient_into-requires : goal.row_quotient_into-requires
 unfolding lengths sizes_of circuit_of
 row_quotient_into-requires c =
     let F = fits c.before.before.before.before.before in
-    (baby_bear_modulus, (R-fits F.fits, (eqb-true _ _ F.lent_fit.1.0, ((shares F.fits).in_a, (shares F.fits).in_b))))
+    record {
+      modulus = baby_bear_modulus;
+      r_value = R-fits F.fits;
+      out_len = eqb-true _ _ F.lent_fit.1.0;
+      all = ((shares F.fits).in_a, (shares F.fits).in_b);
+    }
 
 pub shape_of-witness : goal.shape_of-witness
 shape_of-witness c = c.witness_into.auto.out

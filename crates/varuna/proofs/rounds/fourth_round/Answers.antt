@@ -74,13 +74,14 @@ lengths_of-requires c = tt
 pub values_into-requires : goal.values_into-requires
 unfolding lengths sizes_of circuit_of
 values_into-requires c =
-    let F = fits c.before.before.before in (
-      lit< tt,
-      (
-        shaped F.fits,
-        (F.fits.within, (one_below _ _ F.lent_fit.0, (one_below _ _ F.lent_fit.1.0, one_below _ _ F.lent_fit.1.1.0))),
-      ),
-    )
+    let F = fits c.before.before.before in record {
+      lt_p = lit< tt;
+      circuit_shaped = shaped F.fits;
+      each_within = F.fits.within;
+      ga_len = one_below _ _ F.lent_fit.0;
+      gb_len = one_below _ _ F.lent_fit.1.0;
+      gc_len = one_below _ _ F.lent_fit.1.1.0;
+    }
 
 pub shape_of-ga : goal.shape_of-ga
 shape_of-ga c = c.values_into.auto.ga

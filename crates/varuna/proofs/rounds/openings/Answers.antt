@@ -54,7 +54,11 @@ fits c =
 pub open_all-all-requires : goal.open_all-all-requires
 open_all-all-requires c =
     let a = (start c.before.before).args in
-    (lit< tt, ((fits c).ranges, points_outside baby_bear-known a.alpha a.beta a.gamma (fits c).outside))
+    record {
+      lt_p = lit< tt;
+      fits = (fits c).ranges;
+      points_outside = points_outside baby_bear-known a.alpha a.beta a.gamma (fits c).outside;
+    }
 
 pub returns-in-Fine : goal.returns-in-Fine
 unfolding openings_call

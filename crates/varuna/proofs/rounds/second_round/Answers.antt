@@ -58,7 +58,11 @@ fits c =
 pub sums_at-requires : goal.sums_at-requires
 sums_at-requires c =
     let F = fits c in
-    (lit< tt, (R-fits F.fits, shares F.fits))
+    record {
+      lt_p = lit< tt;
+      r_value = R-fits F.fits;
+      each_within = shares F.fits;
+    }
 
 pub returns-in-Fine : goal.returns-in-Fine
 unfolding second_round_call circuit_of

@@ -70,7 +70,11 @@ pub line_into-requires : goal.line_into-requires
 unfolding lengths sizes_of circuit_of
 line_into-requires c =
     let F = fits c.before.before in
-    (baby_bear_modulus, (F.fits, (eqb-true _ _ F.lent_fit.0, eqb-true _ _ F.lent_fit.1.0)))
+    record {
+      modulus = baby_bear_modulus;
+      fits = F.fits;
+      remainder_len = (eqb-true _ _ F.lent_fit.0, eqb-true _ _ F.lent_fit.1.0);
+    }
 
 pub shape_of-remainder : goal.shape_of-remainder
 shape_of-remainder c = c.line_into.auto.remainder

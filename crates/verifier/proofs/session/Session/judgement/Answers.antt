@@ -58,16 +58,12 @@ pub verdict-verdict-requires : goal.verdict-verdict-requires
 verdict-verdict-requires c =
     let t = c.before.before.before.before in
     let a = t.args in
-    let n = sizes a.self.sizes in (
-      lit< tt,
-      (
-        all_true (six_size_tests n) (passed t).0.sizes-allowed,
-        (
-          length-take-le a.self.sizes.x a.self.x (within t),
-          record { over = baby_bear-known; is-outside = (passed t).1.heard.γ-outside },
-        ),
-      ),
-    )
+    let n = sizes a.self.sizes in record {
+      lt_p = lit< tt;
+      s_value = all_true (six_size_tests n) (passed t).0.sizes-allowed;
+      x_len = length-take-le a.self.sizes.x a.self.x (within t);
+      outside_domain = record { over = baby_bear-known; is-outside = (passed t).1.heard.γ-outside };
+    }
 
 pub returns-in-Refused : goal.returns-in-Refused
 unfolding ask_step
