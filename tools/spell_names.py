@@ -24,7 +24,7 @@ QUOTED = re.compile(r"""(b?'(?:[^'\\]|\\.)'|"(?:[^"\\]|\\.)*")""", re.S)
 ON_A_LINE = re.compile(r'"[^"]*"')
 MARKS = r"(?:(?:pattern|unfoldable|abbrev|pub|axiom|record|data|ruleset) )*"
 DECLARED = re.compile(rf"^ *({MARKS})([^{DELIMITERS}:]+)(?: [^=]*?)? ?:(?: |$)")
-LIBRARY = re.compile(r"use (?:Rattle\.(?:std|core|io|libc|os)\b|Prim\b|borrow\b|mathlib\b|lib\b)[^\s{]*\.\{([^}]*)\}", re.S)
+LIBRARY = re.compile(r"use (?!Rattle\.(?!(?:std|core|io|libc|os)\b))[^\s{]*\.\{([^}]*)\}", re.S)
 TABLE = "tools/spelled_names.tsv"
 # What the rules would spell as another name of the same file, and what looks so and is not: functions of src/ of that name.
 BY_HAND = {"in-turn": "in_turn_lem", "oneIn": "one_in_many", "indexAt": "index_at", "totalPlace": "total_place"}

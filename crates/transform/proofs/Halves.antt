@@ -6,7 +6,7 @@ use mathlib.Core.Bool.{true}
 use mathlib.Core.List.{List, [], ◌∷◌, ◌++◌, append-nil}
 use Prim.Native.Nat.{ℕ, zero, suc, ◌+◌, ◌-◌, ◌*◌, ◌/◌, ◌^◌, ◌<◌}
 use native.Mathlib.Omega.{arith}
-use native.Mathlib.Nat.{mul-add, add-mul, mul_one}
+use native.Mathlib.Nat.{mul-add, add-mul, mul-one}
 use lib.Pow.{pow_pos}
 use lib.ListN.{length, take, drop, set, length-append, length-drop, drop_of_length-le}
 use lib.Seq.{take_all, take_at, drop_at}
@@ -34,7 +34,7 @@ halved n from step m s many within = let (k, l, e) = size_is-power n s in go k l
         let some : 0 < h = omega (arith, pow_pos k) in
         let doubled : n ≡ h + h = omega (arith, twice k) in
         let less : n - 1 ≡ (h - 1) + (h - 1) + 1 = omega arith in
-        let places : step * (n - 1) ≡ step * (h - 1) + step * (h - 1) + step = ap (λ j. step * j) less ∙ simp (mul-add, mul_one) in
+        let places : step * (n - 1) ≡ step * (h - 1) + step * (h - 1) + step = ap (λ j. step * j) less ∙ simp (mul-add, mul-one) in
         let both : (step + step) * (h - 1) ≡ step * (h - 1) + step * (h - 1) = add-mul step step (h - 1) in
         record {
           doubled = doubled;
