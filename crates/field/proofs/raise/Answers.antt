@@ -8,6 +8,7 @@ use Rattle.field.proofs.ElementLaws.{mul_assoc, mul_one, prime_ring}
 use Rattle.field.proofs.Field.{pow_even, pow_odd, power-is-pow}
 use Rattle.field.proofs.Words.{of-result, result-below, word-of}
 use Rattle.field.proofs.raise.Goals as goal
+use Rattle.field.proofs.raise.Goals.{then-rest-eq1, else-rest-eq1}
 
 pub loop-rest-init : goal.loop-rest-init
 loop-rest-init c q e = (one_mul (prime_ring q) _, omega arith)
@@ -20,19 +21,19 @@ loop-rest-preserved c q e =
     let b : Elem q = of l.base in
     let (product, below) = l.invariant q e in
     let square : of c.multiply-base.result ≡ b ⊗ b = of-result (b ⊗ b) (c.multiply-base.ensures q e) in
-    ⊎_elim
-    (λ w.
-    let made : c.if-rest-eq1.result ≡ (x ⊗ b).word = w.2 ∙ w.1.ensures q e in (
-      ap₂ (λ (y z : Elem q). y ⊗ pow (prime_ring q) z (n / 2)) (of-result (x ⊗ b) made) square
-          ∙ mul_assoc x b _ ∙ ap (λ (y : Elem q). x ⊗ y) (sym (pow_odd b n w.0.taken)) ∙ product,
-      result-below (x ⊗ b) made,
-    ))
-    (λ w. (
-      ap₂ (λ (y z : Elem q). y ⊗ pow (prime_ring q) z (n / 2)) (ap of w.1) square
-          ∙ ap (λ (y : Elem q). x ⊗ y) (sym (pow_even b n (omega (arith, w.0.left)))) ∙ product,
-      omega (arith, w.1, below),
-    ))
-    c.if-rest-eq1.branch
+    elim c.if-rest-eq1.branch [
+      | then-rest-eq1 w ↦
+          let made : c.if-rest-eq1.result ≡ (x ⊗ b).word = w.result-is ∙ w.multiply-result.ensures q e in (
+            ap₂ (λ (y z : Elem q). y ⊗ pow (prime_ring q) z (n / 2)) (of-result (x ⊗ b) made) square
+                ∙ mul_assoc x b _ ∙ ap (λ (y : Elem q). x ⊗ y) (sym (pow_odd b n w.if-rest-eq1.true)) ∙ product,
+            result-below (x ⊗ b) made,
+          )
+      | else-rest-eq1 w ↦ (
+        ap₂ (λ (y z : Elem q). y ⊗ pow (prime_ring q) z (n / 2)) (ap of w.result-is) square
+            ∙ ap (λ (y : Elem q). x ⊗ y) (sym (pow_even b n (omega (arith, w.if-rest-eq1.false)))) ∙ product,
+        omega (arith, w.result-is, below),
+      )
+    ]
 
 pub returns : goal.returns
 returns c q e =
