@@ -1,4 +1,4 @@
--- What the loop of `domain::lagrange_values_into` keeps. Assumes nothing.
+-- The slice gets shorter. Assumes nothing.
 use lib.ListN.{length}
 use Rattle.domain.proofs.+lagrange_values_into.Given as goal
 

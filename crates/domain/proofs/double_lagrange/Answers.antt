@@ -24,7 +24,7 @@ halves s = size_halves (length s.args.out.now) s.requires.out_value.0 s.requires
 
 pub loop-i-init : goal.loop-i-init
 loop-i-init c =
-    let s = c.before.before in
+    let s = (goal.at.loop-i-init c).Start in
     let a = s.args in
     let h : ℕ = length a.out.now / 2 in
     let (two, size) = halves s in (
@@ -48,7 +48,7 @@ loop-i-smaller c = omega arith
 pub loop-i-preserved : goal.loop-i-preserved
 loop-i-preserved c =
     let l = c.loop-i in
-    let s = c.before.before.before.before.before.before.before.before.before in
+    let s = (goal.at.loop-i-preserved c).Start in
     let a = s.args in
     let h : ℕ = length a.out.now / 2 in
     let k : ℕ = l.i - 1 in
@@ -96,7 +96,7 @@ loop-i-preserved c =
 pub returns : goal.returns
 returns c q Q e is-root filled =
     let l = c.loop-i in
-    let s = c.before.before.before.before in
+    let s = (goal.at.returns c).Start in
     let a = s.args in
     let h : ℕ = length a.out.now / 2 in
     let (two, size) = halves s in

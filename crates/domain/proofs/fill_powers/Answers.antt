@@ -1,24 +1,17 @@
 -- `domain::fill_powers` meets its contract: the entries below i are filled, and the power is the i-th. The measure is what is left of
 -- the slice. Assumes nothing.
 use mathlib.Core.Path.{◌≡◌, refl, sym, ap, ◌∙◌}
-use mathlib.Core.List.{List}
 use Prim.Native.Nat.{ℕ}
 use native.Mathlib.Omega.{arith}
 use native.Mathlib.Numerals.{add-one}
 use lib.ListN.{length, set, length-set}
-use Rattle.algebra.specs.Lists.{tabulate}
 use Rattle.algebra.specs.Ring.{pow}
-use Rattle.field.specs.Prime.{Prime}
-use Rattle.field.specs.Element.{Elem, of, ◌⊗◌, words}
+use Rattle.field.specs.Element.{Elem, of, ◌⊗◌}
 use Rattle.field.proofs.ElementLaws.{prime_ring, mul_comm}
 use Rattle.field.proofs.Words.{of-result}
 use Rattle.domain.proofs.Fill.{fill_none, rule_turn, rule_end}
 use Rattle.domain.proofs.Qualification.{one_word}
 use Rattle.domain.proofs.fill_powers.Goals as goal
-
--- what the slice is to hold
-abbrev powers : Prime → ℕ → ℕ → List ℕ
-powers q g n = words (tabulate n (pow (prime_ring q) (of g)))
 
 pub loop-i-init : goal.loop-i-init
 loop-i-init c = (omega arith, refl, λ q e. (sym (one_word q), fill_none _ _))

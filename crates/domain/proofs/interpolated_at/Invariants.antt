@@ -15,7 +15,7 @@ use Rattle.domain.proofs.interpolated_at.Given as goal
 abbrev pub invariant-loop-i : goal.invariant-loop-i
 invariant-loop-i l =
     (l.i ≤ length l.weights)
-    × ((q : Prime) → q.p ≡ l.p → (n : ℕ) (y : Elem q) → l.weights ≡ words (tabulate n (λ l.i. lagrange n (element n l.i) y))
+    × ((q : Prime) → q.p ≡ l.p → (n : ℕ) (y : Elem q) → l.weights ≡ words (tabulate n (λ i'. lagrange n (element n i') y))
     → l.sum ≡ (sums.sum (prime_ring q) l.i (term n (map of l.values) y)).word)
 
 abbrev pub decreases-loop-i : goal.decreases-loop-i

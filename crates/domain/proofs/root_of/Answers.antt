@@ -12,12 +12,6 @@ use Rattle.domain.specs.GeneratorTable.{generator_table}
 use Rattle.domain.proofs.SizeDigits.{size_trailing}
 use Rattle.domain.proofs.GeneratorLaws.{generator-is-root}
 use Rattle.domain.proofs.root_of.Goals as goal
-use Rattle.domain.proofs.root_of.Goals.{Start}
-
--- ROOTS, as the code lays it into its array, is the generator table
-roots_are_generators : (c : Start) → (lts.m1 reads.Pre reads.Post c.args c.blocks).1.1.1.0 ≡ generator_table
-unfolding generator_table
-roots_are_generators c = refl
 
 pub overflow_cast-result : goal.overflow_cast-result
 overflow_cast-result c = omega (arith, (size_trailing c.args.n c.requires).0)
@@ -29,10 +23,10 @@ pub bounds-n : goal.bounds-n
 bounds-n c = (size_trailing c.args.n c.requires).0
 
 pub returns : goal.returns
+unfolding generator_table
 returns c q known =
     let n : ℕ = c.args.n in
     let (below, power) = size_trailing n c.requires in
-    ap (λ table. get_or table (count_trailing_zeros 32 n) 0) (roots_are_generators c)
-    ∙ generator-is-root (count_trailing_zeros 32 n) below
+    generator-is-root (count_trailing_zeros 32 n) below
     ∙ ap (λ (m : ℕ). (root {q = baby_bear} m).word) (sym power)
     ∙ ap (λ (q : Prime). (root {q = q} n).word) (sym known.is_module)

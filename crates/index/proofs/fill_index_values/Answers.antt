@@ -5,20 +5,18 @@ use mathlib.Core.List.{List}
 use Prim.Native.Nat.{ℕ, ◌+◌, ◌≤◌, ◌<◌}
 use native.Mathlib.Omega.{arith}
 use lib.ListN.{length, set, length-set}
-use Rattle.algebra.specs.Lists.{tabulate}
 use Rattle.field.specs.Prime.{Prime}
 use Rattle.field.specs.Element.{Elem, of, ◌⊗◌, word_of, words}
 use Rattle.field.proofs.Words.{of-result}
 use Rattle.domain.specs.Domain.{element}
 use Rattle.domain.specs.Qualifies.{Qualifies}
-use Rattle.domain.proofs.Fill.{Filled, fill_none, rule_turn, rule_end}
+use Rattle.domain.proofs.Fill.{fill_none, rule_turn, rule_end}
 use Rattle.protocol.specs.Circuit.{Circuit}
 use Rattle.protocol.specs.Index.{Index, map_index, row_element, column_element}
-use Rattle.protocol.proofs.IndexPolynomials.{entry_index}
-use Rattle.circuit.specs.Given.{entry_words}
 use Rattle.circuit.specs.IndexLists.{index_lists}
 use Rattle.index.specs.IndexValues.{tabulate_index, Listed}
 use Rattle.index.proofs.IndexValues.{Lengths}
+use Rattle.index.proofs.fill_index_values.Invariants.{Made, values}
 use Rattle.index.proofs.fill_index_values.Goals as goal
 use Rattle.index.proofs.fill_index_values.Goals.{After-multiply, At-loop-i, Start}
 
@@ -40,13 +38,6 @@ stored-lengths n l i v h =
       rowcol-length = length-set l.rowcol i v.rowcol ∙ h.rowcol-length;
       rowcolval-length = length-set l.rowcolval i v.rowcolval ∙ h.rowcolval-length;
     }
-
--- the first i words of each list are those of the values
-record Made (q : Prime) (n : ℕ) (f : ℕ → Index (Elem q)) (l : Index (List ℕ)) (i : ℕ) : Type 0 where
-  row : Filled (words (tabulate n (λ j. (f j).row))) l.row i
-  col : Filled (words (tabulate n (λ j. (f j).col))) l.col i
-  rowcol : Filled (words (tabulate n (λ j. (f j).rowcol))) l.rowcol i
-  rowcolval : Filled (words (tabulate n (λ j. (f j).rowcolval))) l.rowcolval i
 
 module _ {q : Prime} (n : ℕ) (f : ℕ → Index (Elem q)) (l : Index (List ℕ)) where
   made_none : Made q n f l 0
@@ -72,10 +63,6 @@ module _ {q : Prime} (n : ℕ) (f : ℕ → Index (Elem q)) (l : Index (List ℕ
           rowcol = rule_end n (λ j. (f j).rowcol) l.rowcol i h.rowcol-length past m.rowcol t;
           rowcolval = rule_end n (λ j. (f j).rowcolval) l.rowcolval i h.rowcolval-length past m.rowcolval t;
         }
-
--- the values at each place
-abbrev values : (q : Prime) → Circuit → List ℕ → ℕ → Index (Elem q)
-values q k entries i = entry_index k (entry_words entries i)
 
 -- the loop's head, from the end of a turn, and the start from there; the words that the turn stores
 abbrev head : After-multiply → At-loop-i

@@ -6,22 +6,18 @@ use mathlib.Core.List.{List, map}
 use Prim.Native.Nat.{ℕ, ◌<◌}
 use native.Mathlib.Omega.{arith}
 use native.Mathlib.Numerals.{add-one}
-use lib.ListN.{get_or, take}
+use lib.ListN.{get_or}
 use lib.Seq.{take_all}
 use Rattle.algebra.specs.Polynomial.{Running, running, map_running}
 use Rattle.algebra.proofs.PartLaws.{part_none}
-use Rattle.field.specs.Prime.{Prime}
 use Rattle.field.specs.Element.{Elem, of, word_of, ◌⊕◌, ◌⊗◌}
 use Rattle.field.proofs.ElementLaws.{prime_ring, add_comm}
 use Rattle.field.proofs.Words.{of-result}
 use Rattle.domain.specs.Polynomial.{eval_part}
 use Rattle.domain.proofs.RunningWords.{words_back, one_more}
 use Rattle.poly.specs.Meanings.{under_way}
+use Rattle.poly.proofs.evaluate_part.Invariants.{after}
 use Rattle.poly.proofs.evaluate_part.Goals as goal
-
--- after the first i coefficients, in elements
-abbrev after : (q : Prime) → Running ℕ → ℕ → List ℕ → ℕ → Running (Elem q)
-after q r x part i = eval_part (map_running of r) (of x) (map of (take i part))
 
 pub loop-i-init : goal.loop-i-init
 loop-i-init c = (

@@ -1,11 +1,17 @@
 -- What the loop of `poly::evaluate_part` keeps. Assumes nothing.
 use mathlib.Core.Path.{◌≡◌}
-use Prim.Native.Nat.{◌-◌, ◌<◌, ◌≤◌}
-use lib.ListN.{length}
-use Rattle.algebra.specs.Polynomial.{running, map_running}
+use mathlib.Core.List.{List, map}
+use Prim.Native.Nat.{ℕ, ◌-◌, ◌<◌, ◌≤◌}
+use lib.ListN.{length, take}
+use Rattle.algebra.specs.Polynomial.{Running, running, map_running}
 use Rattle.field.specs.Prime.{Prime}
-use Rattle.field.specs.Element.{word_of}
+use Rattle.field.specs.Element.{Elem, of, word_of}
+use Rattle.domain.specs.Polynomial.{eval_part}
 use Rattle.poly.proofs.evaluate_part.Given as goal
+
+-- after the first i coefficients, in elements
+abbrev pub after : (q : Prime) → Running ℕ → ℕ → List ℕ → ℕ → Running (Elem q)
+after q r x part i = eval_part (map_running of r) (of x) (map of (take i part))
 
 abbrev pub invariant-loop-i : goal.invariant-loop-i
 invariant-loop-i l =

@@ -1,16 +1,13 @@
 -- `transform::fold_levels` meets its contract: the places from j to the middle are done. The measure is j. Assumes nothing.
 use mathlib.Core.Path.{◌≡◌, refl, sym, ap, ◌∙◌}
 use mathlib.Core.List.{List}
-use Prim.Native.Nat.{ℕ, ◌+◌, ◌-◌, ◌/◌, ◌≤◌, ◌<◌}
+use Prim.Native.Nat.{ℕ, ◌+◌, ◌-◌, ◌/◌, ◌<◌}
 use native.Mathlib.Omega.{arith}
 use native.Mathlib.Decide.{ℕ_discrete}
 use lib.ListN.{length, get_or, set, length-set}
 use lib.Seq.{get_or-set_same, get_or-set_other}
+use Rattle.transform.proofs.fold_levels.Invariants.{Doubled}
 use Rattle.transform.proofs.fold_levels.Goals as goal
-
--- the places from j to h hold what stands at twice their place
-abbrev Doubled : List ℕ → ℕ → ℕ → Type 0
-Doubled l j h = (i : ℕ) → 0 < i → j ≤ i → i < h → get_or l i 0 ≡ get_or l (i + i) 0
 
 -- one place more
 doubled_turn : (l : List ℕ) (j h : ℕ) → 0 < j → j < length l → Doubled l (j + 1) h → Doubled (set l j (get_or l (j + j) 0)) j h

@@ -6,11 +6,8 @@ use native.Mathlib.Omega.{arith}
 use native.Mathlib.Decide.{ℕ_discrete}
 use lib.ListN.{length, get_or, set, length-set}
 use lib.Seq.{get_or-set_same, get_or-set_other}
+use Rattle.transform.proofs.prepare_all.Invariants.{PreparedTo}
 use Rattle.transform.proofs.prepare_all.Goals as goal
-
--- the words below i with their quotients
-abbrev PreparedTo : ℕ → List ℕ → List ℕ → ℕ → Type 0
-PreparedTo p powers quotients i = (n : ℕ) → n < i → get_or powers n 0 < p → get_or quotients n 0 ≡ get_or powers n 0 * 4294967296 / p
 
 -- one word more
 prepared_turn : (p : ℕ) (powers quotients : List ℕ) (i v : ℕ) → i < length quotients → PreparedTo p powers quotients i

@@ -1,22 +1,18 @@
 -- `circuit::checks::check_entries` meets its contract: the entries passed fit and rise. Assumes nothing.
 use mathlib.Core.Path.{◌≡◌, refl, sym, ◌∙◌}
-use mathlib.Core.Bool.{Bool, true}
+use mathlib.Core.Bool.{true}
 use mathlib.Core.List.{List}
 use Prim.Native.Nat.{ℕ, ◌/◌}
 use native.Mathlib.Omega.{arith}
 use lib.ListN.{length}
 use borrow.Author.Tests.{not-true, not-false}
 use Rattle.protocol.specs.Circuit.{Circuit}
-use Rattle.protocol.specs.Refusals.{entry_tests}
 use Rattle.protocol.specs.Calls.{entries_of}
 use Rattle.protocol.proofs.EntryLists.{length-entries_of}
 use Rattle.protocol.proofs.Rows.{passed_none, passed_turn, passed_stop, passed_end}
 use Rattle.circuit.proofs.Entries.{length-entry_tests}
+use Rattle.circuit.proofs.checks.check_entries.Invariants.{tests}
 use Rattle.circuit.proofs.checks.check_entries.Goals as goal
-
--- the tests, and how many they are
-abbrev tests : Circuit → List ℕ → List Bool
-tests k entries = entry_tests k (entries_of entries)
 
 tests_count : (k : Circuit) (entries : List ℕ) → length (tests k entries) ≡ length entries / 3
 tests_count k entries = omega (arith, length-entry_tests k (entries_of entries), length-entries_of entries)

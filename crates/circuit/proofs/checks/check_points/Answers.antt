@@ -12,13 +12,11 @@ use Rattle.domain.specs.Size.{is_size}
 use Rattle.domain.specs.Domain.{inside}
 use Rattle.domain.specs.Qualifies.{Qualifies}
 use Rattle.poly.proofs.WordLists.{element-at}
-use Rattle.protocol.specs.Refusals.{pairs, challenge_refusal}
+use Rattle.protocol.specs.Refusals.{challenge_refusal}
 use Rattle.protocol.proofs.Rows.{passed_none, passed_turn, passed_stop, passed_end, length_pairs, pairs-at}
+use Rattle.circuit.proofs.checks.check_points.Invariants.{tests}
 use Rattle.circuit.proofs.checks.check_points.Goals as goal
 use Rattle.circuit.proofs.checks.check_points.Goals.{After-is_inside, Start}
-
-abbrev tests : (q : Prime) (ns points : List ℕ) → List Bool
-tests q ns points = pairs (λ (n : ℕ) (y : Elem q). not (inside n y)) ns (map of points)
 
 -- how many they are, and the test at place i
 tests_count : (q : Prime) (ns points : List ℕ) → length points ≤ length ns → length (tests q ns points) ≡ length points

@@ -1,19 +1,12 @@
 -- `circuit::checks::check_rows` meets its contract: the rows passed are satisfied. Assumes nothing.
 use mathlib.Core.Path.{sym, ◌∙◌}
-use mathlib.Core.Bool.{Bool, true}
-use mathlib.Core.List.{List}
-use Prim.Native.Nat.{ℕ}
+use mathlib.Core.Bool.{true}
 use native.Mathlib.Omega.{arith}
 use borrow.Author.Tests.{eq-eqb, ne_eqb}
-use Rattle.algebra.specs.Lists.{tabulate}
-use Rattle.field.specs.Prime.{Prime}
-use Rattle.field.specs.Element.{Elem, equal, ◌⊗◌}
 use Rattle.protocol.proofs.Rows.{passed_none, passed_turn, passed_stop, passed_end}
 use Rattle.circuit.proofs.Sums.{rows-count, row_test_lem}
+use Rattle.circuit.proofs.checks.check_rows.Invariants.{tests}
 use Rattle.circuit.proofs.checks.check_rows.Goals as goal
-
-abbrev tests : (q : Prime) → ℕ → (ℕ → Elem q) → (ℕ → Elem q) → (ℕ → Elem q) → List Bool
-tests q n s t u = tabulate n (λ i. equal (s i ⊗ t i) (u i))
 
 pub loop-i-init : goal.loop-i-init
 loop-i-init c = (omega arith, λ q e n s t u el er ep. passed_none 9 0 _)

@@ -1,12 +1,17 @@
 -- What the loop of `circuit::checks::check_rows` keeps. Assumes nothing.
 use mathlib.Core.Path.{◌≡◌}
+use mathlib.Core.Bool.{Bool}
+use mathlib.Core.List.{List}
 use Prim.Native.Nat.{ℕ, ◌-◌, ◌≤◌}
 use lib.ListN.{length}
 use Rattle.algebra.specs.Lists.{tabulate}
 use Rattle.field.specs.Prime.{Prime}
-use Rattle.field.specs.Element.{Elem, words}
+use Rattle.field.specs.Element.{Elem, words, equal, ◌⊗◌}
 use Rattle.protocol.proofs.Rows.{Passed}
 use Rattle.circuit.proofs.checks.check_rows.Given as goal
+
+abbrev pub tests : (q : Prime) → ℕ → (ℕ → Elem q) → (ℕ → Elem q) → (ℕ → Elem q) → List Bool
+tests q n s t u = tabulate n (λ i. equal (s i ⊗ t i) (u i))
 
 abbrev pub invariant-loop-i : goal.invariant-loop-i
 invariant-loop-i l =

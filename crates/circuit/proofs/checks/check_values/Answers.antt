@@ -1,19 +1,12 @@
 -- `circuit::checks::check_values` meets its contract: the values passed are below p. Assumes nothing.
 use mathlib.Core.Path.{refl, sym, ◌∙◌}
-use mathlib.Core.Bool.{Bool, true}
-use mathlib.Core.List.{List, map}
-use Prim.Native.Nat.{ℕ}
+use mathlib.Core.Bool.{true}
 use native.Mathlib.Omega.{arith}
-use lib.Dec.{ltb}
 use borrow.Author.Tests.{lt-ltb, le-ltb}
-use Rattle.protocol.specs.Circuit.{Entry}
-use Rattle.protocol.specs.Calls.{entries_of}
 use Rattle.protocol.proofs.Rows.{passed_none, passed_turn, passed_stop, passed_end}
 use Rattle.circuit.proofs.Entries.{values-count, value_test}
+use Rattle.circuit.proofs.checks.check_values.Invariants.{tests}
 use Rattle.circuit.proofs.checks.check_values.Goals as goal
-
-abbrev tests : ℕ → List ℕ → List Bool
-tests p l = map (λ w. ltb w p) (map (λ (e : Entry). e.value) (entries_of l))
 
 pub loop-i-init : goal.loop-i-init
 loop-i-init c = (omega arith, passed_none 6 _ _)

@@ -1,23 +1,15 @@
 -- `matrix_sumcheck::matrix::terms_into` meets its contract: the first i words are those of the terms. The measure is what is left of the
 -- slice. Assumes nothing.
 use mathlib.Core.Path.{refl, ap, ap₂, ◌∙◌}
-use mathlib.Core.List.{List}
-use Prim.Native.Nat.{ℕ}
 use native.Mathlib.Omega.{arith}
 use lib.ListN.{length, length-set}
-use Rattle.field.specs.Prime.{Prime}
 use Rattle.field.specs.Element.{Elem, of, ◌⊗◌, words}
 use Rattle.field.proofs.Words.{of-result}
 use Rattle.domain.proofs.Fill.{fill_none, rule_turn, rule_end}
 use Rattle.domain.proofs.SizeLaws.{size_fits, size_holds}
-use Rattle.circuit.specs.Given.{entry_words}
-use Rattle.matrix_sumcheck.specs.MatrixGiven.{product_of}
 use Rattle.matrix_sumcheck.proofs.MatrixTerms.{few-entries, terms_made}
+use Rattle.matrix_sumcheck.proofs.matrix.terms_into.Invariants.{rule}
 use Rattle.matrix_sumcheck.proofs.matrix.terms_into.Goals as goal
-
--- what the slice is to hold
-abbrev rule : (q : Prime) → List ℕ → List ℕ → List ℕ → ℕ → Elem q
-rule q rows columns entries i = of (entry_words entries i).value ⊗ product_of rows columns (entry_words entries i)
 
 pub loop-i-init : goal.loop-i-init
 loop-i-init c = (omega arith, refl, λ q e. fill_none _ _)

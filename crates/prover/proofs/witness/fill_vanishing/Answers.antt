@@ -1,20 +1,14 @@
 -- `prover::witness::fill_vanishing` meets its contract: the entries below i are filled. The measure is what is left of the slice.
 -- Assumes nothing.
 use mathlib.Core.Path.{refl}
-use mathlib.Core.List.{List}
 use Prim.Native.Nat.{ℕ, ◌-◌}
 use native.Mathlib.Omega.{arith}
 use lib.ListN.{length, length-set}
-use Rattle.field.specs.Prime.{Prime}
-use Rattle.field.specs.Element.{words}
 use Rattle.domain.specs.Polynomial.{vanishing_poly}
 use Rattle.domain.proofs.DomainLaws.{length-vanishing_poly}
 use Rattle.domain.proofs.Fill.{fill_none, fill_turn, fill_end, length-words}
+use Rattle.prover.proofs.witness.fill_vanishing.Invariants.{coefficients}
 use Rattle.prover.proofs.witness.fill_vanishing.Goals as goal
-
--- what the slice is to hold
-abbrev coefficients : Prime → ℕ → List ℕ
-coefficients q n = words (vanishing_poly {q = q} n)
 
 pub overflow_sub-n : goal.overflow_sub-n
 overflow_sub-n c = omega arith

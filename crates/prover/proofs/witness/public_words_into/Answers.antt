@@ -6,14 +6,10 @@ use Prim.Native.Nat.{ℕ, ◌*◌, ◌≤◌, ◌<◌}
 use native.Mathlib.Omega.{arith}
 use native.Mathlib.Nat.{mul-le-mul_right, suc-mul}
 use lib.ListN.{length, get_or, length-set}
-use Rattle.algebra.specs.Lists.{tabulate}
 use Rattle.algebra.proofs.PolynomialLaws.{length-tabulate, get_d_tabulate}
 use Rattle.domain.proofs.Fill.{fill_none, fill_turn, fill_end}
+use Rattle.prover.proofs.witness.public_words_into.Invariants.{picked}
 use Rattle.prover.proofs.witness.public_words_into.Goals as goal
-
--- what the slice is to hold
-abbrev picked : ℕ → List ℕ → ℕ → List ℕ
-picked step z n = tabulate n (λ i. get_or z (i * step) 0)
 
 -- the place that is read in turn i
 place_below : (i n step z : ℕ) → i < n → 0 < step → n * step ≤ z → i * step < z

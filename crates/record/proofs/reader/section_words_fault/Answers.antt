@@ -1,26 +1,21 @@
 -- `record::reader::section_words_fault` meets its contract: every word passed so far is below p. Assumes nothing.
 use mathlib.Core.Path.{◌≡◌, sym, ◌∙◌}
-use mathlib.Core.Bool.{Bool, false}
-use mathlib.Core.List.{List, map}
+use mathlib.Core.Bool.{false}
+use mathlib.Core.List.{List}
 use Prim.Native.Nat.{ℕ, ◌*◌, ◌<◌, ◌-◌}
 use native.Mathlib.Omega.{arith}
 use lib.Dec.{ltb}
-use lib.ListN.{length, get_or, take}
+use lib.ListN.{length, get_or}
 use borrow.Author.Rules.{rules}
 use borrow.Author.Tests.{lt-ltb, le-ltb}
-use Rattle.protocol.specs.Record.{word_at, words_in}
+use Rattle.protocol.specs.Record.{word_at}
 use Rattle.protocol.specs.Refusals.{trailer_bytes}
 use Rattle.protocol.proofs.Rows.{passed_none, passed_turn, passed_stop, passed_end, word_row}
 use Rattle.record.proofs.Rows.{laid, whole-sections}
 use Rattle.record.proofs.WordList as word-list
+use Rattle.record.proofs.reader.section_words_fault.Invariants.{words, tests}
 use Rattle.record.proofs.reader.section_words_fault.Goals as goal
 use Rattle.record.proofs.reader.section_words_fault.Goals.{After-section_word_count-count}
-
-abbrev words : List ℕ → List ℕ
-words bytes = words_in (take (length bytes - trailer_bytes) bytes)
-
-abbrev tests : ℕ → List ℕ → List Bool
-tests p bytes = map (λ w. ltb w p) (words bytes)
 
 -- the tests, from where their count is known
 module _ (b : After-section_word_count-count) where

@@ -11,9 +11,6 @@ use lib.ListN.{length-map}
 use Rattle.protocol.proofs.Rows.{passed_none, passed_turn, passed_stop, passed_end, map_at}
 use Rattle.shared.proofs.scans.judge_words.Goals as goal
 
-abbrev tests : ℕ → List ℕ → List Bool
-tests p words = map (λ w. ltb w p) words
-
 pub loop-i-init : goal.loop-i-init
 loop-i-init c = (search rules, passed_none 6 _ _)
 

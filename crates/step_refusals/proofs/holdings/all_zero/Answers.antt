@@ -1,7 +1,7 @@
 -- `step_refusals::holdings::all_zero` meets its contract: the words before i are 0. Assumes nothing.
 use mathlib.Core.Path.{◌≡◌, refl, sym, ap, ◌∙◌}
-use mathlib.Core.Bool.{Bool, ◌&&◌}
-use mathlib.Core.List.{List, map}
+use mathlib.Core.Bool.{◌&&◌}
+use mathlib.Core.List.{List}
 use Prim.Native.Nat.{ℕ, suc, ◌≤◌, ◌<◌}
 use native.Mathlib.Numerals.{add-one}
 use native.Mathlib.Omega.{arith}
@@ -10,12 +10,8 @@ use lib.ListN.{length, drop, get_or, drop_of_length-le}
 use lib.Seq.{drop-cons}
 use borrow.Author.Rules.{rules}
 use borrow.Author.Tests.{eq-eqb, ne_eqb}
-use Rattle.protocol.specs.Session.{all}
+use Rattle.step_refusals.proofs.holdings.all_zero.Invariants.{zeros}
 use Rattle.step_refusals.proofs.holdings.all_zero.Goals as goal
-
--- the test of a list of words
-abbrev zeros : List ℕ → Bool
-zeros l = all (map (λ w. eqb w 0) l)
 
 -- the test from place i on
 zeros_from : (l : List ℕ) (i : ℕ) → i < length l → zeros (drop i l) ≡ (eqb (get_or l i 0) 0 && zeros (drop (suc i) l))

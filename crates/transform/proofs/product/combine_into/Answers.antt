@@ -6,18 +6,14 @@ use native.Mathlib.Omega.{arith}
 use lib.ListN.{length, get_or, length-set}
 use Rattle.algebra.specs.Lists.{tabulate}
 use Rattle.algebra.specs.Ring.{pow}
-use Rattle.field.specs.Prime.{Prime}
 use Rattle.field.specs.Element.{Elem, of, ◌⊗◌, ◌⊖◌, words}
 use Rattle.field.proofs.ElementLaws.{prime_ring}
 use Rattle.field.proofs.Words.{of-result}
 use Rattle.domain.proofs.Fill.{fill_none, fill_turn, fill_end, length_rule_words, rule_word-at}
 use Rattle.domain.proofs.Qualification.{one_word}
 use Rattle.transform.proofs.CosetWords.{next_power}
+use Rattle.transform.proofs.product.combine_into.Invariants.{rule}
 use Rattle.transform.proofs.product.combine_into.Goals as goal
-
--- what the slice is to hold
-abbrev rule : (q : Prime) → ℕ → ℕ → List ℕ → List ℕ → ℕ → Elem q
-rule q s share plain turned i = (pow (prime_ring q) (of s) i ⊗ of (get_or turned i 0) ⊖ of (get_or plain i 0)) ⊗ of share
 
 pub loop-i-init : goal.loop-i-init
 loop-i-init c = (omega arith, refl, λ q e. (sym (one_word q), fill_none _ _))

@@ -1,17 +1,10 @@
 -- `transform::product::products_into` meets its contract: the entries below i are filled. Assumes nothing.
 use mathlib.Core.Path.{refl}
-use mathlib.Core.List.{List}
-use Prim.Native.Nat.{ℕ}
 use native.Mathlib.Omega.{arith}
-use lib.ListN.{length, get_or, length-set}
-use Rattle.field.specs.Prime.{Prime}
-use Rattle.field.specs.Element.{Elem, of, ◌⊗◌}
+use lib.ListN.{length, length-set}
 use Rattle.domain.proofs.Fill.{fill_none, rule_turn, rule_end}
+use Rattle.transform.proofs.product.products_into.Invariants.{rule}
 use Rattle.transform.proofs.product.products_into.Goals as goal
-
--- what the slice is to hold at place i
-abbrev rule : (q : Prime) → List ℕ → List ℕ → ℕ → Elem q
-rule q left right i = of (get_or left i 0) ⊗ of (get_or right i 0)
 
 pub loop-i-init : goal.loop-i-init
 loop-i-init c = (omega arith, refl, λ q e. fill_none _ _)

@@ -1,12 +1,17 @@
 -- What the loop of `transform::product::products_into` keeps. Assumes nothing.
 use mathlib.Core.Path.{◌≡◌}
-use Prim.Native.Nat.{◌-◌, ◌≤◌}
-use lib.ListN.{length}
+use mathlib.Core.List.{List}
+use Prim.Native.Nat.{ℕ, ◌-◌, ◌≤◌}
+use lib.ListN.{length, get_or}
 use Rattle.algebra.specs.Lists.{tabulate}
 use Rattle.field.specs.Prime.{Prime}
-use Rattle.field.specs.Element.{words}
+use Rattle.field.specs.Element.{Elem, of, ◌⊗◌, words}
 use Rattle.domain.proofs.Fill.{Filled}
 use Rattle.transform.proofs.product.products_into.Given as goal
+
+-- what the slice is to hold at place i
+abbrev pub rule : (q : Prime) → List ℕ → List ℕ → ℕ → Elem q
+rule q left right i = of (get_or left i 0) ⊗ of (get_or right i 0)
 
 abbrev pub invariant-loop-i : goal.invariant-loop-i
 invariant-loop-i l =
