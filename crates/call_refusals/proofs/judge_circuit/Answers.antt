@@ -39,22 +39,22 @@ is_fine-requires c = tt
 
 pub returns-then-not-is_fine : goal.returns-then-not-is_fine
 returns-then-not-is_fine c q e =
-    let j = c.before.before in
+    let j = (goal.at.returns-then-not-is_fine c).After-judge_index_shape-shape in
     stops j.judge_index_shape-shape.result {o = index_shape_refusal (circuit j)} j.judge_index_shape-shape.ensures (contents q j)
     (sym c.is_fine.ensures ∙ not-true _ c.if-not-is_fine.true)
     ∙ sym (circuit_in_parts q (circuit j))
 
 pub judge_index_contents-requires : goal.judge_index_contents-requires
 judge_index_contents-requires c =
-    let j = c.before.before in
+    let j = (goal.at.judge_index_contents-requires c).After-judge_index_shape-shape in
     let a = (start j).args in
     (index_shape_fits a.r a.c a.x a.ea.now a.eb.now a.ec.now
-    (fine_none j.judge_index_shape-shape.result {o = index_shape_refusal (circuit j)} j.judge_index_shape-shape.ensures (shape_fine c))).lists
+    (fine_none j.judge_index_shape-shape.result {o = index_shape_refusal (circuit j)} j.judge_index_shape-shape.ensures (shape_fine (goal.at.judge_index_contents-requires c).Else-not-is_fine))).lists
 
 pub returns : goal.returns
 unfolding circuit_of
 returns c q e =
-    let d = c.before in
+    let d = (goal.at.returns c).Else-not-is_fine in
     let j = d.before.before in
     goes_on j.judge_index_shape-shape.result {o = index_shape_refusal (circuit j)} j.judge_index_shape-shape.ensures (contents q j) (shape_fine d)
     (last_answer_lem (c.judge_index_contents.ensures q e (circuit_of (circuit j)) refl refl refl))

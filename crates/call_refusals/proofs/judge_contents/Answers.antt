@@ -123,7 +123,7 @@ is_fine-requires c = tt
 pub returns-then-not-is_fine : goal.returns-then-not-is_fine
 unfolding contents_refusal
 returns-then-not-is_fine c q Q e k er ec matrices =
-    let w = c.before.before in
+    let w = (goal.at.returns-then-not-is_fine c).After-check_call_words-in_words in
     let s = from-words w in
     stops w.check_call_words-in_words.result {o = words q k s} (w.check_call_words-in_words.ensures q e k matrices) (after-words q k s)
     (sym c.is_fine.ensures ∙ not-true _ c.if-not-is_fine.true)
@@ -133,7 +133,7 @@ is_fine-requires-2 c = tt
 
 pub returns-then-not-is_fine-2 : goal.returns-then-not-is_fine-2
 returns-then-not-is_fine-2 c q Q e k er ec matrices =
-    let t = c.before.before in
+    let t = (goal.at.returns-then-not-is_fine-2 c).After-check_three_entries-in_entries in
     pass_words q Q k t.before (record { prime = e; rows = er; columns = ec; matrices = matrices })
     (stops t.check_three_entries-in_entries.result (t.check_three_entries-in_entries.ensures k er ec matrices) (after-entries q k (from_entries t))
     (sym c.is_fine-2.ensures ∙ not-true _ c.if-not-is_fine-2.true))
@@ -143,7 +143,7 @@ is_fine-requires-3 c = tt
 
 pub returns-then-not-is_fine-3 : goal.returns-then-not-is_fine-3
 returns-then-not-is_fine-3 c q Q e k er ec matrices =
-    let m = c.before.before in
+    let m = (goal.at.returns-then-not-is_fine-3 c).After-check_mask-in_mask in
     pass_entries q Q k m.before (record { prime = e; rows = er; columns = ec; matrices = matrices })
     (stops m.check_mask-in_mask.result (m.check_mask-in_mask.ensures q Q e k ec) (after-mask q k (from-mask m))
     (sym c.is_fine-3.ensures ∙ not-true _ c.if-not-is_fine-3.true))
@@ -170,7 +170,7 @@ is_fine-requires-4 c = tt
 
 pub returns-then-not-is_fine-4 : goal.returns-then-not-is_fine-4
 returns-then-not-is_fine-4 c q Q e k er ec matrices =
-    let o = c.before.before in
+    let o = (goal.at.returns-then-not-is_fine-4 c).After-judge_constant-in_constant in
     pass_mask q Q k o.before (record { prime = e; rows = er; columns = ec; matrices = matrices })
     (stops o.judge_constant-in_constant.result o.judge_constant-in_constant.ensures (after-constant q k (from-constant o))
     (sym c.is_fine-4.ensures ∙ not-true _ c.if-not-is_fine-4.true))
@@ -191,7 +191,7 @@ is_fine-requires-5 c = tt
 
 pub returns-then-not-is_fine-5 : goal.returns-then-not-is_fine-5
 returns-then-not-is_fine-5 c q Q e k er ec matrices =
-    let r = c.before.before in
+    let r = (goal.at.returns-then-not-is_fine-5 c).After-check_assignment-in_rows in
     pass_constant q Q k r.before (record { prime = e; rows = er; columns = ec; matrices = matrices })
     (stops r.check_assignment-in_rows.result (r.check_assignment-in_rows.ensures q e k er matrices) (after-rows q k (from-rows r))
     (sym c.is_fine-5.ensures ∙ not-true _ c.if-not-is_fine-5.true))
@@ -202,7 +202,7 @@ largest_size-requires c = tt
 pub check_points-requires : goal.check_points-requires
 unfolding circuit_of
 check_points-requires c =
-    let s = from-rows c.before.before.before in
+    let s = from-rows (goal.at.check_points-requires c).After-check_assignment-in_rows in
     let h = s.pre.1.0 in
     let size : is_size c.largest_size.result ≡ true =
     ap is_size (c.largest_size.ensures (circuit s) refl ∙ largest_by_counts (circuit s) s.args.ea.now s.args.eb.now s.args.ec.now refl)
@@ -215,7 +215,7 @@ check_points-requires c =
 
 pub returns : goal.returns
 returns c q Q e k er ec matrices =
-    let l = c.before.before in
+    let l = (goal.at.returns c).Else-not-is_fine-5 in
     let a = (from-rows l.before.before).args in
     let same : a.r ∷ a.c ∷ l.largest_size.result ∷ [] ≡ k.|R| ∷ k.|C| ∷ largest (sizes_of k).|K| ∷ [] =
     ap₂ ◌∷◌ (sym er) (ap₂ ◌∷◌ (sym ec) (ap (λ (n : ℕ). n ∷ []) (l.largest_size.ensures k matrices))) in

@@ -74,7 +74,7 @@ is_fine-requires c = tt
 
 pub returns-then-not-is_fine : goal.returns-then-not-is_fine
 returns-then-not-is_fine c q e =
-    let j = c.before.before in
+    let j = (goal.at.returns-then-not-is_fine c).After-judge_index_shape-shape in
     let s = from-shape j in
     stops j.judge_index_shape-shape.result {o = index_shape_refusal (circuit s)} j.judge_index_shape-shape.ensures (after_shape s q)
     (sym c.is_fine.ensures ∙ not-true _ c.if-not-is_fine.true)
@@ -91,13 +91,13 @@ is_fine-requires-2 c = tt
 
 pub returns-then-not-is_fine-2 : goal.returns-then-not-is_fine-2
 returns-then-not-is_fine-2 c q e =
-    let l = c.before.before in
+    let l = (goal.at.returns-then-not-is_fine-2 c).After-check_lent-slices in
     pass_shape q l.before.before.before.before
     (stops l.check_lent-slices.result (slices l) (contents (from-lent l) q ∷ []) (sym c.is_fine-2.ensures ∙ not-true _ c.if-not-is_fine-2.true))
 
 pub judge_index_contents-requires : goal.judge_index_contents-requires
 judge_index_contents-requires c =
-    let d = c.before.before.before.before.before.before in
+    let d = (goal.at.judge_index_contents-requires c).Else-not-is_fine in
     let j = d.before.before in
     let s = from-shape j in
     (index_shape_fits s.args.r s.args.c s.args.x s.args.ea.now s.args.eb.now s.args.ec.now

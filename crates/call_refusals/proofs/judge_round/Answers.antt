@@ -70,7 +70,7 @@ is_fine-requires c = tt
 
 pub returns-then-not-is_fine : goal.returns-then-not-is_fine
 returns-then-not-is_fine c q Q e =
-    let j = c.before.before in
+    let j = (goal.at.returns-then-not-is_fine c).After-judge_shape-shape in
     stops j.judge_shape-shape.result {o = shape (from-shape j)} j.judge_shape-shape.ensures (after_shape q (from-shape j))
     (sym c.is_fine.ensures ∙ not-true _ c.if-not-is_fine.true)
     ∙ in_parts q (from-shape j)
@@ -83,18 +83,18 @@ is_fine-requires-2 c = tt
 
 pub returns-then-not-is_fine-2 : goal.returns-then-not-is_fine-2
 returns-then-not-is_fine-2 c q Q e =
-    let l = c.before.before in
+    let l = (goal.at.returns-then-not-is_fine-2 c).After-check_lent-slices in
     pass_shape q l.before
     (stops l.check_lent-slices.result l.check_lent-slices.ensures (contents q (from-lent l) ∷ []) (sym c.is_fine-2.ensures ∙ not-true _ c.if-not-is_fine-2.true))
 
 pub judge_contents-requires : goal.judge_contents-requires
 judge_contents-requires c =
-    let j = c.before.before.before.before.before in
+    let j = (goal.at.judge_contents-requires c).After-judge_shape-shape in
     let s = from-shape j in
     let a = s.args in
     let fits =
     shape_fits a.r a.c a.x a.ea.now a.eb.now a.ec.now a.z.now a.m.now
-    (fine_none j.judge_shape-shape.result {o = shape s} j.judge_shape-shape.ensures (shape_fine c.before.before.before)) in
+    (fine_none j.judge_shape-shape.result {o = shape s} j.judge_shape-shape.ensures (shape_fine (goal.at.judge_contents-requires c).Else-not-is_fine)) in
     record {
       lt_p = s.pre.0;
       shaped = fits;

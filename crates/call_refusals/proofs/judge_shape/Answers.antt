@@ -31,7 +31,7 @@ is_fine-requires c = tt
 
 pub returns-then-not-is_fine : goal.returns-then-not-is_fine
 returns-then-not-is_fine c =
-    let j = c.before.before in
+    let j = (goal.at.returns-then-not-is_fine c).After-judge_index_shape-fault in
     let s = start j in
     stops j.judge_index_shape-fault.result {o = index_shape_refusal (circuit s)} j.judge_index_shape-fault.ensures (after-circuit s)
     (sym c.is_fine.ensures ∙ not-true _ c.if-not-is_fine.true)

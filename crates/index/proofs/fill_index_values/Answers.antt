@@ -109,21 +109,21 @@ loop-i-smaller c = simp length-set (omega arith)
 
 pub loop-i-preserved : goal.loop-i-preserved
 loop-i-preserved c =
-    let l = (head c).loop-i in
-    let a = (start (head c)).args in
+    let l = (head (goal.at.loop-i-preserved c).After-multiply).loop-i in
+    let a = (start (head (goal.at.loop-i-preserved c).After-multiply)).args in
     let n : ℕ = length a.row.now in
     let lists : Index (List ℕ) = index_lists l.row l.col l.rowcol l.rowcolval in
-    let kept = stored-lengths n lists l.i (made c) l.inv.1 in (
+    let kept = stored-lengths n lists l.i (made (goal.at.loop-i-preserved c).After-multiply) l.inv.1 in (
       omega (arith, l, c.loop-i-test),
       kept,
       λ q Q e k listed.
-          made_turn n (values q k a.entries.now) lists l.i l.inv.1 (l.inv.2 q Q e k listed) (omega arith) (made c)
-          (made_words c q Q e k listed),
+          made_turn n (values q k a.entries.now) lists l.i l.inv.1 (l.inv.2 q Q e k listed) (omega arith) (made (goal.at.loop-i-preserved c).After-multiply)
+          (made_words (goal.at.loop-i-preserved c).After-multiply q Q e k listed),
     )
 
 pub returns : goal.returns
 returns c q Q e k listed =
     let l = c.loop-i in
-    let a = (start c.before).args in
+    let a = (start (goal.at.returns c).At-loop-i).args in
     let lists : Index (List ℕ) = index_lists l.row l.col l.rowcol l.rowcolval in
     made_end (length a.row.now) (values q k a.entries.now) lists l.i l.invariant.1 (l.invariant.2 q Q e k listed) (omega arith)

@@ -88,36 +88,36 @@ abbrev at_c : After-slice_known-24-1 → After-index_matrix_into-3
 at_c c = c.before.before.before.before.before.before.before.before
 
 pub root_of-requires : goal.root_of-requires
-root_of-requires c = (start c).requires.circuit_shaped.R-size
+root_of-requires c = (start (goal.at.root_of-requires c).After-slice_known-12-1).requires.circuit_shaped.R-size
 
 pub slice_bounds-rows-end : goal.slice_bounds-rows-end
-slice_bounds-rows-end c = rows_fit (start c.before)
+slice_bounds-rows-end c = rows_fit (start (goal.at.slice_bounds-rows-end c).After-slice_known-12-1)
 
 pub fill_powers-requires : goal.fill_powers-requires
-fill_powers-requires c = (start c.before.before).requires.lt_p
+fill_powers-requires c = (start (goal.at.fill_powers-requires c).After-slice_known-12-1).requires.lt_p
 
 pub root_of-requires-2 : goal.root_of-requires-2
-root_of-requires-2 c = (start c.before.before.before.before).requires.circuit_shaped.C-size
+root_of-requires-2 c = (start (goal.at.root_of-requires-2 c).After-slice_known-12-1).requires.circuit_shaped.C-size
 
 pub slice_bounds-columns-end : goal.slice_bounds-columns-end
-slice_bounds-columns-end c = columns_fit (start c.before.before.before.before.before)
+slice_bounds-columns-end c = columns_fit (start (goal.at.slice_bounds-columns-end c).After-slice_known-12-1)
 
 pub fill_powers-requires-2 : goal.fill_powers-requires-2
-fill_powers-requires-2 c = (start c.before.before.before.before.before.before).requires.lt_p
+fill_powers-requires-2 c = (start (goal.at.fill_powers-requires-2 c).After-slice_known-12-1).requires.lt_p
 
 pub slice_bounds-rows-end-2 : goal.slice_bounds-rows-end-2
 slice_bounds-rows-end-2 c =
-    let f = at_rows c.before in
-    back_holds 1024 (rows_fit (begun c.before)) f.fill-powers.last.1.1.0 f.fill-powers.kept.1.1.0
+    let f = at_rows (goal.at.slice_bounds-rows-end-2 c).After-fill_powers-2 in
+    back_holds 1024 (rows_fit (begun (goal.at.slice_bounds-rows-end-2 c).After-fill_powers-2)) f.fill-powers.last.1.1.0 f.fill-powers.kept.1.1.0
 
 pub slice_bounds-columns-end-2 : goal.slice_bounds-columns-end-2
 slice_bounds-columns-end-2 c =
-    let f = c.before.before in
+    let f = (goal.at.slice_bounds-columns-end-2 c).After-fill_powers-2 in
     back_holds 1024 (columns_fit (begun f)) f.fill_powers-2.new.out f.fill_powers-2.auto.out
 
 pub index_matrix_into-requires : goal.index_matrix_into-requires
 index_matrix_into-requires c =
-    let f = from-lists c.before.before.before.before in
+    let f = from-lists (goal.at.index_matrix_into-requires c).After-columns-3-1 in
     let h = (begun f).pre in
     record {
       lt_p = h.0;
@@ -127,7 +127,7 @@ index_matrix_into-requires c =
 
 pub index_matrix_into-requires-2 : goal.index_matrix_into-requires-2
 index_matrix_into-requires-2 c =
-    let f = from_a c.before.before.before.before.before.before.before.before.before.before.before.before in
+    let f = from_a (goal.at.index_matrix_into-requires-2 c).After-index_matrix_into in
     let h = (begun f).pre in
     record {
       lt_p = h.0;
@@ -137,7 +137,7 @@ index_matrix_into-requires-2 c =
 
 pub index_matrix_into-requires-3 : goal.index_matrix_into-requires-3
 index_matrix_into-requires-3 c =
-    let f = from_a (at_a c.before.before.before.before.before.before.before.before.before.before.before.before) in
+    let f = from_a (at_a (goal.at.index_matrix_into-requires-3 c).After-index_matrix_into-2) in
     let h = (begun f).pre in
     record {
       lt_p = h.0;
@@ -146,44 +146,44 @@ index_matrix_into-requires-3 c =
     }
 
 pub shape_of-rowA : goal.shape_of-rowA
-shape_of-rowA c = (at_a (at_b (at_c c))).index_matrix_into.auto.row
+shape_of-rowA c = (at_a (at_b (at_c (goal.at.shape_of-rowA c).After-slice_known-24-1))).index_matrix_into.auto.row
 
 pub shape_of-colA : goal.shape_of-colA
-shape_of-colA c = (at_a (at_b (at_c c))).index_matrix_into.auto.col
+shape_of-colA c = (at_a (at_b (at_c (goal.at.shape_of-colA c).After-slice_known-24-1))).index_matrix_into.auto.col
 
 pub shape_of-rowcolA : goal.shape_of-rowcolA
-shape_of-rowcolA c = (at_a (at_b (at_c c))).index_matrix_into.auto.rowcol
+shape_of-rowcolA c = (at_a (at_b (at_c (goal.at.shape_of-rowcolA c).After-slice_known-24-1))).index_matrix_into.auto.rowcol
 
 pub shape_of-rowcolvalA : goal.shape_of-rowcolvalA
-shape_of-rowcolvalA c = (at_a (at_b (at_c c))).index_matrix_into.auto.rowcolval
+shape_of-rowcolvalA c = (at_a (at_b (at_c (goal.at.shape_of-rowcolvalA c).After-slice_known-24-1))).index_matrix_into.auto.rowcolval
 
 pub shape_of-rowB : goal.shape_of-rowB
-shape_of-rowB c = (at_b (at_c c)).index_matrix_into-2.auto.row
+shape_of-rowB c = (at_b (at_c (goal.at.shape_of-rowB c).After-slice_known-24-1)).index_matrix_into-2.auto.row
 
 pub shape_of-colB : goal.shape_of-colB
-shape_of-colB c = (at_b (at_c c)).index_matrix_into-2.auto.col
+shape_of-colB c = (at_b (at_c (goal.at.shape_of-colB c).After-slice_known-24-1)).index_matrix_into-2.auto.col
 
 pub shape_of-rowcolB : goal.shape_of-rowcolB
-shape_of-rowcolB c = (at_b (at_c c)).index_matrix_into-2.auto.rowcol
+shape_of-rowcolB c = (at_b (at_c (goal.at.shape_of-rowcolB c).After-slice_known-24-1)).index_matrix_into-2.auto.rowcol
 
 pub shape_of-rowcolvalB : goal.shape_of-rowcolvalB
-shape_of-rowcolvalB c = (at_b (at_c c)).index_matrix_into-2.auto.rowcolval
+shape_of-rowcolvalB c = (at_b (at_c (goal.at.shape_of-rowcolvalB c).After-slice_known-24-1)).index_matrix_into-2.auto.rowcolval
 
 pub shape_of-rowC : goal.shape_of-rowC
-shape_of-rowC c = (at_c c).index_matrix_into-3.auto.row
+shape_of-rowC c = (at_c (goal.at.shape_of-rowC c).After-slice_known-24-1).index_matrix_into-3.auto.row
 
 pub shape_of-colC : goal.shape_of-colC
-shape_of-colC c = (at_c c).index_matrix_into-3.auto.col
+shape_of-colC c = (at_c (goal.at.shape_of-colC c).After-slice_known-24-1).index_matrix_into-3.auto.col
 
 pub shape_of-rowcolC : goal.shape_of-rowcolC
-shape_of-rowcolC c = (at_c c).index_matrix_into-3.auto.rowcol
+shape_of-rowcolC c = (at_c (goal.at.shape_of-rowcolC c).After-slice_known-24-1).index_matrix_into-3.auto.rowcol
 
 pub shape_of-rowcolvalC : goal.shape_of-rowcolvalC
-shape_of-rowcolvalC c = (at_c c).index_matrix_into-3.auto.rowcolval
+shape_of-rowcolvalC c = (at_c (goal.at.shape_of-rowcolvalC c).After-slice_known-24-1).index_matrix_into-3.auto.rowcolval
 
 pub returns : goal.returns
 returns c q known k er ec matrices =
-    let l = at_c c in
+    let l = at_c (goal.at.returns c).After-slice_known-24-1 in
     let a = at_a (at_b l) in
     let both = both_listed (from_a a) q known k er ec in
     record {

@@ -98,20 +98,20 @@ fill_index_values-requires c =
     }
 
 pub overflow_cast-n : goal.overflow_cast-n
-overflow_cast-n c = omega (arith, fits c.before.before.before.before.before.before.before.before)
+overflow_cast-n c = omega (arith, fits (goal.at.overflow_cast-n c).After-fill_index_values)
 
 pub root_of-root-requires : goal.root_of-root-requires
-root_of-root-requires c = size_is _ (long c.before.before.before.before.before.before.before.before).row-length
+root_of-root-requires c = size_is _ (long (goal.at.root_of-root-requires c).After-fill_index_values).row-length
 
 pub slice_bounds-powers-end : goal.slice_bounds-powers-end
-slice_bounds-powers-end c = fits (fill-index-values-from-root-of c)
+slice_bounds-powers-end c = fits (fill-index-values-from-root-of (goal.at.slice_bounds-powers-end c).After-root_of-root)
 
 pub slice_bounds-quotients-end : goal.slice_bounds-quotients-end
-slice_bounds-quotients-end c = fits (fill-index-values-from-root-of c.before)
+slice_bounds-quotients-end c = fits (fill-index-values-from-root-of (goal.at.slice_bounds-quotients-end c).After-root_of-root)
 
 pub fill_inverse_tables-requires : goal.fill_inverse_tables-requires
 fill_inverse_tables-requires c =
-    let v = fill-index-values-from-root-of c.before.before in
+    let v = fill-index-values-from-root-of (goal.at.fill_inverse_tables-requires c).After-root_of-root in
     let part = lent_length 1024 (fits v) in
     record {
       lt_p = (start v).pre.0;
@@ -120,17 +120,17 @@ fill_inverse_tables-requires c =
 
 pub slice_bounds-powers-end-2 : goal.slice_bounds-powers-end-2
 slice_bounds-powers-end-2 c =
-    let t = c.before.before in
+    let t = (goal.at.slice_bounds-powers-end-2 c).After-fill_inverse_tables in
     back_holds 1024 (fits (at-values t)) (powers t) t.fill_inverse_tables.auto.powers
 
 pub slice_bounds-quotients-end-2 : goal.slice_bounds-quotients-end-2
 slice_bounds-quotients-end-2 c =
-    let t = c.before.before.before in
+    let t = (goal.at.slice_bounds-quotients-end-2 c).After-fill_inverse_tables in
     back_holds 1024 (fits (at-values t)) (quotients t) t.fill_inverse_tables.auto.quotients
 
 pub interpolate_four-requires : goal.interpolate_four-requires
 interpolate_four-requires c =
-    let t = c.before.before.before.before.before.before.before.before in
+    let t = (goal.at.interpolate_four-requires c).After-fill_inverse_tables in
     let v = at-values t in
     let lengths = long v in record {
       lt_p = (start v).pre.0;
@@ -146,12 +146,12 @@ interpolate_four-requires c =
 
 pub returns : goal.returns
 returns c q known k M listed matrix =
-    let t = fill-inverse-tables-from-interpolate-four c.before.before.before.before.before.before.before.before in
+    let t = fill-inverse-tables-from-interpolate-four (goal.at.returns c).After-interpolate_four in
     let v = at-values t in
     let s = start v in
     let call = t.fill-inverse-tables in
     let root-word =
-    (root-of-from-interpolate-four c.before.before.before.before.before.before.before.before).root_of-root.ensures q known in
+    (root-of-from-interpolate-four (goal.at.returns c).After-interpolate_four).root_of-root.ensures q known in
     let (row, col, rowcol, rowcolval) =
     c.interpolate_four.ensures q known
     (coefficients_lent q 1024 (fits v) (powers t) (quotients t) call.kept.1.1.0 call.kept.1.1.1.0

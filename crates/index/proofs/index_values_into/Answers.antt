@@ -35,24 +35,24 @@ columns-length : (c : After-fill_powers-2) → let n : ℕ = (start (at_rows c))
 columns-length c = back_length 1024 (columns_fit (start (at_rows c))) c.fill_powers-2.new.out c.fill_powers-2.auto.out
 
 pub slice_bounds-rows-end : goal.slice_bounds-rows-end
-slice_bounds-rows-end c = rows_fit c.before.before.before.before.before.before
+slice_bounds-rows-end c = rows_fit (goal.at.slice_bounds-rows-end c).Start
 
 pub slice_bounds-columns-end : goal.slice_bounds-columns-end
-slice_bounds-columns-end c = columns_fit c.before.before.before.before.before.before.before.before.before.before
+slice_bounds-columns-end c = columns_fit (goal.at.slice_bounds-columns-end c).Start
 
 pub slice_bounds-rows-end-2 : goal.slice_bounds-rows-end-2
 slice_bounds-rows-end-2 c =
-    let f = c.before.before.before.before.before in
+    let f = (goal.at.slice_bounds-rows-end-2 c).After-fill_powers in
     back_holds 1024 (rows_fit (start f)) f.fill_powers.new.out f.fill_powers.auto.out
 
 pub slice_bounds-columns-end-2 : goal.slice_bounds-columns-end-2
 slice_bounds-columns-end-2 c =
-    let f = c.before.before in
+    let f = (goal.at.slice_bounds-columns-end-2 c).After-fill_powers-2 in
     back_holds 1024 (columns_fit (start (at_rows f))) f.fill_powers-2.new.out f.fill_powers-2.auto.out
 
 pub fill_index_values-requires : goal.fill_index_values-requires
 fill_index_values-requires c =
-    let f = c.before.before.before.before.before.before.before in
+    let f = (goal.at.fill_index_values-requires c).After-fill_powers-2 in
     let h = (start (at_rows f)).requires in record {
       p_nonzero = omega (arith, h.0);
       rows_nonzero = (

@@ -41,27 +41,27 @@ ready s e = (s.requires.lt_p, (ap is_size e ∙ s.requires.row_value, (part_orde
 
 pub interpolate_in_place-requires-2 : goal.interpolate_in_place-requires-2
 interpolate_in_place-requires-2 c =
-    let s = start-from-interpolate-in-place c.before.before.before in ready s s.pre.1.1.1.col-length
+    let s = start-from-interpolate-in-place (goal.at.interpolate_in_place-requires-2 c).After-interpolate_in_place in ready s s.pre.1.1.1.col-length
 
 pub interpolate_in_place-requires-3 : goal.interpolate_in_place-requires-3
 interpolate_in_place-requires-3 c =
-    let s = start-from-interpolate-in-place2 c.before.before.before in ready s s.pre.1.1.1.rowcol-length
+    let s = start-from-interpolate-in-place2 (goal.at.interpolate_in_place-requires-3 c).After-interpolate_in_place-2 in ready s s.pre.1.1.1.rowcol-length
 
 pub interpolate_in_place-requires-4 : goal.interpolate_in_place-requires-4
 interpolate_in_place-requires-4 c =
-    let s = start-from-interpolate-in-place3 c.before.before.before in ready s s.pre.1.1.1.rowcolval-length
+    let s = start-from-interpolate-in-place3 (goal.at.interpolate_in_place-requires-4 c).After-interpolate_in_place-3 in ready s s.pre.1.1.1.rowcolval-length
 
 pub returns : goal.returns
 returns c q known tables =
-    let s = start-from-interpolate-in-place4 c.before.before in
+    let s = start-from-interpolate-in-place4 (goal.at.returns c).After-interpolate_in_place-4 in
     let a = s.args in
     let lengths = s.pre.1.1.1 in
     let at : (m : ℕ) → m ≡ length a.row.now → CoefficientTables q m a.powers.now a.quotients.now =
     λ m e. subst⁻¹ (λ (m : ℕ). CoefficientTables q m a.powers.now a.quotients.now) e tables in (
-      (interpolate-in-place-from-interpolate-in-place4 c.before.before).interpolate_in_place.ensures q known tables,
-      (interpolate-in-place2-from-interpolate-in-place4 c.before.before).interpolate_in_place-2.ensures q known
+      (interpolate-in-place-from-interpolate-in-place4 (goal.at.returns c).After-interpolate_in_place-4).interpolate_in_place.ensures q known tables,
+      (interpolate-in-place2-from-interpolate-in-place4 (goal.at.returns c).After-interpolate_in_place-4).interpolate_in_place-2.ensures q known
           (at _ lengths.col-length),
-      (interpolate-in-place3-from-interpolate-in-place4 c.before.before).interpolate_in_place-3.ensures q known
+      (interpolate-in-place3-from-interpolate-in-place4 (goal.at.returns c).After-interpolate_in_place-4).interpolate_in_place-3.ensures q known
           (at _ lengths.rowcol-length),
       c.interpolate_in_place-4.ensures q known (at _ lengths.rowcolval-length),
     )

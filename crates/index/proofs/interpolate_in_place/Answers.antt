@@ -37,12 +37,12 @@ copy_front-requires c = size_bound _ c.requires.out_value
 
 pub slice_bounds-values-end : goal.slice_bounds-values-end
 slice_bounds-values-end c =
-    let f = c.before in
+    let f = (goal.at.slice_bounds-values-end c).After-copy_front in
     omega (arith, size_bound _ (start f).requires.out_value, f.copy_front.auto.out)
 
 pub interpolate_with-requires : goal.interpolate_with-requires
 interpolate_with-requires c =
-    let f = c.before.before.before in
+    let f = (goal.at.interpolate_with-requires c).After-copy_front in
     let s = start f in
     let long = ap length (sym (copied f)) in record {
       lt_p = s.pre.0;
@@ -52,7 +52,7 @@ interpolate_with-requires c =
 
 pub returns : goal.returns
 returns c q known tables =
-    let f = copy-front-from-interpolate-with c.before.before in
+    let f = copy-front-from-interpolate-with (goal.at.returns c).After-interpolate_with in
     let a = (start f).args in
     c.interpolate_with.ensures q (known-qualifies known) known.value
     (subst (λ (m : ℕ). CoefficientTables q m a.powers.now a.quotients.now) (ap length (sym (copied f))) tables)

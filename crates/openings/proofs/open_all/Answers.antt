@@ -51,36 +51,36 @@ weights_made c =
     record { fits = columns_fit (start (at_rows (at-columns c))); kept = c.weights_from.auto.out }
 
 pub slice_bounds-rows-end : goal.slice_bounds-rows-end
-slice_bounds-rows-end c = rows_fit c.before.before.before.before.before
+slice_bounds-rows-end c = rows_fit (goal.at.slice_bounds-rows-end c).Start
 
 pub lagrange_values_into-requires : goal.lagrange_values_into-requires
 lagrange_values_into-requires c =
-    let s = c.before.before.before.before.before.before in
+    let s = (goal.at.lagrange_values_into-requires c).Start in
     record {
       lt_p = s.requires.lt_p;
       out_value = ap is_size (sym (lent_length 1024 (rows_fit s))) ∙ R-fits s.requires.fits;
     }
 
 pub slice_bounds-columns-end : goal.slice_bounds-columns-end
-slice_bounds-columns-end c = columns_fit (start c.before)
+slice_bounds-columns-end c = columns_fit (start (goal.at.slice_bounds-columns-end c).After-lagrange_values_into)
 
 pub lagrange_values_into-requires-2 : goal.lagrange_values_into-requires-2
 lagrange_values_into-requires-2 c =
-    let s = start c.before.before in
+    let s = start (goal.at.lagrange_values_into-requires-2 c).After-lagrange_values_into in
     record {
       lt_p = s.pre.0;
       out_value = ap is_size (sym (lent_length 1024 (columns_fit s))) ∙ C-fits s.pre.1.0;
     }
 
 pub slice_bounds-rows-end-2 : goal.slice_bounds-rows-end-2
-slice_bounds-rows-end-2 c = made_holds (rows_made (at_rows c.before))
+slice_bounds-rows-end-2 c = made_holds (rows_made (at_rows (goal.at.slice_bounds-rows-end-2 c).After-lagrange_values_into-2))
 
 pub slice_bounds-weights-end : goal.slice_bounds-weights-end
-slice_bounds-weights-end c = columns_fit (start (at_rows c.before.before))
+slice_bounds-weights-end c = columns_fit (start (at_rows (goal.at.slice_bounds-weights-end c).After-lagrange_values_into-2))
 
 pub weights_from-requires : goal.weights_from-requires
 weights_from-requires c =
-    let l = at_rows c.before.before.before in
+    let l = at_rows (goal.at.weights_from-requires c).After-lagrange_values_into-2 in
     let s = start l in
     record {
       p_nonzero = omega (arith, s.pre.0);
@@ -88,17 +88,17 @@ weights_from-requires c =
     }
 
 pub slice_bounds-rows-end-3 : goal.slice_bounds-rows-end-3
-slice_bounds-rows-end-3 c = made_holds (rows_made (at_rows (at-columns c.before)))
+slice_bounds-rows-end-3 c = made_holds (rows_made (at_rows (at-columns (goal.at.slice_bounds-rows-end-3 c).After-weights_from)))
 
 pub slice_bounds-columns-end-2 : goal.slice_bounds-columns-end-2
-slice_bounds-columns-end-2 c = made_holds (columns_made (at-columns c.before.before))
+slice_bounds-columns-end-2 c = made_holds (columns_made (at-columns (goal.at.slice_bounds-columns-end-2 c).After-weights_from))
 
 pub slice_bounds-weights-end-2 : goal.slice_bounds-weights-end-2
-slice_bounds-weights-end-2 c = made_holds (weights_made c.before.before.before)
+slice_bounds-weights-end-2 c = made_holds (weights_made (goal.at.slice_bounds-weights-end-2 c).After-weights_from)
 
 pub opened_from-requires : goal.opened_from-requires
 opened_from-requires c =
-    let w = c.before.before.before.before in
+    let w = (goal.at.opened_from-requires c).After-weights_from in
     let l = at-columns w in
     let h = (start (at_rows l)).requires in
     let long = made_length (rows_made (at_rows l)) in
@@ -112,7 +112,7 @@ opened_from-requires c =
 pub returns : goal.returns
 unfolding circuit_of
 returns c q K =
-    let w = c.before.before.before.before.before in
+    let w = (goal.at.returns c).After-weights_from in
     let l = at-columns w in
     let m = at_rows l in
     let s = start m in

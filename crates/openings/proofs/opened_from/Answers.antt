@@ -70,7 +70,7 @@ scaled c q e =
 
 pub matrix_at-of_a-requires : goal.matrix_at-of_a-requires
 matrix_at-of_a-requires c =
-    let s = start c in
+    let s = start (goal.at.matrix_at-of_a-requires c).After-multiply-scale in
     let h = s.pre in
     let F = h.1.0 in
     record {
@@ -82,7 +82,7 @@ matrix_at-of_a-requires c =
 
 pub matrix_at-of_b-requires : goal.matrix_at-of_b-requires
 matrix_at-of_b-requires c =
-    let s = start c.before in
+    let s = start (goal.at.matrix_at-of_b-requires c).After-multiply-scale in
     let h = s.pre in
     let F = h.1.0 in
     record {
@@ -94,7 +94,7 @@ matrix_at-of_b-requires c =
 
 pub matrix_at-of_c-requires : goal.matrix_at-of_c-requires
 matrix_at-of_c-requires c =
-    let s = start c.before.before in
+    let s = start (goal.at.matrix_at-of_c-requires c).After-multiply-scale in
     let h = s.pre in
     let F = h.1.0 in
     record {
@@ -106,7 +106,7 @@ matrix_at-of_c-requires c =
 
 pub assignment_at-assignment-requires : goal.assignment_at-assignment-requires
 assignment_at-assignment-requires c =
-    let h = (start (at-scale c)).requires in
+    let h = (start (at-scale (goal.at.assignment_at-assignment-requires c).After-matrix_at-of_c)).requires in
     record {
       lt_p = h.0;
       c_value = C-fits h.1.0;
@@ -115,7 +115,7 @@ assignment_at-assignment-requires c =
 
 pub line_at-at_beta-requires : goal.line_at-at_beta-requires
 line_at-at_beta-requires c =
-    let h = (start (at-scale c.before)).requires in
+    let h = (start (at-scale (goal.at.line_at-at_beta-requires c).After-matrix_at-of_c)).requires in
     record {
       lt_p = h.0;
       c_value = (C-fits h.1.0, h.1.1.0.β-outside);
@@ -124,7 +124,7 @@ line_at-at_beta-requires c =
 
 pub witness_at-requires : goal.witness_at-requires
 witness_at-requires c =
-    let s = start (at-scale c.before.before) in
+    let s = start (at-scale (goal.at.witness_at-requires c).After-matrix_at-of_c) in
     let h = s.pre in
     let F = h.1.0 in record {
       lt_p = h.0;
@@ -135,7 +135,7 @@ witness_at-requires c =
 
 pub row_quotient_at-requires : goal.row_quotient_at-requires
 row_quotient_at-requires c =
-    let h = (start (at-scale c.before.before.before)).requires in
+    let h = (start (at-scale (goal.at.row_quotient_at-requires c).After-matrix_at-of_c)).requires in
     let F = h.1.0 in
     record {
       lt_p = h.0;
@@ -145,7 +145,7 @@ row_quotient_at-requires c =
     }
 
 pub joined_at-requires : goal.joined_at-requires
-joined_at-requires c = (start (at-scale c.before.before.before.before)).requires.lt_p
+joined_at-requires c = (start (at-scale (goal.at.joined_at-requires c).After-matrix_at-of_c)).requires.lt_p
 
 pub returns : goal.returns
 unfolding circuit_of messages openings

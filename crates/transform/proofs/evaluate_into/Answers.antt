@@ -41,14 +41,14 @@ module _ (c : After-fill_tables) where
   quotients-length = back_length 1024 (bound start) quotients c.fill_tables.auto.quotients
 
 pub slice_bounds-powers-end : goal.slice_bounds-powers-end
-slice_bounds-powers-end c = bound c.before.before
+slice_bounds-powers-end c = bound (goal.at.slice_bounds-powers-end c).Start
 
 pub slice_bounds-quotients-end : goal.slice_bounds-quotients-end
-slice_bounds-quotients-end c = bound c.before.before.before
+slice_bounds-quotients-end c = bound (goal.at.slice_bounds-quotients-end c).Start
 
 pub fill_tables-requires : goal.fill_tables-requires
 fill_tables-requires c =
-    let s = c.before.before.before.before in
+    let s = (goal.at.fill_tables-requires c).Start in
     let part = lent_length 1024 (bound s) in
     record {
       lt_p = s.requires.lt_p;
@@ -57,18 +57,18 @@ fill_tables-requires c =
 
 pub slice_bounds-powers-end-2 : goal.slice_bounds-powers-end-2
 slice_bounds-powers-end-2 c =
-    let t = c.before.before in
+    let t = (goal.at.slice_bounds-powers-end-2 c).After-fill_tables in
     back_holds 1024 (bound (start t)) (powers t) t.fill_tables.auto.powers
 
 pub slice_bounds-quotients-end-2 : goal.slice_bounds-quotients-end-2
 slice_bounds-quotients-end-2 c =
-    let t = c.before.before.before in
+    let t = (goal.at.slice_bounds-quotients-end-2 c).After-fill_tables in
     back_holds 1024 (bound (start t)) (quotients t) t.fill_tables.auto.quotients
 
 pub evaluate_with-requires : goal.evaluate_with-requires
 evaluate_with-requires c =
-    let s = start-from-fill-tables c.before.before.before.before.before in
-    let t = c.before.before.before.before.before in
+    let s = start-from-fill-tables (goal.at.evaluate_with-requires c).After-fill_tables in
+    let t = (goal.at.evaluate_with-requires c).After-fill_tables in
     record {
       lt_p = s.pre.0;
       out_len = s.pre.1;
@@ -77,7 +77,7 @@ evaluate_with-requires c =
 
 pub returns : goal.returns
 returns c q Q e root-word =
-    let t = fill-tables-from-evaluate-with c.before.before in
+    let t = fill-tables-from-evaluate-with (goal.at.returns c).After-evaluate_with in
     let call = t.fill-tables in
     c.evaluate_with.ensures q Q e
     (values-lent q 1024 (bound (start t)) (powers t) (quotients t) call.kept.1.1.0 call.kept.1.1.1.0 (start t).args.g

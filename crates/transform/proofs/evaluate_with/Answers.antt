@@ -36,7 +36,7 @@ transform-requires c =
 
 pub returns : goal.returns
 returns c q Q e tables =
-    let s = start-from-transform c.before.before in
+    let s = start-from-transform (goal.at.returns c).After-transform in
     let a = s.args in
     let f : Poly q = map of a.f.now in
     let n : ℕ = length a.f.now in

@@ -24,7 +24,7 @@ overflow_sub-n c = size_positive _ c.requires.quotients_len.1
 
 pub returns : goal.returns
 returns c q e root-word k size =
-    let a = (start-from-fill-tables c.before.before.before.before).args in
-    let last = (raise-from-fill-tables c.before.before.before.before).raise-last in
+    let a = (start-from-fill-tables (goal.at.returns c).After-fill_tables).args in
+    let last = (raise-from-fill-tables (goal.at.returns c).After-fill_tables).raise-last in
     tables_same q k (last_power (length a.powers.now) a.g last.result root-word (last.ensures q e))
     refl refl (c.fill_tables.ensures q e k size)

@@ -23,9 +23,9 @@ fold-levels-from-prepare-all c = c.before.before.before.before
 
 pub returns : goal.returns
 returns c q e k size =
-    let a = (start-from-prepare-all c.before.before).args in
-    let first = (fill-powers-from-prepare-all c.before.before).fill_powers in
-    let folds = (fold-levels-from-prepare-all c.before.before).fold_levels in
+    let a = (start-from-prepare-all (goal.at.returns c).After-prepare_all).args in
+    let first = (fill-powers-from-prepare-all (goal.at.returns c).After-prepare_all).fill_powers in
+    let folds = (fold-levels-from-prepare-all (goal.at.returns c).After-prepare_all).fold_levels in
     let quotients = c.prepare_all in
     record {
       levels =

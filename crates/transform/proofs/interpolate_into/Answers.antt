@@ -43,14 +43,14 @@ module _ (c : After-fill_inverse_tables) where
   quotients-length = back_length 1024 (bound start) quotients c.fill_inverse_tables.auto.quotients
 
 pub slice_bounds-powers-end : goal.slice_bounds-powers-end
-slice_bounds-powers-end c = bound c.before.before
+slice_bounds-powers-end c = bound (goal.at.slice_bounds-powers-end c).Start
 
 pub slice_bounds-quotients-end : goal.slice_bounds-quotients-end
-slice_bounds-quotients-end c = bound c.before.before.before
+slice_bounds-quotients-end c = bound (goal.at.slice_bounds-quotients-end c).Start
 
 pub fill_inverse_tables-requires : goal.fill_inverse_tables-requires
 fill_inverse_tables-requires c =
-    let s = c.before.before.before.before in
+    let s = (goal.at.fill_inverse_tables-requires c).Start in
     let part = lent_length 1024 (bound s) in
     record {
       lt_p = s.requires.lt_p;
@@ -59,18 +59,18 @@ fill_inverse_tables-requires c =
 
 pub slice_bounds-powers-end-2 : goal.slice_bounds-powers-end-2
 slice_bounds-powers-end-2 c =
-    let t = c.before.before in
+    let t = (goal.at.slice_bounds-powers-end-2 c).After-fill_inverse_tables in
     back_holds 1024 (bound (start t)) (powers t) t.fill_inverse_tables.auto.powers
 
 pub slice_bounds-quotients-end-2 : goal.slice_bounds-quotients-end-2
 slice_bounds-quotients-end-2 c =
-    let t = c.before.before.before in
+    let t = (goal.at.slice_bounds-quotients-end-2 c).After-fill_inverse_tables in
     back_holds 1024 (bound (start t)) (quotients t) t.fill_inverse_tables.auto.quotients
 
 pub interpolate_with-requires : goal.interpolate_with-requires
 interpolate_with-requires c =
-    let s = start-from-fill-inverse-tables c.before.before.before.before.before in
-    let t = c.before.before.before.before.before in
+    let s = start-from-fill-inverse-tables (goal.at.interpolate_with-requires c).After-fill_inverse_tables in
+    let t = (goal.at.interpolate_with-requires c).After-fill_inverse_tables in
     record {
       lt_p = s.pre.0;
       out_len = s.pre.1;
@@ -79,7 +79,7 @@ interpolate_with-requires c =
 
 pub returns : goal.returns
 returns c q Q e root-word =
-    let t = fill-inverse-tables-from-interpolate-with c.before.before in
+    let t = fill-inverse-tables-from-interpolate-with (goal.at.returns c).After-interpolate_with in
     let call = t.fill-inverse-tables in
     let fits = bound (start t) in
     c.interpolate_with.ensures q Q e

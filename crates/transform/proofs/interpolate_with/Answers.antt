@@ -32,7 +32,7 @@ overflow_cast-values c =
 
 pub transform-requires : goal.transform-requires
 transform-requires c =
-    let s = start-from-size-inverse c.before in
+    let s = start-from-size-inverse (goal.at.transform-requires c).After-size_inverse-share in
     let n : ℕ = length s.args.values.now in
     let same : length s.args.out.now ≡ n = s.pre.1.0.0 in
     let in-powers : n ≤ length s.args.powers.now = s.pre.1.1.0 in
@@ -45,7 +45,7 @@ transform-requires c =
 
 pub returns : goal.returns
 returns c q Q e tables =
-    let s = start-from-transform c.before.before in
+    let s = start-from-transform (goal.at.returns c).After-transform in
     let a = s.args in
     let vs : List (Elem q) = map of a.values.now in
     let n : ℕ = length a.values.now in

@@ -124,8 +124,8 @@ bounds-out-j-in-loop-i c = simp length-set (omega arith)
 
 pub loop-i-preserved : goal.loop-i-preserved
 loop-i-preserved c =
-    let l = (loop-from-subtract-reduced2 c).loop-i in
-    let a = (start-from-subtract-reduced (loop-from-subtract-reduced2 c).before).args in
+    let l = (loop-from-subtract-reduced2 (goal.at.loop-i-preserved c).After-subtract_reduced-in-loop-i).loop-i in
+    let a = (start-from-subtract-reduced (loop-from-subtract-reduced2 (goal.at.loop-i-preserved c).After-subtract_reduced-in-loop-i).before).args in
     let i : ℕ = l.i in
     let h : ℕ = length a.out.now / 2 in
     let below : i < h = omega arith in (
@@ -159,7 +159,7 @@ shape_of-out c = c.loop-i.invariant.2 ∙ simp length-set
 pub returns : goal.returns
 returns c q e small w level prepared es os even-length odd-length split =
     let l = c.loop-i in
-    let f = c.before.before in
+    let f = (goal.at.returns c).After-subtract_reduced in
     let d : List ℕ = (start-from-subtract-reduced f).args.out.now in
     let h : ℕ = length d / 2 in
     let some : 0 < h = omega (arith, (start-from-subtract-reduced f).requires.in_bounds) in

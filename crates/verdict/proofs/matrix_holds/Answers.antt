@@ -21,14 +21,14 @@ takes : (start : Start) (M : MatrixName) → let a = start.args in (1 < a.p) × 
 takes start M = (start.requires.lt_p, (allowed (sizes start.args.s) start.requires.s_value).K-size M)
 
 pub matrix_term-a-requires : goal.matrix_term-a-requires
-matrix_term-a-requires c = takes c.before.before.before.before.before.before.before.before A
+matrix_term-a-requires c = takes (goal.at.matrix_term-a-requires c).Start A
 
 pub matrix_term-b-requires : goal.matrix_term-b-requires
-matrix_term-b-requires c = takes c.before.before.before.before.before.before.before.before.before.before B
+matrix_term-b-requires c = takes (goal.at.matrix_term-b-requires c).Start B
 
 pub matrix_term-c-requires : goal.matrix_term-c-requires
 matrix_term-c-requires c =
-    takes c.before.before.before.before.before.before.before.before.before.before.before.before C
+    takes (goal.at.matrix_term-c-requires c).Start C
 
 pub multiply-requires : goal.multiply-requires
 multiply-requires c =

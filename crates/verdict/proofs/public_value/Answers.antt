@@ -15,11 +15,11 @@ bound : (c : Start) → c.args.n ≤ 1024
 bound c = size_bound c.args.n c.requires.n_value
 
 pub slice_bounds-weights-end : goal.slice_bounds-weights-end
-slice_bounds-weights-end c = bound c.before
+slice_bounds-weights-end c = bound (goal.at.slice_bounds-weights-end c).Start
 
 pub lagrange_values_into-requires : goal.lagrange_values_into-requires
 lagrange_values_into-requires c =
-    let start = c.before.before in
+    let start = (goal.at.lagrange_values_into-requires c).Start in
     record {
       lt_p = start.requires.modulus.0;
       out_value = ap is_size (sym (part_length _ _ (bound start))) ∙ start.requires.n_value;
@@ -28,12 +28,12 @@ lagrange_values_into-requires c =
 pub slice_bounds-weights-end-2 : goal.slice_bounds-weights-end-2
 slice_bounds-weights-end-2 c =
     let call = c.lagrange_values_into in
-    filled_within _ _ (bound c.before.before.before.before) call.new.out call.auto.out
+    filled_within _ _ (bound (goal.at.slice_bounds-weights-end-2 c).Start) call.new.out call.auto.out
 
 pub interpolated_at-requires : goal.interpolated_at-requires
 interpolated_at-requires c =
     let call = c.lagrange_values_into in
-    let start = c.before.before.before.before.before in record {
+    let start = (goal.at.interpolated_at-requires c).Start in record {
       p_nonzero = omega (arith, start.requires.modulus.0);
       values_len = start.requires.x_len ∙ filled_length _ _ (bound start) call.new.out call.auto.out;
     }
@@ -41,7 +41,7 @@ interpolated_at-requires c =
 pub returns : goal.returns
 returns c q K Q =
     let call = c.lagrange_values_into in
-    let start = c.before.before.before.before.before.before in
+    let start = (goal.at.returns c).Start in
     let a = start.args in
     c.interpolated_at.ensures q Q K.value a.n start.requires.n_value (of a.y)
     (filled_part _ _ (bound start) call.new.out call.auto.out ∙ call.ensures q K

@@ -73,7 +73,7 @@ product_is c q e =
 
 pub size_inverse-requires : goal.size_inverse-requires
 size_inverse-requires c =
-    let s = c.before.before.before.before.before.before.before in
+    let s = (goal.at.size_inverse-requires c).Start in
     record {
       lt_p = s.requires.lt_p;
       n_value = ap is_size c.largest.ensures ∙ whole_size s;
@@ -81,7 +81,7 @@ size_inverse-requires c =
 
 pub divide-share-requires : goal.divide-share-requires
 divide-share-requires c =
-    let m = c.before.before.before in
+    let m = (goal.at.divide-share-requires c).After-multiply-product in
     let v = m.before.before in record {
       lt_p = search rules;
       b_nonzero = λ q e z.

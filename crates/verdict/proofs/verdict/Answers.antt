@@ -61,7 +61,7 @@ row_passed c q K =
 pub returns-then-not-line_holds : goal.returns-then-not-line_holds
 unfolding verdict
 returns-then-not-line_holds c q K Q =
-    let v = c.before.before.before in
+    let v = (goal.at.returns-then-not-line_holds c).Else-not-row_holds in
     sym
     (pick_true _ _ (row_passed v q K)
     ∙ pick-false _ _ (fails (c.line_holds.ensures q K Q [] (v.vanishing_value-columns.ensures q K.value)) c.if-not-line_holds.true))
@@ -86,7 +86,7 @@ scaled c q e =
 pub returns-then-not-matrix_holds : goal.returns-then-not-matrix_holds
 unfolding verdict
 returns-then-not-matrix_holds c q K Q =
-    let m = c.before.before in
+    let m = (goal.at.returns-then-not-matrix_holds c).After-multiply-scale in
     let line = m.before in
     sym
     (pick_true _ _ (row_passed line.before.before.before q K) ∙ pick_true _ _ (line_passed line q K Q)
@@ -95,7 +95,7 @@ returns-then-not-matrix_holds c q K Q =
 pub returns : goal.returns
 unfolding verdict
 returns c q K Q =
-    let m = c.before.before in
+    let m = (goal.at.returns c).After-multiply-scale in
     let line = m.before in
     sym
     (pick_true _ _ (row_passed line.before.before.before q K) ∙ pick_true _ _ (line_passed line q K Q)

@@ -14,11 +14,11 @@ abbrev written : After-struct_known-1 → List ℕ
 written c = c.copy_front.new.out
 
 pub bounds-out-columns-2 : goal.bounds-out-columns-2
-bounds-out-columns-2 c = lt-length-set (written c.before) _ _ (omega arith)
+bounds-out-columns-2 c = lt-length-set (written (goal.at.bounds-out-columns-2 c).After-struct_known-1) _ _ (omega arith)
 
 pub bounds-out-columns-3 : goal.bounds-out-columns-3
 bounds-out-columns-3 c =
-    let out = written c.before.before in
+    let out = written (goal.at.bounds-out-columns-3 c).After-struct_known-1 in
     lt-length-set (set out _ _) _ _ (lt-length-set out _ _ (omega arith))
 
 pub returns : goal.returns

@@ -35,12 +35,12 @@ pub reserved_columns-columns-requires : goal.reserved_columns-columns-requires
 reserved_columns-columns-requires c = reserving c.requires
 
 pub overflow_sub-last : goal.overflow_sub-last
-overflow_sub-last c = omega (arith, size_positive _ (start c).requires.shaped.sized.R-size)
+overflow_sub-last c = omega (arith, size_positive _ (start (goal.at.overflow_sub-last c).After-reserved_columns-columns).requires.shaped.sized.R-size)
 
 pub assignment_into-requires : goal.assignment_into-requires
 unfolding circuit_of
 assignment_into-requires c =
-    let r = c.before.before.before.before.before.before.before.before.before.before.before.before.before in
+    let r = (goal.at.assignment_into-requires c).After-reserved_columns-columns in
     let F = (start r).requires in
     record {
       out_len = F.lent-z ∙ sym F.shaped.z-length;

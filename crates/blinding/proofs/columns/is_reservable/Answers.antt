@@ -32,11 +32,11 @@ reserved_columns-columns-requires c =
     record { C-size = h.C-size; X-size = h.X-size; X-within = h.X-within; enough = omega arith }
 
 pub overflow_sub-last : goal.overflow_sub-last
-overflow_sub-last c = omega (arith, size_positive _ (start c).requires.R-size)
+overflow_sub-last c = omega (arith, size_positive _ (start (goal.at.overflow_sub-last c).After-reserved_columns-columns).requires.R-size)
 
 pub returns-then-any_reserved : goal.returns-then-any_reserved
 returns-then-any_reserved c k rows columns publics matrices =
-    let found = c.before.before in
+    let found = (goal.at.returns-then-any_reserved c).After-reserved_columns-columns in
     let s = start found in
     found_in_a k columns publics s.pre s.args.ea.now s.args.eb.now s.args.ec.now matrices (omega arith)
     (sym (found.any_reserved.ensures k (row k rows) (reserved found k columns publics)) ∙ c.if-any_reserved.true)

@@ -62,21 +62,21 @@ pass_shape q c y =
 
 pub returns-then-not-is_fine : goal.returns-then-not-is_fine
 returns-then-not-is_fine c q e =
-    let j = c.before.before in
+    let j = (goal.at.returns-then-not-is_fine c).After-judge_shape-shape in
     stops j.judge_shape-shape.result {o = shape (from-shape j)} j.judge_shape-shape.ensures (after_shape q (from-shape j))
     (sym c.is_fine.ensures ∙ not-true _ c.if-not-is_fine.true)
     ∙ in_parts q (from-shape j)
 
 pub returns-then-not-is_fine-2 : goal.returns-then-not-is_fine-2
 returns-then-not-is_fine-2 c q e =
-    let l = c.before.before in
+    let l = (goal.at.returns-then-not-is_fine-2 c).After-check_lent-slices in
     pass_shape q l.before.before.before
     (stops l.check_lent-slices.result l.check_lent-slices.ensures (contents q (from-lent l) ∷ [])
     (sym c.is_fine-2.ensures ∙ not-true _ c.if-not-is_fine-2.true))
 
 pub judge_contents-requires : goal.judge_contents-requires
 judge_contents-requires c =
-    let d = c.before.before.before.before.before in
+    let d = (goal.at.judge_contents-requires c).Else-not-is_fine in
     let j = d.before.before in
     let s = from-shape j in
     let a = s.args in

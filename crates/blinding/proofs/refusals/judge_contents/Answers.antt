@@ -79,13 +79,13 @@ check_call_words-in_words-requires c =
 pub returns-then-not-is_fine : goal.returns-then-not-is_fine
 unfolding contents_refusal
 returns-then-not-is_fine c q prime k rows columns publics matrices =
-    let w = c.before.before in
+    let w = (goal.at.returns-then-not-is_fine c).After-check_call_words-in_words in
     stops w.check_call_words-in_words.result {o = words q k (from-words w)} (w.check_call_words-in_words.ensures q prime k matrices)
     (after-words q k (from-words w)) (sym c.is_fine.ensures ∙ not-true _ c.if-not-is_fine.true)
 
 pub returns-then-not-is_fine-2 : goal.returns-then-not-is_fine-2
 returns-then-not-is_fine-2 c q prime k rows columns publics matrices =
-    let e = c.before.before in
+    let e = (goal.at.returns-then-not-is_fine-2 c).After-check_three_entries-in_entries in
     pass_words q k e.before (record { prime = prime; rows = rows; columns = columns; publics = publics; matrices = matrices })
     (stops e.check_three_entries-in_entries.result (e.check_three_entries-in_entries.ensures k rows columns matrices) (after-entries q k (from_entries e))
     (sym c.is_fine-2.ensures ∙ not-true _ c.if-not-is_fine-2.true))
@@ -93,7 +93,7 @@ returns-then-not-is_fine-2 c q prime k rows columns publics matrices =
 pub returns-then-not-is_reservable : goal.returns-then-not-is_reservable
 unfolding blinding_refusal
 returns-then-not-is_reservable c q prime k rows columns publics matrices =
-    let r = c.before.before.before.before in
+    let r = (goal.at.returns-then-not-is_reservable c).After-check_three_entries-in_entries in
     pass_entries q k r.before (record { prime = prime; rows = rows; columns = columns; publics = publics; matrices = matrices })
     (fails_first 15 0 (constant_refusal (from_entries r).args.z.now ∷ [])
     (sym (r.is_reservable.ensures k rows columns publics matrices) ∙ not-true _ c.if-not-is_reservable.true))
@@ -101,7 +101,7 @@ returns-then-not-is_reservable c q prime k rows columns publics matrices =
 pub returns : goal.returns
 unfolding blinding_refusal
 returns c q prime k rows columns publics matrices =
-    let r = c.before.before.before.before.before in
+    let r = (goal.at.returns c).After-check_three_entries-in_entries in
     pass_entries q k r.before (record { prime = prime; rows = rows; columns = columns; publics = publics; matrices = matrices })
     (passes 15 0 (constant_refusal (from_entries r).args.z.now ∷ [])
     (sym (r.is_reservable.ensures k rows columns publics matrices) ∙ not-false _ c.if-not-is_reservable.false)

@@ -23,12 +23,12 @@ lists s =
 pub returns-then-not-is_fine : goal.returns-then-not-is_fine
 unfolding shape_refusal
 returns-then-not-is_fine c =
-    let s = c.before.before in
+    let s = (goal.at.returns-then-not-is_fine c).After-check_sizes-fault in
     stops s.check_sizes-fault.result s.check_sizes-fault.ensures (lists s ∷ []) (sym c.is_fine.ensures ∙ not-true _ c.if-not-is_fine.true)
 
 pub returns : goal.returns
 unfolding shape_refusal list_refusal roomy_list_tests
 returns c =
-    let s = c.before.before.before in
+    let s = (goal.at.returns c).After-check_sizes-fault in
     goes_on s.check_sizes-fault.result s.check_sizes-fault.ensures (lists s ∷ [])
     (sym c.is_fine.ensures ∙ not-false _ c.if-not-is_fine.false) (last_answer_lem c.check_lists.ensures)

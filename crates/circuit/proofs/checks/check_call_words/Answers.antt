@@ -42,7 +42,7 @@ is_fine-requires c = tt
 
 pub returns-then-not-is_fine : goal.returns-then-not-is_fine
 returns-then-not-is_fine c q e k matrices =
-    let v = c.before.before in
+    let v = (goal.at.returns-then-not-is_fine c).After-check_three_values-fault in
     stops v.check_three_values-fault.result (v.check_three_values-fault.ensures k matrices) (part (start v) ∷ [])
     (sym c.is_fine.ensures ∙ not-true _ c.if-not-is_fine.true)
     ∙ in_parts (start v) q k e matrices

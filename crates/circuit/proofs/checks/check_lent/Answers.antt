@@ -41,7 +41,7 @@ overflow_add-result c = omega arith
 
 pub returns-then-lent-i : goal.returns-then-lent-i
 returns-then-lent-i c =
-    let s = c.before.before.before.before.before in
+    let s = (goal.at.returns-then-lent-i c).Start in
     let l = c.loop-i in
     passed_stop 5 s.args.start (tests s) l.i l.invariant.1 (omega (arith, tests_count s)) true _ (omega arith)
     (pairs-at eqb s.args.lent.now s.args.due.now l.i 0 0 true (omega arith) (omega (arith, s.requires.due_len)) ∙ ne_eqb _ _ c.if-lent-i.true)
@@ -54,7 +54,7 @@ loop-i-smaller c = omega arith
 
 pub loop-i-preserved : goal.loop-i-preserved
 loop-i-preserved c =
-    let s = c.before.before.before.before.before in
+    let s = (goal.at.loop-i-preserved c).Start in
     let l = c.loop-i in (
       omega arith,
       passed_turn 5 s.args.start (tests s) l.i l.invariant.1 (omega (arith, tests_count s)) true
@@ -63,6 +63,6 @@ loop-i-preserved c =
 
 pub returns : goal.returns
 returns c =
-    let s = c.before.before in
+    let s = (goal.at.returns c).Start in
     let l = c.loop-i in
     sym (passed_end 5 s.args.start (tests s) l.i l.invariant.1 (omega (arith, tests_count s)))

@@ -75,7 +75,7 @@ is_inside-requires c =
 pub returns-then-is_inside : goal.returns-then-is_inside
 unfolding challenge_refusal
 returns-then-is_inside c q Q e =
-    let t = c.before in
+    let t = (goal.at.returns-then-is_inside c).After-is_inside in
     let l = t.loop-i in
     passed_stop 10 0 (due q (start t)) l.i (l.invariant.1 q Q e) (omega (arith, due-count q (start t))) true l.i (omega arith)
     (turn_test t q Q e ∙ ap not c.if-is_inside.true)
@@ -88,7 +88,7 @@ loop-i-smaller c = omega arith
 
 pub loop-i-preserved : goal.loop-i-preserved
 loop-i-preserved c =
-    let t = c.before in
+    let t = (goal.at.loop-i-preserved c).After-is_inside in
     let l = t.loop-i in (
       omega arith,
       λ q Q e.
@@ -99,6 +99,6 @@ loop-i-preserved c =
 pub returns : goal.returns
 unfolding challenge_refusal
 returns c q Q e =
-    let s = c.before.before.before in
+    let s = (goal.at.returns c).Start in
     let l = c.loop-i in
     sym (passed_end 10 0 (due q s) l.i (l.invariant.1 q Q e) (omega (arith, due-count q s)))

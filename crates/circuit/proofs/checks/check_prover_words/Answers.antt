@@ -61,7 +61,7 @@ is_fine-requires c = tt
 
 pub returns-then-not-is_fine : goal.returns-then-not-is_fine
 returns-then-not-is_fine c =
-    let j = c.before.before in
+    let j = (goal.at.returns-then-not-is_fine c).After-judge_words-fault in
     stops j.judge_words-fault.result j.judge_words-fault.ensures (after-z (start j)) (sym c.is_fine.ensures ∙ not-true _ c.if-not-is_fine.true)
     ∙ in_parts (start j)
 
@@ -70,8 +70,8 @@ overflow_add-place c = omega arith
 
 pub returns-then-mask-p : goal.returns-then-mask-p
 returns-then-mask-p c =
-    let s = start c.before.before.before in
-    pass_z c.before (fails_first 6 (place s) (after-mask s) (le-ltb _ _ c.if-mask-p.true))
+    let s = start (goal.at.returns-then-mask-p c).After-judge_words-fault in
+    pass_z (goal.at.returns-then-mask-p c).Else-not-is_fine (fails_first 6 (place s) (after-mask s) (le-ltb _ _ c.if-mask-p.true))
 
 pub overflow_add-place-2 : goal.overflow_add-place-2
 overflow_add-place-2 c = omega arith
@@ -84,7 +84,7 @@ is_fine-requires-2 c = tt
 
 pub returns-then-not-is_fine-2 : goal.returns-then-not-is_fine-2
 returns-then-not-is_fine-2 c =
-    let j = c.before.before.before in
+    let j = (goal.at.returns-then-not-is_fine-2 c).Else-mask-p in
     let s = start j.before.before.before in
     pass_mask j
     (stops j.judge_words-fault2.result j.judge_words-fault2.ensures (after-m s) (sym c.is_fine-2.ensures ∙ not-true _ c.if-not-is_fine-2.true))

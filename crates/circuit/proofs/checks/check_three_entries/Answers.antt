@@ -50,7 +50,7 @@ is_fine-requires c = tt
 
 pub returns-then-not-is_fine : goal.returns-then-not-is_fine
 returns-then-not-is_fine c k er ec matrices =
-    let v = c.before.before in
+    let v = (goal.at.returns-then-not-is_fine c).After-check_entries-fault in
     stops v.check_entries-fault.result (v.check_entries-fault.ensures k er ec) (after-a k (start v)) (sym c.is_fine.ensures ∙ not-true _ c.if-not-is_fine.true)
     ∙ in_parts k (start v) matrices
 
@@ -62,7 +62,7 @@ is_fine-requires-2 c = tt
 
 pub returns-then-not-is_fine-2 : goal.returns-then-not-is_fine-2
 returns-then-not-is_fine-2 c k er ec matrices =
-    let v = c.before.before.before.before.before in
+    let v = (goal.at.returns-then-not-is_fine-2 c).After-check_entries-fault in
     pass_a k v.before er ec matrices
     (stops v.check_entries-fault2.result (v.check_entries-fault2.ensures k er ec) (after-b k (start v))
     (sym c.is_fine-2.ensures ∙ not-true _ c.if-not-is_fine-2.true))

@@ -53,7 +53,7 @@ is_fine-requires c = tt
 
 pub returns-then-not-is_fine : goal.returns-then-not-is_fine
 returns-then-not-is_fine c k matrices =
-    let v = c.before.before in
+    let v = (goal.at.returns-then-not-is_fine c).After-check_values-fault in
     stops v.check_values-fault.result v.check_values-fault.ensures (after-a (start v)) (sym c.is_fine.ensures ∙ not-true _ c.if-not-is_fine.true)
     ∙ in_parts k (start v) matrices
 
@@ -65,7 +65,7 @@ is_fine-requires-2 c = tt
 
 pub returns-then-not-is_fine-2 : goal.returns-then-not-is_fine-2
 returns-then-not-is_fine-2 c k matrices =
-    let v = c.before.before.before.before.before in
+    let v = (goal.at.returns-then-not-is_fine-2 c).After-check_values-fault in
     pass_a k v.before matrices
     (stops v.check_values-fault2.result v.check_values-fault2.ensures (after-b (start v))
     (sym c.is_fine-2.ensures ∙ not-true _ c.if-not-is_fine-2.true))

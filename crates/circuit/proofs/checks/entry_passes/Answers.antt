@@ -24,44 +24,44 @@ entry-answer : (c : After-entry_fits) (k : Circuit) → k.|R| ≡ (start c).args
 entry-answer c k er ec = fits_by k (entry_words (start c).args.entries.now (start c).args.i) er ec ∙ sym c.entry_fits.ensures
 
 pub overflow_mul-at : goal.overflow_mul-at
-overflow_mul-at c = omega (arith, words-within c.before)
+overflow_mul-at c = omega (arith, words-within (goal.at.overflow_mul-at c).Start)
 
 pub offset_bounds-entries-at : goal.offset_bounds-entries-at
-offset_bounds-entries-at c = omega (arith, words-within c.before)
+offset_bounds-entries-at c = omega (arith, words-within (goal.at.offset_bounds-entries-at c).Start)
 
 pub bounds-entries-at : goal.bounds-entries-at
-bounds-entries-at c = omega (arith, words-within c.before.before)
+bounds-entries-at c = omega (arith, words-within (goal.at.bounds-entries-at c).Start)
 
 pub overflow_add-column : goal.overflow_add-column
-overflow_add-column c = omega (arith, words-within c.before.before)
+overflow_add-column c = omega (arith, words-within (goal.at.overflow_add-column c).Start)
 
 pub offset_bounds-entries-at-2 : goal.offset_bounds-entries-at-2
-offset_bounds-entries-at-2 c = omega (arith, words-within c.before.before)
+offset_bounds-entries-at-2 c = omega (arith, words-within (goal.at.offset_bounds-entries-at-2 c).Start)
 
 pub bounds-entries-at-2 : goal.bounds-entries-at-2
-bounds-entries-at-2 c = omega (arith, words-within c.before.before.before)
+bounds-entries-at-2 c = omega (arith, words-within (goal.at.bounds-entries-at-2 c).Start)
 
 pub overflow_add-at : goal.overflow_add-at
-overflow_add-at c = omega (arith, words-within c.before.before.before)
+overflow_add-at c = omega (arith, words-within (goal.at.overflow_add-at c).Start)
 
 pub offset_bounds-entries-at-3 : goal.offset_bounds-entries-at-3
-offset_bounds-entries-at-3 c = omega (arith, words-within c.before.before.before)
+offset_bounds-entries-at-3 c = omega (arith, words-within (goal.at.offset_bounds-entries-at-3 c).Start)
 
 pub bounds-entries-at-3 : goal.bounds-entries-at-3
-bounds-entries-at-3 c = omega (arith, words-within c.before.before.before.before)
+bounds-entries-at-3 c = omega (arith, words-within (goal.at.bounds-entries-at-3 c).Start)
 
 pub entry_fits-requires : goal.entry_fits-requires
 entry_fits-requires c = tt
 
 pub returns-then-not-entry_fits : goal.returns-then-not-entry_fits
 returns-then-not-entry_fits c k er ec =
-    let f = c.before in
+    let f = (goal.at.returns-then-not-entry_fits c).After-entry_fits in
     let s = start f in
     sym (entry_misfits k s.args.entries.now s.args.i s.pre (entry-answer f k er ec ∙ not-true _ c.if-not-entry_fits.true))
 
 pub returns-then-i-eq0 : goal.returns-then-i-eq0
 returns-then-i-eq0 c k er ec =
-    let d = c.before.before in
+    let d = (goal.at.returns-then-i-eq0 c).After-entry_fits in
     let s = start d in
     sym (entry_first k s.args.entries.now s.args.i s.pre (entry-answer d k er ec ∙ not-false _ d.if-not-entry_fits.false) c.if-i-eq0.true)
 
@@ -69,19 +69,19 @@ pub overflow_sub-at : goal.overflow_sub-at
 overflow_sub-at c = omega arith
 
 pub offset_bounds-entries-at-4 : goal.offset_bounds-entries-at-4
-offset_bounds-entries-at-4 c = omega (arith, words-within c.before.before.before.before.before.before.before)
+offset_bounds-entries-at-4 c = omega (arith, words-within (goal.at.offset_bounds-entries-at-4 c).Start)
 
 pub bounds-entries-at-4 : goal.bounds-entries-at-4
-bounds-entries-at-4 c = omega (arith, words-within c.before.before.before.before.before.before.before.before)
+bounds-entries-at-4 c = omega (arith, words-within (goal.at.bounds-entries-at-4 c).Start)
 
 pub overflow_sub-at-2 : goal.overflow_sub-at-2
 overflow_sub-at-2 c = omega arith
 
 pub offset_bounds-entries-at-5 : goal.offset_bounds-entries-at-5
-offset_bounds-entries-at-5 c = omega (arith, words-within c.before.before.before.before.before.before.before.before)
+offset_bounds-entries-at-5 c = omega (arith, words-within (goal.at.offset_bounds-entries-at-5 c).Start)
 
 pub bounds-entries-at-5 : goal.bounds-entries-at-5
-bounds-entries-at-5 c = omega (arith, words-within c.before.before.before.before.before.before.before.before.before)
+bounds-entries-at-5 c = omega (arith, words-within (goal.at.bounds-entries-at-5 c).Start)
 
 pub stands_before-requires : goal.stands_before-requires
 stands_before-requires c = tt

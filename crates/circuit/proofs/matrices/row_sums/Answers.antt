@@ -80,25 +80,25 @@ pub bounds-entries-i-in-loop-i-2 : goal.bounds-entries-i-in-loop-i-2
 bounds-entries-i-in-loop-i-2 c = omega arith
 
 pub offset_bounds-z-column : goal.offset_bounds-z-column
-offset_bounds-z-column c = omega (arith, (place c.before.before.before).column-below)
+offset_bounds-z-column c = omega (arith, (place (goal.at.offset_bounds-z-column c).In-loop-i).column-below)
 
 pub bounds-z-column : goal.bounds-z-column
-bounds-z-column c = (place c.before.before.before.before).column-below
+bounds-z-column c = (place (goal.at.bounds-z-column c).In-loop-i).column-below
 
 pub offset_bounds-out-row : goal.offset_bounds-out-row
-offset_bounds-out-row c = omega (arith, (place c.before.before.before.before).row_below)
+offset_bounds-out-row c = omega (arith, (place (goal.at.offset_bounds-out-row c).In-loop-i).row_below)
 
 pub bounds-out-row : goal.bounds-out-row
-bounds-out-row c = omega (arith, (place c.before.before.before.before.before).row_below)
+bounds-out-row c = omega (arith, (place (goal.at.bounds-out-row c).In-loop-i).row_below)
 
 pub multiply_add-requires : goal.multiply_add-requires
 multiply_add-requires c = omega arith
 
 pub offset_bounds-out-row-in-loop-i : goal.offset_bounds-out-row-in-loop-i
-offset_bounds-out-row-in-loop-i c = omega (arith, (place c.before.before.before.before.before.before).row_below)
+offset_bounds-out-row-in-loop-i c = omega (arith, (place (goal.at.offset_bounds-out-row-in-loop-i c).In-loop-i).row_below)
 
 pub bounds-out-row-in-loop-i : goal.bounds-out-row-in-loop-i
-bounds-out-row-in-loop-i c = omega (arith, (place c.before.before.before.before.before.before).row_below)
+bounds-out-row-in-loop-i c = omega (arith, (place (goal.at.bounds-out-row-in-loop-i c).In-loop-i).row_below)
 
 pub overflow_add-i-in-loop-i : goal.overflow_add-i-in-loop-i
 overflow_add-i-in-loop-i c = omega arith
@@ -108,7 +108,7 @@ loop-i-smaller c = omega arith
 
 pub loop-i-preserved : goal.loop-i-preserved
 loop-i-preserved c =
-    let turn = c.before.before.before.before.before.before in
+    let turn = (goal.at.loop-i-preserved c).In-loop-i in
     let a = (start turn).args in
     let l = turn.loop-i in
     let es : List Entry = entries_of a.entries.now in

@@ -25,40 +25,40 @@ module _ (b : After-message_lengths-l) where
   few = few_bytes s (omega (arith, b.well_formed))
 
 pub overflow_add-rows : goal.overflow_add-rows
-overflow_add-rows c = let b = c.before.before in omega (arith, added b, few b)
+overflow_add-rows c = let b = (goal.at.overflow_add-rows c).After-message_lengths-l in omega (arith, added b, few b)
 
 pub overflow_add-rows-2 : goal.overflow_add-rows-2
-overflow_add-rows-2 c = let b = c.before.before.before in omega (arith, added b, few b)
+overflow_add-rows-2 c = let b = (goal.at.overflow_add-rows-2 c).After-message_lengths-l in omega (arith, added b, few b)
 
 pub overflow_add-rows-3 : goal.overflow_add-rows-3
-overflow_add-rows-3 c = let b = c.before.before.before in omega (arith, added b, few b)
+overflow_add-rows-3 c = let b = (goal.at.overflow_add-rows-3 c).After-message_lengths-l in omega (arith, added b, few b)
 
 pub overflow_add-lines : goal.overflow_add-lines
-overflow_add-lines c = let b = c.before.before.before.before in omega (arith, added b, few b)
+overflow_add-lines c = let b = (goal.at.overflow_add-lines c).After-message_lengths-l in omega (arith, added b, few b)
 
 pub overflow_add-lines-2 : goal.overflow_add-lines-2
-overflow_add-lines-2 c = let b = c.before.before.before.before in omega (arith, added b, few b)
+overflow_add-lines-2 c = let b = (goal.at.overflow_add-lines-2 c).After-message_lengths-l in omega (arith, added b, few b)
 
 pub overflow_add-matrices : goal.overflow_add-matrices
-overflow_add-matrices c = let b = c.before.before.before.before.before in omega (arith, added b, few b)
+overflow_add-matrices c = let b = (goal.at.overflow_add-matrices c).After-message_lengths-l in omega (arith, added b, few b)
 
 pub overflow_add-matrices-2 : goal.overflow_add-matrices-2
-overflow_add-matrices-2 c = let b = c.before.before.before.before.before.before in omega (arith, added b, few b)
+overflow_add-matrices-2 c = let b = (goal.at.overflow_add-matrices-2 c).After-message_lengths-l in omega (arith, added b, few b)
 
 pub overflow_add-matrices-3 : goal.overflow_add-matrices-3
-overflow_add-matrices-3 c = let b = c.before.before.before.before.before.before.before in omega (arith, added b, few b)
+overflow_add-matrices-3 c = let b = (goal.at.overflow_add-matrices-3 c).After-message_lengths-l in omega (arith, added b, few b)
 
 pub overflow_add-result : goal.overflow_add-result
-overflow_add-result c = let b = c.before.before.before.before.before.before.before in omega (arith, added b, few b)
+overflow_add-result c = let b = (goal.at.overflow_add-result c).After-message_lengths-l in omega (arith, added b, few b)
 
 pub overflow_add-result-2 : goal.overflow_add-result-2
-overflow_add-result-2 c = let b = c.before.before.before.before.before.before.before in omega (arith, added b, few b)
+overflow_add-result-2 c = let b = (goal.at.overflow_add-result-2 c).After-message_lengths-l in omega (arith, added b, few b)
 
 pub overflow_mul-result : goal.overflow_mul-result
-overflow_mul-result c = let b = c.before.before.before.before.before.before.before in omega (arith, added b, few b)
+overflow_mul-result c = let b = (goal.at.overflow_mul-result c).After-message_lengths-l in omega (arith, added b, few b)
 
 pub overflow_add-result-3 : goal.overflow_add-result-3
-overflow_add-result-3 c = let b = c.before.before.before.before.before.before.before in omega (arith, added b, few b)
+overflow_add-result-3 c = let b = (goal.at.overflow_add-result-3 c).After-message_lengths-l in omega (arith, added b, few b)
 
 pub returns : goal.returns
-returns c = ap (λ n. n + 72) (added c.before.before.before.before.before.before.before)
+returns c = ap (λ n. n + 72) (added (goal.at.returns c).After-message_lengths-l)

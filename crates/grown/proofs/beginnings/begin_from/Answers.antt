@@ -43,14 +43,14 @@ module _ (c : Else-not-is_fine) where
 pub returns-then-not-is_fine : goal.returns-then-not-is_fine
 unfolding begin_from_call circuit_refusal
 returns-then-not-is_fine c q e =
-    let j = c.before.before in
+    let j = (goal.at.returns-then-not-is_fine c).After-judge_circuit-fault in
     lent-refused j.judge_circuit-fault.result {o = circuit_refusal q (circuit j)} (j.judge_circuit-fault.ensures q e)
     (stored (circuit_of (circuit j))) (start j).args.circuit.now (sym c.is_fine.ensures ∙ not-true _ c.if-not-is_fine.true)
 
 pub store-requires : goal.store-requires
 store-requires c =
-    let F = fits c.before in
-    let s = start (judged c.before) in
+    let F = fits (goal.at.store-requires c).Else-not-is_fine in
+    let s = start (judged (goal.at.store-requires c).Else-not-is_fine) in
     let a = s.args in
     let bound = size_bound a.r F.shape.R-size in record {
       circuit_len = s.pre.0;

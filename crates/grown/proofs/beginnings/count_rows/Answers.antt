@@ -63,14 +63,14 @@ pub overflow_cast-row : goal.overflow_cast-row
 overflow_cast-row c = omega (arith, c.shared_slice_known-in-loop-i-1.given (3 * c.loop-i.i))
 
 pub offset_bounds-out-row : goal.offset_bounds-out-row
-offset_bounds-out-row c = omega (arith, row_below c.before)
+offset_bounds-out-row c = omega (arith, row_below (goal.at.offset_bounds-out-row c).In-loop-i)
 
 pub bounds-out-row : goal.bounds-out-row
-bounds-out-row c = omega (arith, row_within c.before.before)
+bounds-out-row c = omega (arith, row_within (goal.at.bounds-out-row c).In-loop-i)
 
 pub overflow_add-out : goal.overflow_add-out
 overflow_add-out c =
-    let turn = c.before.before in
+    let turn = (goal.at.overflow_add-out c).In-loop-i in
     let l = turn.loop-i in
     let words : List ℕ = (start turn).args.entries.now in
     let row : ℕ = get_or words (3 * l.i) 0 in
@@ -83,7 +83,7 @@ overflow_add-out c =
     )
 
 pub bounds-out-row-in-loop-i : goal.bounds-out-row-in-loop-i
-bounds-out-row-in-loop-i c = omega (arith, row_within c.before.before)
+bounds-out-row-in-loop-i c = omega (arith, row_within (goal.at.bounds-out-row-in-loop-i c).In-loop-i)
 
 pub overflow_add-i : goal.overflow_add-i
 overflow_add-i c = omega arith
@@ -93,7 +93,7 @@ loop-i-smaller c = omega arith
 
 pub loop-i-preserved : goal.loop-i-preserved
 loop-i-preserved c =
-    let turn = c.before.before in
+    let turn = (goal.at.loop-i-preserved c).In-loop-i in
     let l = turn.loop-i in
     let words : List ℕ = (start turn).args.entries.now in
     let es : List Entry = entries_of words in

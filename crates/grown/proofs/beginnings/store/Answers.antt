@@ -51,14 +51,14 @@ module _ (m : After-store_matrix-2) where
   part_c = mid_len 8197 12294 with_b (omega (arith, with_b-length))
 
 pub slice_bounds-store_matrix-end : goal.slice_bounds-store_matrix-end
-slice_bounds-store_matrix-end c = omega (arith, sized-length c.before.before.before.before)
+slice_bounds-store_matrix-end c = omega (arith, sized-length (goal.at.slice_bounds-store_matrix-end c).Start)
 
 pub slice_bounds-store_matrix-end-2 : goal.slice_bounds-store_matrix-end-2
-slice_bounds-store_matrix-end-2 c = omega (arith, with_a-length c.before.before)
+slice_bounds-store_matrix-end-2 c = omega (arith, with_a-length (goal.at.slice_bounds-store_matrix-end-2 c).After-store_matrix)
 
 pub store_matrix-requires-2 : goal.store_matrix-requires-2
 store_matrix-requires-2 c =
-    let m = c.before.before.before in
+    let m = (goal.at.store_matrix-requires-2 c).After-store_matrix in
     let given = (start m).requires.1 in
     record {
       out_len = part-b m;
@@ -67,11 +67,11 @@ store_matrix-requires-2 c =
     }
 
 pub slice_bounds-store_matrix-end-3 : goal.slice_bounds-store_matrix-end-3
-slice_bounds-store_matrix-end-3 c = omega (arith, with_b-length c.before.before)
+slice_bounds-store_matrix-end-3 c = omega (arith, with_b-length (goal.at.slice_bounds-store_matrix-end-3 c).After-store_matrix-2)
 
 pub store_matrix-requires-3 : goal.store_matrix-requires-3
 store_matrix-requires-3 c =
-    let m = c.before.before.before in
+    let m = (goal.at.store_matrix-requires-3 c).After-store_matrix-2 in
     let given = (start (after-a m)).pre.1 in
     record {
       out_len = part_c m;
@@ -81,13 +81,13 @@ store_matrix-requires-3 c =
 
 pub shape_of-circuit : goal.shape_of-circuit
 shape_of-circuit c =
-    let b = c.before.before.before.before.before.before in
+    let b = (goal.at.shape_of-circuit c).After-store_matrix-2 in
     let last = c.store_matrix-3 in
     same_len_mid 8197 4097 (with_b b) last.new.out last.auto.out ∙ with_b-length b ∙ sym (start (after-a b)).pre.0
 
 pub returns : goal.returns
 returns c =
-    let b = c.before.before.before.before.before.before in
+    let b = (goal.at.returns c).After-store_matrix-2 in
     let a = after-a b in
     let last = c.store_matrix-3 in
     let given = (start a).args in

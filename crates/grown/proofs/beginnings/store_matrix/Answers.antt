@@ -39,28 +39,28 @@ module _ (m : After-count_rows) where
   room = mid_len 1025 4097 counted (omega (arith, counted-length))
 
 pub slice_bounds-count_rows-end : goal.slice_bounds-count_rows-end
-slice_bounds-count_rows-end c = omega (arith, begun-length c.before.before)
+slice_bounds-count_rows-end c = omega (arith, begun-length (goal.at.slice_bounds-count_rows-end c).Start)
 
 pub count_rows-requires : goal.count_rows-requires
 count_rows-requires c =
-    let s = c.before.before.before in
+    let s = (goal.at.count_rows-requires c).Start in
     record {
       entries_len_bound = s.requires.entry_words.few;
       all = subst⁻¹ (λ (n : ℕ). All (λ (e : Entry). e.row < n) (entries_of s.args.entries.now)) (rows s) s.requires.all;
     }
 
 pub slice_bounds-copy_words-end : goal.slice_bounds-copy_words-end
-slice_bounds-copy_words-end c = omega (arith, counted-length c.before.before)
+slice_bounds-copy_words-end c = omega (arith, counted-length (goal.at.slice_bounds-copy_words-end c).After-count_rows)
 
 pub shape_of-out : goal.shape_of-out
 shape_of-out c =
-    let m = c.before.before.before.before.before.before in
+    let m = (goal.at.shape_of-out c).After-count_rows in
     let copied = c.copy_words in
     same_len_mid 1025 3072 (counted m) copied.new.out copied.auto.out ∙ counted-length m ∙ sym (start m).requires.out_len
 
 pub returns : goal.returns
 returns c =
-    let m = c.before.before.before.before.before.before in
+    let m = (goal.at.returns c).After-count_rows in
     let copied = c.copy_words in
     let a = (start m).args in
     let counts : List ℕ = m.count_rows.new.out in

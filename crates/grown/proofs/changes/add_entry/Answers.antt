@@ -43,7 +43,7 @@ returns-then-not-is_fine c q e =
 
 pub find_entry-found-requires : goal.find_entry-found-requires
 find_entry-found-requires c =
-    let there = c.judge_entry-fault.ensures.matrix_bound (fine c) in
+    let there = c.judge_entry-fault.ensures.matrix_bound (fine (goal.at.find_entry-found-requires c).Else-not-is_fine) in
     record {
       circuit_len = omega arith;
       matrix_bound = (there.0, there.1.1);
@@ -51,7 +51,7 @@ find_entry-found-requires c =
 
 pub returns-then-found : goal.returns-then-found
 returns-then-found c q e =
-    let found = c.before.before in
+    let found = (goal.at.returns-then-found c).Else-not-is_fine in
     let j = found in
     let s = j.before.before.before.before in
     add-taken q (words s) s.args.matrix (given s) j.judge_entry-fault.result (j.judge_entry-fault.ensures.result_value q e) (fine found)
@@ -59,7 +59,7 @@ returns-then-found c q e =
 
 pub put_entry-requires : goal.put_entry-requires
 put_entry-requires c =
-    let f = c.before.before in
+    let f = (goal.at.put_entry-requires c).After-find_entry-found in
     let a = (start f).args in
     let w = words (start f) in record {
       circuit_len = omega arith;
@@ -76,7 +76,7 @@ put_entry-requires c =
 pub returns : goal.returns
 unfolding with_entry
 returns c q e =
-    let f = c.before.before.before.before.before.before in
+    let f = (goal.at.returns c).Else-not-is_fine in
     let s = start f in
     let a = s.args in
     let j = f in

@@ -15,17 +15,17 @@ within c = let a = c.args in span_within a.circuit.now a.matrix a.row c.find_row
 pub find_place-place-requires : goal.find_place-place-requires
 find_place-place-requires c = record {
   circuit_len = omega arith;
-  matrix_bound = (omega arith, within c);
+  matrix_bound = (omega arith, within (goal.at.find_place-place-requires c).After-find_row-span);
 }
 
 pub is_taken-requires : goal.is_taken-requires
 is_taken-requires c = record {
   circuit_len = omega arith;
-  matrix_bound = (omega arith, (within c.before).1);
+  matrix_bound = (omega arith, (within (goal.at.is_taken-requires c).After-find_row-span).1);
 }
 
 pub overflow_sub-result : goal.overflow_sub-result
-overflow_sub-result c = (within c.before.before).0
+overflow_sub-result c = (within (goal.at.overflow_sub-result c).After-find_row-span).0
 
 pub returns : goal.returns
 returns c =

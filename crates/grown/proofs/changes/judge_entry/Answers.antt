@@ -23,21 +23,21 @@ free c = sym c.has_room.ensures ∙ not-false _ c.if-not-has_room.false
 
 pub returns-then-not-has_room : goal.returns-then-not-has_room
 returns-then-not-has_room c =
-    let s = c.before.before.before in record {
+    let s = (goal.at.returns-then-not-has_room c).Start in record {
       result_value = λ q e. no_room (words s) s.args.matrix (given s) q (sym c.has_room.ensures ∙ not-true _ c.if-not-has_room.true);
       matrix_bound = λ fine. absurd (true≢false (sym fine));
     }
 
 pub returns-then-value-p : goal.returns-then-value-p
 returns-then-value-p c =
-    let s = c.before.before.before.before in record {
-      result_value = λ q e. no_word (words s) s.args.matrix (given s) q (free c.before) (omega (arith, e, c.if-value-p.true));
+    let s = (goal.at.returns-then-value-p c).Start in record {
+      result_value = λ q e. no_word (words s) s.args.matrix (given s) q (free (goal.at.returns-then-value-p c).Else-not-has_room) (omega (arith, e, c.if-value-p.true));
       matrix_bound = λ fine. absurd (true≢false (sym fine));
     }
 
 pub returns-then-not-fits_circuit : goal.returns-then-not-fits_circuit
 returns-then-not-fits_circuit c =
-    let word = c.before.before.before in
+    let word = (goal.at.returns-then-not-fits_circuit c).Else-not-has_room in
     let s = word.before.before.before in record {
       result_value = λ q e.
           no_entry_lem (words s) s.args.matrix (given s) q (free word) (omega (arith, e, word.if-value-p.false))
@@ -47,7 +47,7 @@ returns-then-not-fits_circuit c =
 
 pub returns : goal.returns
 returns c =
-    let word = c.before.before.before in
+    let word = (goal.at.returns c).Else-not-has_room in
     let s = word.before.before.before in
     let fit = sym c.fits_circuit.ensures ∙ not-false _ c.if-not-fits_circuit.false in record {
       result_value = λ q e. entry-passes (words s) s.args.matrix (given s) q (free word) (omega (arith, e, word.if-value-p.false)) fit;

@@ -37,16 +37,16 @@ returns-then-row-ge-MAX_ROWS c =
 
 pub returns-then-not-found : goal.returns-then-not-found
 returns-then-not-found c =
-    let f = c.before.before in
+    let f = (goal.at.returns-then-not-found c).After-find_entry-found in
     let a = (start f).args in
     remove_vacant a.circuit.now a.matrix a.row a.column (matrix f) (row f)
     (sym f.find_entry-found.ensures.0 ∙ not-true _ c.if-not-found.true)
 
 pub take_entry-requires : goal.take_entry-requires
 take_entry-requires c =
-    let f = c.before.before.before in
+    let f = (goal.at.take_entry-requires c).After-find_entry-found in
     let a = (start f).args in
-    let taken = taken-within a.circuit.now a.matrix a.row a.column (there c.before) in record {
+    let taken = taken-within a.circuit.now a.matrix a.row a.column (there (goal.at.take_entry-requires c).Else-not-found) in record {
       circuit_len = omega arith;
       matrix_bound = (matrix f, omega (arith, f.find_entry-found.ensures.1.0, taken.0));
       before_nonzero = (
@@ -58,9 +58,9 @@ take_entry-requires c =
 pub returns : goal.returns
 unfolding without_entry
 returns c =
-    let f = c.before.before.before.before.before.before in
+    let f = (goal.at.returns c).After-find_entry-found in
     let a = (start f).args in
-    remove_done a.circuit.now a.matrix a.row a.column (matrix f) (row f) _ (there c.before.before.before.before)
+    remove_done a.circuit.now a.matrix a.row a.column (matrix f) (row f) _ (there (goal.at.returns c).Else-not-found)
     (c.take_entry.ensures
     ∙ ap₂ (λ (place before : ℕ). taken_at a.circuit.now a.matrix place before a.row) f.find_entry-found.ensures.1.0
     f.find_entry-found.ensures.1.1)

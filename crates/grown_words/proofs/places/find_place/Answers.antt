@@ -25,12 +25,12 @@ loop-count-init c =
 
 pub loop-count-preserved-then-circuit-entries : goal.loop-count-preserved-then-circuit-entries
 loop-count-preserved-then-circuit-entries c =
-    let turn = c.before.before in
+    let turn = (goal.at.loop-count-preserved-then-circuit-entries c).In-loop-count in
     (omega arith, left_after _ _ turn.loop-count.invariant.1 (omega arith) (omega (arith, c.if-circuit-entries.true, middle turn)))
 
 pub loop-count-preserved : goal.loop-count-preserved
 loop-count-preserved c =
-    let turn = c.before.before in
+    let turn = (goal.at.loop-count-preserved c).In-loop-count in
     (omega arith, left_before _ _ turn.loop-count.invariant.1 (omega arith) (omega (arith, c.if-circuit-entries.false, middle turn)))
 
 pub returns : goal.returns

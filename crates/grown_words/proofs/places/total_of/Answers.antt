@@ -14,8 +14,8 @@ stored c = ap (λ (k : ℕ). get_or c.args.circuit.now k 0) c.total_place.ensure
 
 pub returns-then-stored-gt-MAX_SIZE : goal.returns-then-stored-gt-MAX_SIZE
 unfolding total
-returns-then-stored-gt-MAX_SIZE c = omega (arith, stored c.before.before)
+returns-then-stored-gt-MAX_SIZE c = omega (arith, stored (goal.at.returns-then-stored-gt-MAX_SIZE c).After-total_place)
 
 pub returns : goal.returns
 unfolding total
-returns c = omega (arith, stored c.before.before)
+returns c = omega (arith, stored (goal.at.returns c).After-total_place)

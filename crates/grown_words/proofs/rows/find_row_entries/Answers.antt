@@ -40,20 +40,20 @@ returns-then-row-circuit c =
     }
 
 pub overflow_mul-result : goal.overflow_mul-result
-overflow_mul-result c = omega (arith, within c.before)
+overflow_mul-result c = omega (arith, within (goal.at.overflow_mul-result c).After-find_row-span)
 
 pub overflow_add-result : goal.overflow_add-result
-overflow_add-result c = omega (arith, within c.before)
+overflow_add-result c = omega (arith, within (goal.at.overflow_add-result c).After-find_row-span)
 
 pub overflow_sub-result : goal.overflow_sub-result
-overflow_sub-result c = (within c.before).0
+overflow_sub-result c = (within (goal.at.overflow_sub-result c).After-find_row-span).0
 
 pub overflow_mul-result-2 : goal.overflow_mul-result-2
-overflow_mul-result-2 c = omega (arith, within c.before)
+overflow_mul-result-2 c = omega (arith, within (goal.at.overflow_mul-result-2 c).After-find_row-span)
 
 pub returns : goal.returns
 returns c =
-    let f = c.before in
+    let f = (goal.at.returns c).After-find_row-span in
     let a = f.args in
     let w = a.circuit.now in record {
       result_value = ap₂ (λ (start end : ℕ). Done (c.entries_place.result + 3 * start, 3 * (end - start))) f.find_row-span.ensures.0 f.find_row-span.ensures.1

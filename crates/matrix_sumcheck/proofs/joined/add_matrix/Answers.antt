@@ -44,17 +44,17 @@ made_length :
 made_length c = back_length 1024 (fits (at_size c)) (made c) c.product_quotient_into.auto.out
 
 pub overflow_cast-out : goal.overflow_cast-out
-overflow_cast-out c = omega (arith, size_bound (length (start c).args.out.now + 1) (start c).requires.entries_in_bounds.1)
+overflow_cast-out c = omega (arith, size_bound (length (start (goal.at.overflow_cast-out c).After-size_of-size).args.out.now + 1) (start (goal.at.overflow_cast-out c).After-size_of-size).requires.entries_in_bounds.1)
 
 pub overflow_sub-n : goal.overflow_sub-n
 overflow_sub-n c = sized_positive _ c.size_of-size.ensures
 
 pub slice_bounds-quotient-end : goal.slice_bounds-quotient-end
-slice_bounds-quotient-end c = fits c.before.before
+slice_bounds-quotient-end c = fits (goal.at.slice_bounds-quotient-end c).After-size_of-size
 
 pub product_quotient_into-requires : goal.product_quotient_into-requires
 product_quotient_into-requires c =
-    let size = c.before.before.before in
+    let size = (goal.at.product_quotient_into-requires c).After-size_of-size in
     let pre = (start size).requires in
     record {
       modulus = pre.0;
@@ -65,12 +65,12 @@ product_quotient_into-requires c =
 
 pub slice_bounds-quotient-end-2 : goal.slice_bounds-quotient-end-2
 slice_bounds-quotient-end-2 c =
-    let h = c.before.before.before.before in
+    let h = (goal.at.slice_bounds-quotient-end-2 c).After-product_quotient_into in
     back_holds 1024 (fits (at_size h)) (made h) h.product_quotient_into.auto.out
 
 pub add_scaled-requires : goal.add_scaled-requires
 add_scaled-requires c =
-    let h = c.before.before.before.before.before in
+    let h = (goal.at.add_scaled-requires c).After-product_quotient_into in
     let size = at_size h in
     let pre = (start size).pre in
     record {

@@ -54,7 +54,7 @@ fit s = joined-fits s.args.ea.now s.args.eb.now s.args.ec.now (length s.args.out
 
 pub add_matrix-requires : goal.add_matrix-requires
 add_matrix-requires c =
-    let z = c.before.before.before in
+    let z = (goal.at.add_matrix-requires c).After-clear in
     let s = start z in
     let kept = z.clear.auto.out in
     record {
@@ -66,7 +66,7 @@ add_matrix-requires c =
 
 pub add_matrix-requires-2 : goal.add_matrix-requires-2
 add_matrix-requires-2 c =
-    let f = c.before.before.before in
+    let f = (goal.at.add_matrix-requires-2 c).After-add_matrix in
     let s = start (at_clear f) in
     let kept = kept_by_first f in
     record {
@@ -78,7 +78,7 @@ add_matrix-requires-2 c =
 
 pub add_matrix-requires-3 : goal.add_matrix-requires-3
 add_matrix-requires-3 c =
-    let f = c.before.before.before in
+    let f = (goal.at.add_matrix-requires-3 c).After-add_matrix-2 in
     let s = start (at_clear (at_first f)) in
     let kept = kept_by_second f in
     record {

@@ -76,64 +76,64 @@ column-distances-length :
 column-distances-length c = back_length 1024 (columns_fit (outset c)) (column-distances c) c.distances_into-2.auto.out
 
 pub slice_bounds-rows-end : goal.slice_bounds-rows-end
-slice_bounds-rows-end c = rows_fit c.before.before.before.before
+slice_bounds-rows-end c = rows_fit (goal.at.slice_bounds-rows-end c).Start
 
 pub lagrange_values_into-requires : goal.lagrange_values_into-requires
-lagrange_values_into-requires c = let s = c.before.before.before.before.before in record {
+lagrange_values_into-requires c = let s = (goal.at.lagrange_values_into-requires c).Start in record {
   lt_p = s.requires.modulus.0;
   out_value = rows_size s;
 }
 
 pub slice_bounds-columns-end : goal.slice_bounds-columns-end
-slice_bounds-columns-end c = columns_fit (start c.before)
+slice_bounds-columns-end c = columns_fit (start (goal.at.slice_bounds-columns-end c).After-lagrange_values_into)
 
 pub lagrange_values_into-requires-2 : goal.lagrange_values_into-requires-2
-lagrange_values_into-requires-2 c = let s = start c.before.before in record {
+lagrange_values_into-requires-2 c = let s = start (goal.at.lagrange_values_into-requires-2 c).After-lagrange_values_into in record {
   lt_p = s.pre.0.0;
   out_value = columns_size s;
 }
 
 pub slice_bounds-rowDistances-end : goal.slice_bounds-rowDistances-end
-slice_bounds-rowDistances-end c = rows_fit (start (at_rows c.before))
+slice_bounds-rowDistances-end c = rows_fit (start (at_rows (goal.at.slice_bounds-rowDistances-end c).After-lagrange_values_into-2))
 
 pub distances_into-requires : goal.distances_into-requires
-distances_into-requires c = let s = start (at_rows c.before.before) in record {
+distances_into-requires c = let s = start (at_rows (goal.at.distances_into-requires c).After-lagrange_values_into-2) in record {
   modulus = s.pre.0;
   out_value = rows_size s;
 }
 
 pub slice_bounds-columnDistances-end : goal.slice_bounds-columnDistances-end
-slice_bounds-columnDistances-end c = columns_fit (start (at_rows (at-columns c.before)))
+slice_bounds-columnDistances-end c = columns_fit (start (at_rows (at-columns (goal.at.slice_bounds-columnDistances-end c).After-distances_into)))
 
 pub distances_into-requires-2 : goal.distances_into-requires-2
-distances_into-requires-2 c = let s = start (at_rows (at-columns c.before.before)) in record {
+distances_into-requires-2 c = let s = start (at_rows (at-columns (goal.at.distances_into-requires-2 c).After-distances_into)) in record {
   modulus = s.pre.0;
   out_value = columns_size s;
 }
 
 pub slice_bounds-rows-end-2 : goal.slice_bounds-rows-end-2
 slice_bounds-rows-end-2 c =
-    let r = at_rows (at-columns (at-row-distances c.before)) in
+    let r = at_rows (at-columns (at-row-distances (goal.at.slice_bounds-rows-end-2 c).After-distances_into-2)) in
     back_holds 1024 (rows_fit (start r)) (rows r) r.lagrange-values-into.kept.1.1.0
 
 pub slice_bounds-columns-end-2 : goal.slice_bounds-columns-end-2
 slice_bounds-columns-end-2 c =
-    let l = at-columns (at-row-distances c.before.before) in
+    let l = at-columns (at-row-distances (goal.at.slice_bounds-columns-end-2 c).After-distances_into-2) in
     back_holds 1024 (columns_fit (start (at_rows l))) (columns l) l.lagrange-values-into2.kept.1.1.0
 
 pub slice_bounds-rowDistances-end-2 : goal.slice_bounds-rowDistances-end-2
 slice_bounds-rowDistances-end-2 c =
-    let d = at-row-distances c.before.before.before in
+    let d = at-row-distances (goal.at.slice_bounds-rowDistances-end-2 c).After-distances_into-2 in
     back_holds 1024 (rows_fit (start (at_rows (at-columns d)))) (row-distances d) d.distances-into.kept.1.1.0
 
 pub slice_bounds-columnDistances-end-2 : goal.slice_bounds-columnDistances-end-2
 slice_bounds-columnDistances-end-2 c =
-    let d = c.before.before.before.before in
+    let d = (goal.at.slice_bounds-columnDistances-end-2 c).After-distances_into-2 in
     back_holds 1024 (columns_fit (outset d)) (column-distances d) d.distances_into-2.auto.out
 
 pub joined_by_lists-requires : goal.joined_by_lists-requires
 joined_by_lists-requires c =
-    let d = c.before.before.before.before.before.before in
+    let d = (goal.at.joined_by_lists-requires c).After-distances_into-2 in
     let e = at-row-distances d in
     let l = at-columns e in
     let pre = (outset d).requires in record {

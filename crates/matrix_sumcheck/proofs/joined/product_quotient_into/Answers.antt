@@ -56,11 +56,11 @@ made_length :
 made_length c = back_length 1024 (fits (start (at-below c))) (made c) c.terms_into.auto.out
 
 pub slice_bounds-below-end : goal.slice_bounds-below-end
-slice_bounds-below-end c = fits c.before.before.before.before.before.before
+slice_bounds-below-end c = fits (goal.at.slice_bounds-below-end c).Start
 
 pub products_into-requires : goal.products_into-requires
 products_into-requires c =
-    let s = c.before.before.before.before.before.before.before in
+    let s = (goal.at.products_into-requires c).Start in
     record {
       p_nonzero = omega (arith, s.requires.modulus.0);
       entries_within = s.requires.entries_within_2;
@@ -68,11 +68,11 @@ products_into-requires c =
     }
 
 pub slice_bounds-terms-end : goal.slice_bounds-terms-end
-slice_bounds-terms-end c = fits (start c.before)
+slice_bounds-terms-end c = fits (start (goal.at.slice_bounds-terms-end c).After-products_into)
 
 pub terms_into-requires : goal.terms_into-requires
 terms_into-requires c =
-    let s = start c.before.before in
+    let s = start (goal.at.terms_into-requires c).After-products_into in
     record {
       p_nonzero = omega (arith, s.pre.0.0);
       entries_within = s.pre.1.0;
@@ -81,23 +81,23 @@ terms_into-requires c =
 
 pub slice_bounds-below-end-2 : goal.slice_bounds-below-end-2
 slice_bounds-below-end-2 c =
-    let b = at-below c.before in
+    let b = at-below (goal.at.slice_bounds-below-end-2 c).After-terms_into in
     back_holds 1024 (fits (start b)) (below b) b.products-into.kept.1.1.1.1.0
 
 pub slice_bounds-terms-end-2 : goal.slice_bounds-terms-end-2
 slice_bounds-terms-end-2 c =
-    let t = c.before.before in
+    let t = (goal.at.slice_bounds-terms-end-2 c).After-terms_into in
     back_holds 1024 (fits (start (at-below t))) (made t) t.terms_into.auto.out
 
 pub slice_bounds-factor-end : goal.slice_bounds-factor-end
-slice_bounds-factor-end c = fits (start (at-below c.before.before.before))
+slice_bounds-factor-end c = fits (start (at-below (goal.at.slice_bounds-factor-end c).After-terms_into))
 
 pub slice_bounds-rest-end : goal.slice_bounds-rest-end
-slice_bounds-rest-end c = fits (start (at-below c.before.before.before.before))
+slice_bounds-rest-end c = fits (start (at-below (goal.at.slice_bounds-rest-end c).After-terms_into))
 
 pub divide_product_into-requires : goal.divide_product_into-requires
 divide_product_into-requires c =
-    let t = c.before.before.before.before.before.before in
+    let t = (goal.at.divide_product_into-requires c).After-terms_into in
     let b = at-below t in
     let s = start b in
     let long = below_length b in

@@ -41,11 +41,11 @@ made_length : (c : After-terms_into) → let n : ℕ = length (start c).args.out
 made_length c = back_length 1024 (fits (start c)) (made c) c.terms_into.auto.out
 
 pub slice_bounds-values-end : goal.slice_bounds-values-end
-slice_bounds-values-end c = fits c.before.before.before.before
+slice_bounds-values-end c = fits (goal.at.slice_bounds-values-end c).Start
 
 pub terms_into-requires : goal.terms_into-requires
 terms_into-requires c =
-    let s = c.before.before.before.before.before in
+    let s = (goal.at.terms_into-requires c).Start in
     record {
       p_nonzero = omega (arith, s.requires.lt_p);
       entries_within = s.requires.entries_within;
@@ -53,19 +53,19 @@ terms_into-requires c =
     }
 
 pub overflow_cast-n : goal.overflow_cast-n
-overflow_cast-n c = omega (arith, fits (start c.before))
+overflow_cast-n c = omega (arith, fits (start (goal.at.overflow_cast-n c).After-terms_into))
 
 pub root_of-root-requires : goal.root_of-root-requires
-root_of-root-requires c = size_is _ (start c.before).requires.out_len
+root_of-root-requires c = size_is _ (start (goal.at.root_of-root-requires c).After-terms_into).requires.out_len
 
 pub slice_bounds-values-end-2 : goal.slice_bounds-values-end-2
 slice_bounds-values-end-2 c =
-    let t = c.before.before in
+    let t = (goal.at.slice_bounds-values-end-2 c).After-terms_into in
     back_holds 1024 (fits (start t)) (made t) t.terms_into.auto.out
 
 pub interpolate_into-requires : goal.interpolate_into-requires
 interpolate_into-requires c =
-    let t = c.before.before.before.before in
+    let t = (goal.at.interpolate_into-requires c).After-terms_into in
     let s = start t in
     record {
       lt_p = s.pre.0;

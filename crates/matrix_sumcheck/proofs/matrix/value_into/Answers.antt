@@ -35,11 +35,11 @@ made_first c =
     (omega (arith, lent_length 1024 (fits (start c)), c.ratio_into.auto.out))
 
 pub slice_bounds-ratio-end : goal.slice_bounds-ratio-end
-slice_bounds-ratio-end c = fits c.before.before.before.before
+slice_bounds-ratio-end c = fits (goal.at.slice_bounds-ratio-end c).Start
 
 pub ratio_into-requires : goal.ratio_into-requires
 ratio_into-requires c =
-    let s = c.before.before.before.before.before in
+    let s = (goal.at.ratio_into-requires c).Start in
     record {
       lt_p = s.requires.lt_p;
       entries_within = s.requires.entries_within;
@@ -48,14 +48,14 @@ ratio_into-requires c =
 
 pub slice_bounds-ratio-end-2 : goal.slice_bounds-ratio-end-2
 slice_bounds-ratio-end-2 c =
-    let t = c.before in
+    let t = (goal.at.slice_bounds-ratio-end-2 c).After-ratio_into in
     back_holds 1024 (fits (start t)) (made t) t.ratio_into.auto.out
 
 pub copy_tail-requires : goal.copy_tail-requires
-copy_tail-requires c = sym (made_length c.before.before.before)
+copy_tail-requires c = sym (made_length (goal.at.copy_tail-requires c).After-ratio_into)
 
 pub overflow_cast-size : goal.overflow_cast-size
-overflow_cast-size c = omega (arith, fits (start c.before.before.before.before.before.before))
+overflow_cast-size c = omega (arith, fits (start (goal.at.overflow_cast-size c).After-ratio_into))
 
 pub returns : goal.returns
 returns c q k M m n alpha beta G H L =

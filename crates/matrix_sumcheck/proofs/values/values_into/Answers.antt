@@ -44,22 +44,22 @@ columns-length :
 columns-length c = back_length 1024 (columns_fit (start (at_rows c))) (columns c) c.lagrange_values_into-2.auto.out
 
 pub slice_bounds-rows-end : goal.slice_bounds-rows-end
-slice_bounds-rows-end c = rows_fit c.before.before.before.before.before.before
+slice_bounds-rows-end c = rows_fit (goal.at.slice_bounds-rows-end c).Start
 
 pub lagrange_values_into-requires : goal.lagrange_values_into-requires
 lagrange_values_into-requires c =
-    let s = c.before.before.before.before.before.before.before in
+    let s = (goal.at.lagrange_values_into-requires c).Start in
     record {
       lt_p = s.requires.lt_p;
       out_value = ap is_size (sym (lent_length 1024 (rows_fit s))) ∙ s.requires.circuit_shaped.R-size;
     }
 
 pub slice_bounds-columns-end : goal.slice_bounds-columns-end
-slice_bounds-columns-end c = columns_fit (start c.before)
+slice_bounds-columns-end c = columns_fit (start (goal.at.slice_bounds-columns-end c).After-lagrange_values_into)
 
 pub lagrange_values_into-requires-2 : goal.lagrange_values_into-requires-2
 lagrange_values_into-requires-2 c =
-    let s = start c.before.before in
+    let s = start (goal.at.lagrange_values_into-requires-2 c).After-lagrange_values_into in
     record {
       lt_p = s.pre.0;
       out_value = ap is_size (sym (lent_length 1024 (columns_fit s))) ∙ s.pre.1.0.C-size;
@@ -67,17 +67,17 @@ lagrange_values_into-requires-2 c =
 
 pub slice_bounds-rows-end-2 : goal.slice_bounds-rows-end-2
 slice_bounds-rows-end-2 c =
-    let r = at_rows c.before in
+    let r = at_rows (goal.at.slice_bounds-rows-end-2 c).After-lagrange_values_into-2 in
     back_holds 1024 (rows_fit (start r)) (rows r) r.lagrange-values-into.kept.1.1.0
 
 pub slice_bounds-columns-end-2 : goal.slice_bounds-columns-end-2
 slice_bounds-columns-end-2 c =
-    let l = c.before.before in
+    let l = (goal.at.slice_bounds-columns-end-2 c).After-lagrange_values_into-2 in
     back_holds 1024 (columns_fit (start (at_rows l))) (columns l) l.lagrange_values_into-2.auto.out
 
 pub values_by_lists-requires : goal.values_by_lists-requires
 values_by_lists-requires c =
-    let l = c.before.before.before.before.before.before in
+    let l = (goal.at.values_by_lists-requires c).After-lagrange_values_into-2 in
     let pre = (start (at_rows l)).requires in
     (pre.0, (three-within pre.1.0 pre.1.1.0 (rows-length (at_rows l)) (columns-length l), pre.1.1.1))
 

@@ -33,11 +33,11 @@ abbrev left : After-rest_into → List ℕ
 left c = take (start c).args.c (returned 1024 (start c).args.c c.rest_into.new.out)
 
 pub slice_bounds-rest-end : goal.slice_bounds-rest-end
-slice_bounds-rest-end c = room c.before.before.before.before
+slice_bounds-rest-end c = room (goal.at.slice_bounds-rest-end c).Start
 
 pub rest_into-requires : goal.rest_into-requires
 rest_into-requires c =
-    let s = c.before.before.before.before.before in
+    let s = (goal.at.rest_into-requires c).Start in
     let long = lent_length 1024 (room s) in
     record {
       lt_p = s.requires.lt_p;
@@ -46,11 +46,11 @@ rest_into-requires c =
     }
 
 pub slice_bounds-rest-end-2 : goal.slice_bounds-rest-end-2
-slice_bounds-rest-end-2 c = made_holds (made c.before)
+slice_bounds-rest-end-2 c = made_holds (made (goal.at.slice_bounds-rest-end-2 c).After-rest_into)
 
 pub parted_at-parts-requires : goal.parted_at-parts-requires
 parted_at-parts-requires c =
-    let m = c.before.before in
+    let m = (goal.at.parted_at-parts-requires c).After-rest_into in
     record {
       p_nonzero = omega (arith, (start m).requires.lt_p);
       f_nonzero = omega (arith, made_length (made m), size_positive _ (start m).requires.c_value.0);

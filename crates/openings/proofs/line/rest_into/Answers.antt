@@ -42,11 +42,11 @@ product_made : (c : After-interpolate_into)
 product_made c = record { fits = room (start (at-products c)); kept = c.interpolate_into.auto.out }
 
 pub slice_bounds-products-end : goal.slice_bounds-products-end
-slice_bounds-products-end c = room c.before.before.before.before
+slice_bounds-products-end c = room (goal.at.slice_bounds-products-end c).Start
 
 pub products_into-requires : goal.products_into-requires
 products_into-requires c =
-    let s = c.before.before.before.before.before in
+    let s = (goal.at.products_into-requires c).Start in
     let long = lent_length 1024 (room s) in
     record {
       p_nonzero = omega arith;
@@ -54,17 +54,17 @@ products_into-requires c =
     }
 
 pub overflow_cast-n : goal.overflow_cast-n
-overflow_cast-n c = omega (arith, room (start c.before))
+overflow_cast-n c = omega (arith, room (start (goal.at.overflow_cast-n c).After-products_into))
 
 pub slice_bounds-products-end-2 : goal.slice_bounds-products-end-2
-slice_bounds-products-end-2 c = made_holds (products_made c.before.before)
+slice_bounds-products-end-2 c = made_holds (products_made (goal.at.slice_bounds-products-end-2 c).After-products_into)
 
 pub slice_bounds-product-end : goal.slice_bounds-product-end
-slice_bounds-product-end c = room (start c.before.before.before)
+slice_bounds-product-end c = room (start (goal.at.slice_bounds-product-end c).After-products_into)
 
 pub interpolate_into-requires : goal.interpolate_into-requires
 interpolate_into-requires c =
-    let m = c.before.before.before.before in
+    let m = (goal.at.interpolate_into-requires c).After-products_into in
     let s = start m in
     let long = made_length (products_made m) in
     record {
@@ -74,18 +74,18 @@ interpolate_into-requires c =
 
 pub remainder_into-requires : goal.remainder_into-requires
 remainder_into-requires c =
-    let s = start (at-products c.before.before) in
+    let s = start (at-products (goal.at.remainder_into-requires c).After-interpolate_into) in
     record {
       p_nonzero = omega arith;
       out_nonzero = size_positive _ s.pre.1.0;
     }
 
 pub slice_bounds-product-end-2 : goal.slice_bounds-product-end-2
-slice_bounds-product-end-2 c = made_holds (product_made (at-product c.before.before.before))
+slice_bounds-product-end-2 c = made_holds (product_made (at-product (goal.at.slice_bounds-product-end-2 c).After-remainder_into))
 
 pub add_scaled-requires : goal.add_scaled-requires
 add_scaled-requires c =
-    let r = c.before.before.before.before in
+    let r = (goal.at.add_scaled-requires c).After-remainder_into in
     let s = start (at-products (at-product r)) in record {
       p_nonzero = omega (arith, s.pre.0);
       g_in_bounds = parts_order (made_length (product_made (at-product r))) (sym r.remainder_into.auto.out) (le_refl _);

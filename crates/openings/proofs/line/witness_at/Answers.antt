@@ -42,44 +42,44 @@ public_made : (c : After-public_words_into) → MadeIn 1024 (start (at-lagrange 
 public_made c = record { fits = room (start (at-lagrange c)); kept = c.public_words_into.auto.out }
 
 pub slice_bounds-lagrange-end : goal.slice_bounds-lagrange-end
-slice_bounds-lagrange-end c = room c.before
+slice_bounds-lagrange-end c = room (goal.at.slice_bounds-lagrange-end c).Start
 
 pub lagrange_values_into-requires : goal.lagrange_values_into-requires
 lagrange_values_into-requires c =
-    let s = c.before.before in
+    let s = (goal.at.lagrange_values_into-requires c).Start in
     record {
       lt_p = s.requires.lt_p;
       out_value = ap is_size (sym (lent_length 1024 (room s))) ∙ s.requires.c_value.1;
     }
 
 pub nonzero_div-c : goal.nonzero_div-c
-nonzero_div-c c = size_positive _ (start c.before).requires.c_value.1
+nonzero_div-c c = size_positive _ (start (goal.at.nonzero_div-c c).After-lagrange_values_into).requires.c_value.1
 
 pub overflow_cast-c : goal.overflow_cast-c
 overflow_cast-c c =
-    let s = start c.before in
+    let s = start (goal.at.overflow_cast-c c).After-lagrange_values_into in
     omega (arith, div-le_self s.args.c s.args.x, size_bound s.args.c s.pre.1.0.0)
 
 pub slice_bounds-public-end : goal.slice_bounds-public-end
-slice_bounds-public-end c = room (start c.before)
+slice_bounds-public-end c = room (start (goal.at.slice_bounds-public-end c).After-lagrange_values_into)
 
 pub public_words_into-requires : goal.public_words_into-requires
 public_words_into-requires c =
-    let s = start c.before.before in
+    let s = start (goal.at.public_words_into-requires c).After-lagrange_values_into in
     let sizes = s.pre.1.0 in (
       size_quotient_positive _ _ sizes.1 sizes.0 sizes.2,
       public_within s.args.z.now _ sizes.0 sizes.1 sizes.2 s.pre.1.1.0 (room s),
     )
 
 pub slice_bounds-lagrange-end-2 : goal.slice_bounds-lagrange-end-2
-slice_bounds-lagrange-end-2 c = made_holds (lagrange_made (at-lagrange c.before))
+slice_bounds-lagrange-end-2 c = made_holds (lagrange_made (at-lagrange (goal.at.slice_bounds-lagrange-end-2 c).After-public_words_into))
 
 pub slice_bounds-public-end-2 : goal.slice_bounds-public-end-2
-slice_bounds-public-end-2 c = made_holds (public_made c.before.before)
+slice_bounds-public-end-2 c = made_holds (public_made (goal.at.slice_bounds-public-end-2 c).After-public_words_into)
 
 pub interpolated_at-known-requires : goal.interpolated_at-known-requires
 interpolated_at-known-requires c =
-    let w = c.before.before.before in
+    let w = (goal.at.interpolated_at-known-requires c).After-public_words_into in
     record {
       p_nonzero = omega (arith, (start (at-lagrange w)).requires.lt_p);
       values_len = sym (made_length (public_made w)) ∙ made_length (lagrange_made (at-lagrange w));

@@ -49,16 +49,16 @@ lengths_same : (s : Start) {m : ℕ} → count s ≡ m → (0 < s.args.p) × (m 
 lengths_same s e = (omega (arith, s.requires.lt_p), sym e)
 
 pub slice_bounds-row-end : goal.slice_bounds-row-end
-slice_bounds-row-end c = room c.before.before
+slice_bounds-row-end c = room (goal.at.slice_bounds-row-end c).Start
 
 pub slice_bounds-col-end : goal.slice_bounds-col-end
-slice_bounds-col-end c = room c.before.before.before
+slice_bounds-col-end c = room (goal.at.slice_bounds-col-end c).Start
 
 pub slice_bounds-rowcol-end : goal.slice_bounds-rowcol-end
-slice_bounds-rowcol-end c = room c.before.before.before.before
+slice_bounds-rowcol-end c = room (goal.at.slice_bounds-rowcol-end c).Start
 
 pub slice_bounds-rowcolval-end : goal.slice_bounds-rowcolval-end
-slice_bounds-rowcolval-end c = room c.before.before.before.before.before
+slice_bounds-rowcolval-end c = room (goal.at.slice_bounds-rowcolval-end c).Start
 
 pub index_values_into-requires : goal.index_values_into-requires
 index_values_into-requires c =
@@ -70,40 +70,40 @@ index_values_into-requires c =
     }
 
 pub slice_bounds-row-end-2 : goal.slice_bounds-row-end-2
-slice_bounds-row-end-2 c = made_holds (row_made c.before.before.before.before)
+slice_bounds-row-end-2 c = made_holds (row_made (goal.at.slice_bounds-row-end-2 c).After-index_values_into)
 
 pub interpolated_at-requires : goal.interpolated_at-requires
 interpolated_at-requires c =
-    let v = c.before.before.before.before.before in
+    let v = (goal.at.interpolated_at-requires c).After-index_values_into in
     lengths_same (start v) (made_length (row_made v))
 
 pub slice_bounds-col-end-2 : goal.slice_bounds-col-end-2
-slice_bounds-col-end-2 c = made_holds (col_made (at-values c))
+slice_bounds-col-end-2 c = made_holds (col_made (at-values (goal.at.slice_bounds-col-end-2 c).After-interpolated_at))
 
 pub interpolated_at-requires-2 : goal.interpolated_at-requires-2
 interpolated_at-requires-2 c =
-    let v = at-values c.before in
+    let v = at-values (goal.at.interpolated_at-requires-2 c).After-interpolated_at in
     lengths_same (start v) (made_length (col_made v))
 
 pub slice_bounds-rowcol-end-2 : goal.slice_bounds-rowcol-end-2
-slice_bounds-rowcol-end-2 c = made_holds (rowcol_made (at-values c.before.before))
+slice_bounds-rowcol-end-2 c = made_holds (rowcol_made (at-values (goal.at.slice_bounds-rowcol-end-2 c).After-interpolated_at))
 
 pub interpolated_at-requires-3 : goal.interpolated_at-requires-3
 interpolated_at-requires-3 c =
-    let v = at-values c.before.before.before in
+    let v = at-values (goal.at.interpolated_at-requires-3 c).After-interpolated_at in
     lengths_same (start v) (made_length (rowcol_made v))
 
 pub slice_bounds-rowcolval-end-2 : goal.slice_bounds-rowcolval-end-2
-slice_bounds-rowcolval-end-2 c = made_holds (rowcolval_made (at-values c.before.before.before.before))
+slice_bounds-rowcolval-end-2 c = made_holds (rowcolval_made (at-values (goal.at.slice_bounds-rowcolval-end-2 c).After-interpolated_at))
 
 pub interpolated_at-requires-4 : goal.interpolated_at-requires-4
 interpolated_at-requires-4 c =
-    let v = at-values c.before.before.before.before.before in
+    let v = at-values (goal.at.interpolated_at-requires-4 c).After-interpolated_at in
     lengths_same (start v) (made_length (rowcolval_made v))
 
 pub returns : goal.returns
 returns c q K k M eR eC matrix y lagrange =
-    let r = c.before.before.before.before.before.before in
+    let r = (goal.at.returns c).After-interpolated_at in
     let v = at-values r in
     let s = start v in
     let a = s.args in

@@ -55,22 +55,22 @@ left c =
     take n (returned 1024 n c.ratio_into.new.out)
 
 pub slice_bounds-places-end : goal.slice_bounds-places-end
-slice_bounds-places-end c = room c
+slice_bounds-places-end c = room (goal.at.slice_bounds-places-end c).After-size_of-size
 
 pub lagrange_values_into-requires : goal.lagrange_values_into-requires
 lagrange_values_into-requires c =
-    let n = c.before in
+    let n = (goal.at.lagrange_values_into-requires c).After-size_of-size in
     record {
       lt_p = (start n).requires.lt_p;
       out_value = ap is_size (sym (lent_length 1024 (room n))) ∙ sized n;
     }
 
 pub slice_bounds-places-end-2 : goal.slice_bounds-places-end-2
-slice_bounds-places-end-2 c = made_holds (places_made c.before)
+slice_bounds-places-end-2 c = made_holds (places_made (goal.at.slice_bounds-places-end-2 c).After-lagrange_values_into)
 
 pub index_at-opened-requires : goal.index_at-opened-requires
 index_at-opened-requires c =
-    let l = c.before.before in
+    let l = (goal.at.index_at-opened-requires c).After-lagrange_values_into in
     let n = at_size l in
     let h = (start n).pre in
     record {
@@ -81,11 +81,11 @@ index_at-opened-requires c =
     }
 
 pub slice_bounds-ratio-end : goal.slice_bounds-ratio-end
-slice_bounds-ratio-end c = room (at_size c.before.before.before)
+slice_bounds-ratio-end c = room (at_size (goal.at.slice_bounds-ratio-end c).After-lagrange_values_into)
 
 pub ratio_into-requires : goal.ratio_into-requires
 ratio_into-requires c =
-    let n = at_size c.before.before.before.before in
+    let n = at_size (goal.at.ratio_into-requires c).After-lagrange_values_into in
     let h = (start n).pre in
     record {
       lt_p = h.0;
@@ -94,11 +94,11 @@ ratio_into-requires c =
     }
 
 pub slice_bounds-ratio-end-2 : goal.slice_bounds-ratio-end-2
-slice_bounds-ratio-end-2 c = made_holds (ratio_made c.before)
+slice_bounds-ratio-end-2 c = made_holds (ratio_made (goal.at.slice_bounds-ratio-end-2 c).After-ratio_into)
 
 pub parted_at-parts-requires : goal.parted_at-parts-requires
 parted_at-parts-requires c =
-    let t = c.before.before in
+    let t = (goal.at.parted_at-parts-requires c).After-ratio_into in
     let n = at_size (at_places t) in
     record {
       p_nonzero = omega (arith, (start n).pre.0);
@@ -107,7 +107,7 @@ parted_at-parts-requires c =
 
 pub over_vanishing-requires : goal.over_vanishing-requires
 over_vanishing-requires c =
-    let n = at_size (at_places c.before.before.before.before) in
+    let n = at_size (at_places (goal.at.over_vanishing-requires c).After-ratio_into) in
     let s = start n in
     record {
       lt_p = s.pre.0;

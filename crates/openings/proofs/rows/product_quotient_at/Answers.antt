@@ -26,11 +26,11 @@ made : (c : After-products_into) → MadeIn 1024 (start c).args.n c.products_int
 made c = record { fits = room (start c); kept = c.products_into.auto.out }
 
 pub slice_bounds-products-end : goal.slice_bounds-products-end
-slice_bounds-products-end c = room c.before.before.before
+slice_bounds-products-end c = room (goal.at.slice_bounds-products-end c).Start
 
 pub products_into-requires : goal.products_into-requires
 products_into-requires c =
-    let s = c.before.before.before.before in
+    let s = (goal.at.products_into-requires c).Start in
     let long = lent_length 1024 (room s) in
     record {
       p_nonzero = omega arith;
@@ -38,11 +38,11 @@ products_into-requires c =
     }
 
 pub slice_bounds-products-end-2 : goal.slice_bounds-products-end-2
-slice_bounds-products-end-2 c = made_holds (made c.before.before.before)
+slice_bounds-products-end-2 c = made_holds (made (goal.at.slice_bounds-products-end-2 c).After-products_into)
 
 pub interpolated_at-both-requires : goal.interpolated_at-both-requires
 interpolated_at-both-requires c =
-    let m = c.before.before.before.before in
+    let m = (goal.at.interpolated_at-both-requires c).After-products_into in
     let s = start m in
     record {
       p_nonzero = omega arith;

@@ -41,36 +41,36 @@ abbrev part : ℕ → List ℕ → List ℕ
 part n l = take n (returned 1024 n l)
 
 pub slice_bounds-left-end : goal.slice_bounds-left-end
-slice_bounds-left-end c = room c.before.before.before.before
+slice_bounds-left-end c = room (goal.at.slice_bounds-left-end c).Start
 
 pub row_sums-requires : goal.row_sums-requires
 row_sums-requires c =
-    let s = c.before.before.before.before.before in
+    let s = (goal.at.row_sums-requires c).Start in
     record {
       p_nonzero = omega arith;
       all = rows-within (lent_length 1024 (room s)) (length s.args.z.now) (entries_of s.args.ea.now) s.requires.all.0;
     }
 
 pub slice_bounds-right-end : goal.slice_bounds-right-end
-slice_bounds-right-end c = room (start c.before)
+slice_bounds-right-end c = room (start (goal.at.slice_bounds-right-end c).After-row_sums)
 
 pub row_sums-requires-2 : goal.row_sums-requires-2
 row_sums-requires-2 c =
-    let s = start c.before.before in
+    let s = start (goal.at.row_sums-requires-2 c).After-row_sums in
     record {
       p_nonzero = omega arith;
       all = rows-within (lent_length 1024 (room s)) (length s.args.z.now) (entries_of s.args.eb.now) s.pre.1.1.1.1;
     }
 
 pub slice_bounds-left-end-2 : goal.slice_bounds-left-end-2
-slice_bounds-left-end-2 c = made_holds (left_made (first c.before))
+slice_bounds-left-end-2 c = made_holds (left_made (first (goal.at.slice_bounds-left-end-2 c).After-row_sums-2))
 
 pub slice_bounds-right-end-2 : goal.slice_bounds-right-end-2
-slice_bounds-right-end-2 c = made_holds (right_made c.before.before)
+slice_bounds-right-end-2 c = made_holds (right_made (goal.at.slice_bounds-right-end-2 c).After-row_sums-2)
 
 pub product_quotient_at-requires : goal.product_quotient_at-requires
 product_quotient_at-requires c =
-    let b = c.before.before.before in
+    let b = (goal.at.product_quotient_at-requires c).After-row_sums-2 in
     let s = start (first b) in
     record {
       lt_p = s.pre.0;
@@ -80,7 +80,7 @@ product_quotient_at-requires c =
 
 pub returns : goal.returns
 returns c q K lagrange k W eR matrix-a matrix-b ẑ on =
-    let b = c.before.before.before.before in
+    let b = (goal.at.returns c).After-row_sums-2 in
     let l = first b in
     let a = (start l).args in
     let z : List (Elem q) = map of a.z.now in

@@ -29,5 +29,5 @@ pub returns : goal.returns
 returns c q K h e =
     let s = c in
     let a = s.args in
-    c.divide.ensures q K.value ∙ ap₂ (λ (u v : Elem q). (u ⊘ v).word) e (divisor c.before q K.value)
+    c.divide.ensures q K.value ∙ ap₂ (λ (u v : Elem q). (u ⊘ v).word) e (divisor (goal.at.returns c).After-vanishing_value q K.value)
     ∙ exact_quotient a.n s.requires.n_value K a.y (outside_here K s.requires.outside_domain) h

@@ -19,19 +19,19 @@ start c = c.before.before
 pub overflow_cast-due : goal.overflow_cast-due
 unfolding lengths
 overflow_cast-due c =
-    let n = at-lengths c.before in
+    let n = at-lengths (goal.at.overflow_cast-due c).After-opened-1 in
     omega (arith, (start n).pre, ap (λ (l : MessageLengths). l.witness) n.message-lengths.ensures)
 
 pub overflow_cast-due-2 : goal.overflow_cast-due-2
 unfolding lengths
 overflow_cast-due-2 c =
-    let n = at-lengths c.before.before in
+    let n = at-lengths (goal.at.overflow_cast-due-2 c).After-opened-1 in
     omega (arith, (start n).pre, ap (λ (l : MessageLengths). l.mask) n.message-lengths.ensures)
 
 pub overflow_cast-due-3 : goal.overflow_cast-due-3
 unfolding lengths
 overflow_cast-due-3 c =
-    let n = at-lengths c.before.before.before in
+    let n = at-lengths (goal.at.overflow_cast-due-3 c).After-opened-1 in
     omega (arith, (start n).good, ap (λ (l : MessageLengths). l.row_quotient) n.message-lengths.ensures)
 
 pub returns : goal.returns

@@ -29,25 +29,25 @@ overflow_cast-due-2 c =
 pub overflow_cast-remainders : goal.overflow_cast-remainders
 unfolding lengths
 overflow_cast-remainders c =
-    let n = at-lengths c.before.before.before in
+    let n = at-lengths (goal.at.overflow_cast-remainders c).After-beta in
     omega (arith, n.before.good, ap (λ (l : MessageLengths). l.matrix_remainders.a) n.message-lengths.ensures)
 
 pub overflow_cast-remainders-2 : goal.overflow_cast-remainders-2
 unfolding lengths
 overflow_cast-remainders-2 c =
-    let n = at-lengths c.before.before.before.before in
+    let n = at-lengths (goal.at.overflow_cast-remainders-2 c).After-beta in
     omega (arith, n.before.good, ap (λ (l : MessageLengths). l.matrix_remainders.b) n.message-lengths.ensures)
 
 pub overflow_cast-remainders-3 : goal.overflow_cast-remainders-3
 unfolding lengths
 overflow_cast-remainders-3 c =
-    let n = at-lengths c.before.before.before.before.before in
+    let n = at-lengths (goal.at.overflow_cast-remainders-3 c).After-beta in
     omega (arith, n.before.good, ap (λ (l : MessageLengths). l.matrix_remainders.c) n.message-lengths.ensures)
 
 pub returns : goal.returns
 unfolding after_values
 returns c =
-    let at-beta = c.before.before.before.before.before.before.before in
+    let at-beta = (goal.at.returns c).After-beta in
     let n = at-lengths at-beta in
     let a = n.before.args in
     let table = n.message-lengths.ensures in

@@ -33,7 +33,7 @@ refusal s =
 pub put_proof-requires : goal.put_proof-requires
 unfolding openings_call
 put_proof-requires c =
-    let at-openings = c.before.before.before.before in
+    let at-openings = (goal.at.put_proof-requires c).After-openings-opened in
     let found =
     judged-done (refusal (start at-openings)) _
     (sym at-openings.openings-opened.ensures ∙ ap openings_meaning c.opened-in-Value-1.given.1) in

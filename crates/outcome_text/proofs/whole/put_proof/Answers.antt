@@ -19,7 +19,7 @@ input s =
 
 pub put_first-first-requires : goal.put_first-first-requires
 put_first-first-requires c =
-    let s = c.before.before.before.before.before.before.before in
+    let s = (goal.at.put_first-first-requires c).Start in
     record {
       free = first_free (input s) s.args.drawn s.requires.free_job;
       most_line_in_bounds = search rules;
@@ -27,7 +27,7 @@ put_first-first-requires c =
 
 pub sums-sums-requires : goal.sums-sums-requires
 sums-sums-requires c =
-    let s = c.before.before.before.before.before.before.before.before.before.before in
+    let s = (goal.at.sums-sums-requires c).Start in
     second_free (input s) s.args.drawn s.requires.free_job
 
 pub put_third-third-requires : goal.put_third-third-requires

@@ -29,7 +29,7 @@ at-fourth c = c.before.before.before.before.before.before
 
 pub put_fourth-fourth-requires : goal.put_fourth-fourth-requires
 put_fourth-fourth-requires c =
-    let s = c.before.before.before.before.before.before.before.before in
+    let s = (goal.at.put_fourth-fourth-requires c).Start in
     record {
       free = fourth_free (input s) s.args.drawn s.requires.free_job;
       most_fourth_in_bounds = omega (arith, s.requires.most_rest_in_bounds);
@@ -37,7 +37,7 @@ put_fourth-fourth-requires c =
 
 pub put_fifth-last-requires : goal.put_fifth-last-requires
 put_fifth-last-requires c =
-    let four = c.before.before.before.before.before in
+    let four = (goal.at.put_fifth-last-requires c).After-put_fourth-fourth in
     let s = start four in
     let f = four.put_fourth-fourth.ensures.printed in
     record {
@@ -49,7 +49,7 @@ pub put_last-requires : goal.put_last-requires
 unfolding sizes_of circuit_of
 put_last-requires c =
     let k = c.sizes_of-s in
-    let five = c.before.before.before.before.before in
+    let five = (goal.at.put_last-requires c).After-put_fifth-last in
     let s = start (at-fourth five) in
     let f = (at-fourth five).put_fourth-fourth.ensures.printed in
     let h = five.put_fifth-last.ensures in

@@ -68,28 +68,28 @@ pub bounds-entries-i-in-loop-i-2 : goal.bounds-entries-i-in-loop-i-2
 bounds-entries-i-in-loop-i-2 c = omega arith
 
 pub offset_bounds-rows-row : goal.offset_bounds-rows-row
-offset_bounds-rows-row c = omega (arith, (place c.before.before.before).row_below)
+offset_bounds-rows-row c = omega (arith, (place (goal.at.offset_bounds-rows-row c).In-loop-i).row_below)
 
 pub bounds-rows-row : goal.bounds-rows-row
-bounds-rows-row c = (place c.before.before.before.before).row_below
+bounds-rows-row c = (place (goal.at.bounds-rows-row c).In-loop-i).row_below
 
 pub multiply-product-requires : goal.multiply-product-requires
 multiply-product-requires c = omega arith
 
 pub offset_bounds-out-column : goal.offset_bounds-out-column
-offset_bounds-out-column c = omega (arith, (place c.before.before.before.before.before).column-below)
+offset_bounds-out-column c = omega (arith, (place (goal.at.offset_bounds-out-column c).In-loop-i).column-below)
 
 pub bounds-out-column : goal.bounds-out-column
-bounds-out-column c = omega (arith, (place c.before.before.before.before.before.before).column-below)
+bounds-out-column c = omega (arith, (place (goal.at.bounds-out-column c).In-loop-i).column-below)
 
 pub multiply_add-requires : goal.multiply_add-requires
 multiply_add-requires c = omega arith
 
 pub offset_bounds-out-column-in-loop-i : goal.offset_bounds-out-column-in-loop-i
-offset_bounds-out-column-in-loop-i c = omega (arith, (place c.before.before.before.before.before.before.before).column-below)
+offset_bounds-out-column-in-loop-i c = omega (arith, (place (goal.at.offset_bounds-out-column-in-loop-i c).In-loop-i).column-below)
 
 pub bounds-out-column-in-loop-i : goal.bounds-out-column-in-loop-i
-bounds-out-column-in-loop-i c = omega (arith, (place c.before.before.before.before.before.before.before).column-below)
+bounds-out-column-in-loop-i c = omega (arith, (place (goal.at.bounds-out-column-in-loop-i c).In-loop-i).column-below)
 
 pub overflow_add-i-in-loop-i : goal.overflow_add-i-in-loop-i
 overflow_add-i-in-loop-i c = omega arith
@@ -99,7 +99,7 @@ loop-i-smaller c = omega arith
 
 pub loop-i-preserved : goal.loop-i-preserved
 loop-i-preserved c =
-    let turn = c.before.before.before.before.before.before.before in
+    let turn = (goal.at.loop-i-preserved c).In-loop-i in
     let a = c.args in
     let l = turn.loop-i in
     let es : List Entry = entries_of a.entries.now in

@@ -31,7 +31,7 @@ add_column_sums-requires c =
 
 pub add_column_sums-requires-2 : goal.add_column_sums-requires-2
 add_column_sums-requires-2 c =
-    let d = c.before.before.before in
+    let d = (goal.at.add_column_sums-requires-2 c).After-add_column_sums in
     let s = start d in
     let kept = d.add_column_sums.auto.out in
     record {
@@ -52,7 +52,7 @@ add_column_sums-requires-3 c =
 
 pub shape_of-out : goal.shape_of-out
 shape_of-out c =
-    let last = c.before.before in
+    let last = (goal.at.shape_of-out c).After-add_column_sums-3 in
     last.add_column_sums-3.auto.out
     ∙ (at_b last).add_column_sums-2.auto.out
     ∙ (at_a last).add_column_sums.auto.out
@@ -60,7 +60,7 @@ shape_of-out c =
 pub returns : goal.returns
 unfolding weighted
 returns c q e =
-    let last = c.before.before in
+    let last = (goal.at.returns c).After-add_column_sums-3 in
     let a = (start (at_a last)).args in
     let first = (at_a last).add_column_sums in
     let second = (at_b last).add_column_sums-2 in

@@ -25,11 +25,11 @@ abbrev left : After-lagrange_values_into → List ℕ
 left c = c.lagrange_values_into.new.out
 
 pub slice_bounds-rows-end : goal.slice_bounds-rows-end
-slice_bounds-rows-end c = bound c.before.before.before.before
+slice_bounds-rows-end c = bound (goal.at.slice_bounds-rows-end c).Start
 
 pub lagrange_values_into-requires : goal.lagrange_values_into-requires
 lagrange_values_into-requires c =
-    let s = c.before.before.before.before.before in
+    let s = (goal.at.lagrange_values_into-requires c).Start in
     record {
       lt_p = s.requires.lt_p;
       out_value = ap is_size (sym (part_length _ _ (bound s))) ∙ s.requires.r_value;
@@ -37,12 +37,12 @@ lagrange_values_into-requires c =
 
 pub slice_bounds-rows-end-2 : goal.slice_bounds-rows-end-2
 slice_bounds-rows-end-2 c =
-    let r = c.before in
+    let r = (goal.at.slice_bounds-rows-end-2 c).After-lagrange_values_into in
     filled_within _ _ (bound (start r)) (left r) r.lagrange_values_into.auto.out
 
 pub weights_from-requires : goal.weights_from-requires
 weights_from-requires c =
-    let r = c.before.before.before in
+    let r = (goal.at.weights_from-requires c).After-lagrange_values_into in
     let s = start r in
     record {
       p_nonzero = omega arith;
@@ -51,7 +51,7 @@ weights_from-requires c =
 
 pub returns : goal.returns
 returns c q known k eR matrices =
-    let r = c.before.before.before.before.before.before in
+    let r = (goal.at.returns c).After-lagrange_values_into in
     let s = start r in
     let a = s.args in
     let α : Elem q = of a.alpha in

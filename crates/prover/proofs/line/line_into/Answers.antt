@@ -85,14 +85,14 @@ high_whole : (c : After-divide_product_into)
 high_whole c = back_length 1024 (short (start (at-values c))) (high c) c.divide_product_into.auto.out
 
 pub overflow_sub-l : goal.overflow_sub-l
-overflow_sub-l c = omega (arith, positive c.before.before.before.before.before.before.before)
+overflow_sub-l c = omega (arith, positive (goal.at.overflow_sub-l c).Start)
 
 pub slice_bounds-values-end : goal.slice_bounds-values-end
-slice_bounds-values-end c = bound c.before.before.before.before.before.before.before
+slice_bounds-values-end c = bound (goal.at.slice_bounds-values-end c).Start
 
 pub column_weights_into-requires : goal.column_weights_into-requires
 column_weights_into-requires c =
-    let s = c.before.before.before.before.before.before.before.before in
+    let s = (goal.at.column_weights_into-requires c).Start in
     let F = s.requires.fits in
     record {
       lt_p = s.requires.modulus.0;
@@ -102,21 +102,21 @@ column_weights_into-requires c =
 
 pub slice_bounds-values-end-2 : goal.slice_bounds-values-end-2
 slice_bounds-values-end-2 c =
-    let v = c.before in
+    let v = (goal.at.slice_bounds-values-end-2 c).After-column_weights_into in
     back_holds 1024 (bound (start v)) (values v) v.column_weights_into.auto.out
 
 pub slice_bounds-weights-end : goal.slice_bounds-weights-end
-slice_bounds-weights-end c = bound (start c.before.before)
+slice_bounds-weights-end c = bound (start (goal.at.slice_bounds-weights-end c).After-column_weights_into)
 
 pub slice_bounds-rest-end : goal.slice_bounds-rest-end
-slice_bounds-rest-end c = bound (start c.before.before.before)
+slice_bounds-rest-end c = bound (start (goal.at.slice_bounds-rest-end c).After-column_weights_into)
 
 pub slice_bounds-high-end : goal.slice_bounds-high-end
-slice_bounds-high-end c = short (start c.before.before.before.before)
+slice_bounds-high-end c = short (start (goal.at.slice_bounds-high-end c).After-column_weights_into)
 
 pub divide_product_into-requires : goal.divide_product_into-requires
 divide_product_into-requires c =
-    let v = c.before.before.before.before.before in
+    let v = (goal.at.divide_product_into-requires c).After-column_weights_into in
     let s = start v in
     let n : ℕ = s.args.c in
     let left = values-whole v in
@@ -130,12 +130,12 @@ divide_product_into-requires c =
 
 pub slice_bounds-rest-end-2 : goal.slice_bounds-rest-end-2
 slice_bounds-rest-end-2 c =
-    let d = c.before.before.before in
+    let d = (goal.at.slice_bounds-rest-end-2 c).After-divide_product_into in
     back_holds 1024 (bound (start (at-values d))) (rest d) d.divide_product_into.auto.rest
 
 pub remainder_from-requires : goal.remainder_from-requires
 remainder_from-requires c =
-    let d = c.before.before.before.before.before in
+    let d = (goal.at.remainder_from-requires c).After-divide_product_into in
     let s = start (at-values d) in
     let size : length s.args.remainder.now + 1 ≡ s.args.c = omega (arith, positive s) in
     record {
@@ -145,17 +145,17 @@ remainder_from-requires c =
 
 pub slice_bounds-weights-end-2 : goal.slice_bounds-weights-end-2
 slice_bounds-weights-end-2 c =
-    let d = at-product c.before.before in
+    let d = at-product (goal.at.slice_bounds-weights-end-2 c).After-remainder_from in
     back_holds 1024 (bound (start (at-values d))) (weights d) d.divide-product-into.kept.1.1.1.0
 
 pub slice_bounds-high-end-2 : goal.slice_bounds-high-end-2
 slice_bounds-high-end-2 c =
-    let d = at-product c.before.before.before in
+    let d = at-product (goal.at.slice_bounds-high-end-2 c).After-remainder_from in
     back_holds 1024 (short (start (at-values d))) (high d) d.divide-product-into.kept.1.1.1.1.1.0
 
 pub quotient_from-requires : goal.quotient_from-requires
 quotient_from-requires c =
-    let d = at-product c.before.before.before.before.before in
+    let d = at-product (goal.at.quotient_from-requires c).After-remainder_from in
     let s = start (at-values d) in
     let size : length s.args.quotient.now ≡ s.args.c = s.pre.1.1.1 in
     let above : 0 < length s.args.quotient.now = omega (arith, positive s) in
@@ -166,7 +166,7 @@ quotient_from-requires c =
     }
 
 pub shape_of-remainder : goal.shape_of-remainder
-shape_of-remainder c = (at-remainder c.before.before).remainder_from.auto.out
+shape_of-remainder c = (at-remainder (goal.at.shape_of-remainder c).After-quotient_from).remainder_from.auto.out
 
 pub shape_of-quotient : goal.shape_of-quotient
 shape_of-quotient c = c.quotient_from.auto.out
@@ -174,7 +174,7 @@ shape_of-quotient c = c.quotient_from.auto.out
 pub returns : goal.returns
 unfolding circuit_of
 returns c q known Q =
-    let last = c.before.before in
+    let last = (goal.at.returns c).After-quotient_from in
     let first = at-remainder last in
     let d = at-product first in
     let v = at-values d in

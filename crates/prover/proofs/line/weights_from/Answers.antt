@@ -15,7 +15,7 @@ start c = c.before.before.before.before.before.before.before
 
 pub add_weights-requires : goal.add_weights-requires
 add_weights-requires c =
-    let d = c.before.before.before in
+    let d = (goal.at.add_weights-requires c).After-clear in
     record {
       p_nonzero = omega arith;
       each_within = each_within refl (sym d.clear.auto.out) (start d).requires.each_within;
@@ -23,7 +23,7 @@ add_weights-requires c =
 
 pub returns : goal.returns
 returns c q e k eR matrices α made =
-    let d = c.before.before.before.before.before.before in
+    let d = (goal.at.returns c).After-clear in
     let s = start d in
     let a = s.args in
     c.add_weights.ensures q e

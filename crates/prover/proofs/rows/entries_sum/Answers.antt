@@ -71,19 +71,19 @@ pub bounds-entries-i-in-loop-i-2 : goal.bounds-entries-i-in-loop-i-2
 bounds-entries-i-in-loop-i-2 c = omega arith
 
 pub offset_bounds-rows-row : goal.offset_bounds-rows-row
-offset_bounds-rows-row c = omega (arith, (place c.before.before.before).row_below)
+offset_bounds-rows-row c = omega (arith, (place (goal.at.offset_bounds-rows-row c).In-loop-i).row_below)
 
 pub bounds-rows-row : goal.bounds-rows-row
-bounds-rows-row c = (place c.before.before.before.before).row_below
+bounds-rows-row c = (place (goal.at.bounds-rows-row c).In-loop-i).row_below
 
 pub multiply-product-requires : goal.multiply-product-requires
 multiply-product-requires c = omega arith
 
 pub offset_bounds-z-column : goal.offset_bounds-z-column
-offset_bounds-z-column c = omega (arith, (place c.before.before.before.before.before).column-below)
+offset_bounds-z-column c = omega (arith, (place (goal.at.offset_bounds-z-column c).In-loop-i).column-below)
 
 pub bounds-z-column : goal.bounds-z-column
-bounds-z-column c = (place c.before.before.before.before.before.before).column-below
+bounds-z-column c = (place (goal.at.bounds-z-column c).In-loop-i).column-below
 
 pub multiply_add-sum-requires : goal.multiply_add-sum-requires
 multiply_add-sum-requires c = omega arith

@@ -34,22 +34,22 @@ abbrev sums-b : After-row_sums-2 → List ℕ
 sums-b c = c.row_sums-2.new.out
 
 pub slice_bounds-left-end : goal.slice_bounds-left-end
-slice_bounds-left-end c = bound c.before.before.before.before
+slice_bounds-left-end c = bound (goal.at.slice_bounds-left-end c).Start
 
 pub row_sums-requires : goal.row_sums-requires
 row_sums-requires c =
-    let s = c.before.before.before.before.before in
+    let s = (goal.at.row_sums-requires c).Start in
     record {
       p_nonzero = omega arith;
       all = rows-within (lent_length 1024 (bound s)) (length s.args.z.now) (entries_of s.args.ea.now) s.requires.all.0;
     }
 
 pub slice_bounds-right-end : goal.slice_bounds-right-end
-slice_bounds-right-end c = bound (start c.before)
+slice_bounds-right-end c = bound (start (goal.at.slice_bounds-right-end c).After-row_sums)
 
 pub row_sums-requires-2 : goal.row_sums-requires-2
 row_sums-requires-2 c =
-    let s = start c.before.before in
+    let s = start (goal.at.row_sums-requires-2 c).After-row_sums in
     record {
       p_nonzero = omega arith;
       all = rows-within (lent_length 1024 (bound s)) (length s.args.z.now) (entries_of s.args.eb.now) s.pre.1.1.1.1;
@@ -57,23 +57,23 @@ row_sums-requires-2 c =
 
 pub slice_bounds-left-end-2 : goal.slice_bounds-left-end-2
 slice_bounds-left-end-2 c =
-    let a = at_a c.before in
+    let a = at_a (goal.at.slice_bounds-left-end-2 c).After-row_sums-2 in
     filled_within _ _ (bound (start a)) (sums-a a) a.row-sums.kept.1.1.1.0
 
 pub slice_bounds-right-end-2 : goal.slice_bounds-right-end-2
 slice_bounds-right-end-2 c =
-    let b = c.before.before in
+    let b = (goal.at.slice_bounds-right-end-2 c).After-row_sums-2 in
     filled_within _ _ (bound (start (at_a b))) (sums-b b) b.row_sums-2.auto.out
 
 pub slice_bounds-factor-end : goal.slice_bounds-factor-end
-slice_bounds-factor-end c = bound (start (at_a c.before.before.before))
+slice_bounds-factor-end c = bound (start (at_a (goal.at.slice_bounds-factor-end c).After-row_sums-2))
 
 pub slice_bounds-rest-end : goal.slice_bounds-rest-end
-slice_bounds-rest-end c = bound (start (at_a c.before.before.before.before))
+slice_bounds-rest-end c = bound (start (at_a (goal.at.slice_bounds-rest-end c).After-row_sums-2))
 
 pub divide_product_into-requires : goal.divide_product_into-requires
 divide_product_into-requires c =
-    let b = c.before.before.before.before.before.before in
+    let b = (goal.at.divide_product_into-requires c).After-row_sums-2 in
     let a = at_a b in
     let s = start a in
     let left = filled_length _ _ (bound s) (sums-a a) a.row-sums.kept.1.1.1.0 in

@@ -51,22 +51,22 @@ rows_made c {q} known =
     ∙ ap (λ (n : ℕ). words (tabulate n (λ i. lagrange n (element n i) α))) (sym (part_length _ (replicate 1024 0) (bound s))))
 
 pub slice_bounds-rows-end : goal.slice_bounds-rows-end
-slice_bounds-rows-end c = bound c.before.before.before.before
+slice_bounds-rows-end c = bound (goal.at.slice_bounds-rows-end c).Start
 
 pub lagrange_values_into-requires : goal.lagrange_values_into-requires
 lagrange_values_into-requires c =
-    let s = c.before.before.before.before.before in
+    let s = (goal.at.lagrange_values_into-requires c).Start in
     record {
       lt_p = s.requires.lt_p;
       out_value = ap is_size (sym (part_length _ _ (bound s))) ∙ s.requires.r_value;
     }
 
 pub slice_bounds-rows-end-2 : goal.slice_bounds-rows-end-2
-slice_bounds-rows-end-2 c = part_again c.before
+slice_bounds-rows-end-2 c = part_again (goal.at.slice_bounds-rows-end-2 c).After-lagrange_values_into
 
 pub entries_sum-requires : goal.entries_sum-requires
 entries_sum-requires c =
-    let r = c.before.before in
+    let r = (goal.at.entries_sum-requires c).After-lagrange_values_into in
     let s = start r in
     record {
       p_nonzero = omega arith;
@@ -74,11 +74,11 @@ entries_sum-requires c =
     }
 
 pub slice_bounds-rows-end-3 : goal.slice_bounds-rows-end-3
-slice_bounds-rows-end-3 c = part_again c.before.before.before
+slice_bounds-rows-end-3 c = part_again (goal.at.slice_bounds-rows-end-3 c).After-lagrange_values_into
 
 pub entries_sum-requires-2 : goal.entries_sum-requires-2
 entries_sum-requires-2 c =
-    let r = c.before.before.before.before in
+    let r = (goal.at.entries_sum-requires-2 c).After-lagrange_values_into in
     let s = start r in
     record {
       p_nonzero = omega arith;
@@ -86,11 +86,11 @@ entries_sum-requires-2 c =
     }
 
 pub slice_bounds-rows-end-4 : goal.slice_bounds-rows-end-4
-slice_bounds-rows-end-4 c = part_again c.before.before.before.before.before
+slice_bounds-rows-end-4 c = part_again (goal.at.slice_bounds-rows-end-4 c).After-lagrange_values_into
 
 pub entries_sum-requires-3 : goal.entries_sum-requires-3
 entries_sum-requires-3 c =
-    let r = c.before.before.before.before.before.before in
+    let r = (goal.at.entries_sum-requires-3 c).After-lagrange_values_into in
     let s = start r in
     record {
       p_nonzero = omega arith;
@@ -100,7 +100,7 @@ entries_sum-requires-3 c =
 pub returns : goal.returns
 unfolding sums
 returns c q known Q k W eR matrices ẑ values =
-    let r = c.before.before.before.before.before.before.before in
+    let r = (goal.at.returns c).After-lagrange_values_into in
     let a = (start r).args in
     let α : Elem q = of a.alpha in
     let z : List (Elem q) = map of a.z.now in

@@ -22,11 +22,11 @@ abbrev start : After-interpolate_into → Start
 start c = c.before.before.before.before.before
 
 pub slice_bounds-whole-end : goal.slice_bounds-whole-end
-slice_bounds-whole-end c = bound c.before.before.before
+slice_bounds-whole-end c = bound (goal.at.slice_bounds-whole-end c).Start
 
 pub interpolate_into-requires : goal.interpolate_into-requires
 interpolate_into-requires c =
-    let s = c.before.before.before.before in
+    let s = (goal.at.interpolate_into-requires c).Start in
     let size : length s.args.z.now ≡ s.args.c = s.requires.z_len.0 in
     record {
       lt_p = s.requires.lt_p;
@@ -35,12 +35,12 @@ interpolate_into-requires c =
 
 pub slice_bounds-whole-end-2 : goal.slice_bounds-whole-end-2
 slice_bounds-whole-end-2 c =
-    let v = c.before in
+    let v = (goal.at.slice_bounds-whole-end-2 c).After-interpolate_into in
     filled_within _ _ (bound (start v)) v.interpolate_into.new.out v.interpolate_into.auto.out
 
 pub quotient_into-requires : goal.quotient_into-requires
 quotient_into-requires c =
-    let v = c.before.before.before in
+    let v = (goal.at.quotient_into-requires c).After-interpolate_into in
     let s = start v in
     let size = filled_length _ _ (bound s) v.interpolate_into.new.out v.interpolate_into.auto.out in
     record {
@@ -54,7 +54,7 @@ shape_of-out c = c.quotient_into.auto.out
 
 pub returns : goal.returns
 returns c q known =
-    let v = c.before.before.before.before.before.before in
+    let v = (goal.at.returns c).After-interpolate_into in
     let s = start v in
     let values = v.interpolate_into in
     let z : Poly q = map of s.args.z.now in

@@ -24,11 +24,11 @@ pub overflow_add-n : goal.overflow_add-n
 overflow_add-n c = omega arith
 
 pub slice_bounds-vanishing-end : goal.slice_bounds-vanishing-end
-slice_bounds-vanishing-end c = bound c.before
+slice_bounds-vanishing-end c = bound (goal.at.slice_bounds-vanishing-end c).Start
 
 pub fill_vanishing-requires : goal.fill_vanishing-requires
 fill_vanishing-requires c =
-    let s = c.before.before in
+    let s = (goal.at.fill_vanishing-requires c).Start in
     record {
       p_nonzero = omega arith;
       in_bounds = above_one s.args.c (part_length _ _ (bound s)) (positive s);
@@ -36,12 +36,12 @@ fill_vanishing-requires c =
 
 pub slice_bounds-vanishing-end-2 : goal.slice_bounds-vanishing-end-2
 slice_bounds-vanishing-end-2 c =
-    let f = c.before in
+    let f = (goal.at.slice_bounds-vanishing-end-2 c).After-fill_vanishing in
     filled_within _ _ (bound (start f)) f.fill_vanishing.new.out f.fill_vanishing.auto.out
 
 pub quotient_into-requires : goal.quotient_into-requires
 quotient_into-requires c =
-    let f = c.before.before.before in
+    let f = (goal.at.quotient_into-requires c).After-fill_vanishing in
     let s = start f in
     let x : ℕ = s.args.x in
     let length-out : length s.args.out.now ≡ s.args.c + 1 - x = omega arith in
@@ -57,7 +57,7 @@ shape_of-out c = c.quotient_into.auto.out
 
 pub returns : goal.returns
 returns c q e =
-    let f = c.before.before.before.before.before.before in
+    let f = (goal.at.returns c).After-fill_vanishing in
     let s = start f in
     let fill = f.fill_vanishing in
     let n : ℕ = s.args.c in

@@ -43,7 +43,7 @@ slice_bounds-private_quotient_into-end c = omega arith
 
 pub private_quotient_into-requires : goal.private_quotient_into-requires
 private_quotient_into-requires c =
-    let s = c.before.before.before in
+    let s = (goal.at.private_quotient_into-requires c).Start in
     record {
       lt_p = s.requires.lt_p;
       c_value = s.requires.c_value;
@@ -60,11 +60,11 @@ pub overflow_add-l : goal.overflow_add-l
 overflow_add-l c = omega arith
 
 pub slice_bounds-ratio-end : goal.slice_bounds-ratio-end
-slice_bounds-ratio-end c = bound (start c.before.before)
+slice_bounds-ratio-end c = bound (start (goal.at.slice_bounds-ratio-end c).After-private_quotient_into)
 
 pub vanishing_ratio_into-requires : goal.vanishing_ratio_into-requires
 vanishing_ratio_into-requires c =
-    let s = start c.before.before.before in
+    let s = start (goal.at.vanishing_ratio_into-requires c).After-private_quotient_into in
     record {
       lt_p = s.pre.0;
       c_value = s.pre.1.0;
@@ -73,13 +73,13 @@ vanishing_ratio_into-requires c =
 
 pub slice_bounds-ratio-end-2 : goal.slice_bounds-ratio-end-2
 slice_bounds-ratio-end-2 c =
-    let r = c.before.before in
+    let r = (goal.at.slice_bounds-ratio-end-2 c).After-vanishing_ratio_into in
     let ratio = r.vanishing_ratio_into in
     filled_within _ _ (bound (start (at_quotient r))) ratio.new.out ratio.auto.out
 
 pub add_scaled-requires : goal.add_scaled-requires
 add_scaled-requires c =
-    let r = c.before.before.before in
+    let r = (goal.at.add_scaled-requires c).After-vanishing_ratio_into in
     let s = start (at_quotient r) in
     let ratio = r.vanishing_ratio_into in
     let first = (at_quotient r).private_quotient_into in record {
@@ -90,13 +90,13 @@ add_scaled-requires c =
 
 pub shape_of-out : goal.shape_of-out
 shape_of-out c =
-    let d = at_quotient c.before.before.before.before.before.before in
+    let d = at_quotient (goal.at.shape_of-out c).After-vanishing_ratio_into in
     let first = d.private-quotient-into in
     c.add_scaled.auto.f ∙ padded-length (start d) first.last.1.1.1.1.0 first.kept.1.1.1.1.0
 
 pub returns : goal.returns
 returns c q known k eC eX =
-    let r = c.before.before.before.before.before.before in
+    let r = (goal.at.returns c).After-vanishing_ratio_into in
     let s = start (at_quotient r) in
     let a = s.args in
     let first = (at_quotient r).private_quotient_into in

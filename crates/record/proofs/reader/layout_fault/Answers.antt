@@ -26,12 +26,12 @@ pub trailer_fault-requires : goal.trailer_fault-requires
 trailer_fault-requires c =
     let e = c in
     let bytes = e.args.bytes.now in
-    end_long (length bytes) (trailer_word bytes 17) (fine_none e.end_fault-end.result e.end_fault-end.ensures (fine c))
+    end_long (length bytes) (trailer_word bytes 17) (fine_none e.end_fault-end.result e.end_fault-end.ensures (fine (goal.at.trailer_fault-requires c).Else-not-is_fine))
 
 pub returns : goal.returns
 unfolding layout_refusal
 returns c =
-    let d = c.before in
+    let d = (goal.at.returns c).Else-not-is_fine in
     let e = d in
     goes_on e.end_fault-end.result e.end_fault-end.ensures (trailer_row e.args.bytes.now ∷ []) (fine d)
     (last_answer_lem c.trailer_fault.ensures)

@@ -24,7 +24,7 @@ returns-in-Refused c q e =
     ∙ first_stop (word_row bytes q ∷ []) (sym j.layout_fault.ensures ∙ ap fault_refusal c.number-1.given.1)))
 
 pub section_words_fault-requires : goal.section_words_fault-requires
-section_words_fault-requires c = free c.before.before c.enum_told-1.given.1
+section_words_fault-requires c = free (goal.at.section_words_fault-requires c).After-layout_fault c.enum_told-1.given.1
 
 pub returns-in-Refused-section_words_fault : goal.returns-in-Refused-section_words_fault
 returns-in-Refused-section_words_fault c q e =

@@ -44,7 +44,7 @@ pub loop-i-init : goal.loop-i-init
 loop-i-init c = (omega arith, passed_none 6 0 _)
 
 pub word_at-requires : goal.word_at-requires
-word_at-requires c = omega (arith, whole c.before.before)
+word_at-requires c = omega (arith, whole (goal.at.word_at-requires c).After-section_word_count-count)
 
 pub returns-then-p-word_at : goal.returns-then-p-word_at
 returns-then-p-word_at c q e =

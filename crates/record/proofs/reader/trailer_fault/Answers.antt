@@ -28,7 +28,7 @@ fine c = sym c.is_fine.ensures ∙ not-false _ c.if-not-is_fine.false
 
 pub returns-then-not-is_fine : goal.returns-then-not-is_fine
 returns-then-not-is_fine c =
-    let j = c.before.before in
+    let j = (goal.at.returns-then-not-is_fine c).After-judge_sizes-size in
     let s = j.before.before.before in
     stops j.judge_sizes-size.result (judged j) (rest s) (sym c.is_fine.ensures ∙ not-true _ c.if-not-is_fine.true)
     ∙ sym (trailer-rows s.args.bytes.now)
@@ -37,11 +37,11 @@ pub starts_fault-requires : goal.starts_fault-requires
 starts_fault-requires c =
     let j = c in
     let s = j.sizes_in-s.result in
-    (search rules, refuse-none 3 11 (six_size_tests (sizes s)) (fine_none j.judge_sizes-size.result j.judge_sizes-size.ensures (fine c)))
+    (search rules, refuse-none 3 11 (six_size_tests (sizes s)) (fine_none j.judge_sizes-size.result j.judge_sizes-size.ensures (fine (goal.at.starts_fault-requires c).Else-not-is_fine)))
 
 pub returns : goal.returns
 returns c =
-    let d = c.before in
+    let d = (goal.at.returns c).Else-not-is_fine in
     let j = d.before.before in
     let s = j.before.before.before in
     goes_on j.judge_sizes-size.result (judged j) (rest s) (fine d)

@@ -69,7 +69,7 @@ returns-in-Refused c =
 
 pub returns-then-k-ge-SECTIONS : goal.returns-then-k-ge-SECTIONS
 returns-then-k-ge-SECTIONS c =
-    let j = c.before.before.before in
+    let j = (goal.at.returns-then-k-ge-SECTIONS c).After-layout_fault in
     let a = j.args in
     record {
       result_value = λ q e. sym (place_by_number q a.bytes.now a.k (free j c.enum_told-1.given.1) c.if-k-ge-SECTIONS.true);
@@ -77,34 +77,34 @@ returns-then-k-ge-SECTIONS c =
     }
 
 pub section_words_fault-requires : goal.section_words_fault-requires
-section_words_fault-requires c = free c.before.before.before c.enum_told-1.given.1
+section_words_fault-requires c = free (goal.at.section_words_fault-requires c).After-layout_fault c.enum_told-1.given.1
 
 pub returns-in-Refused-section_words_fault : goal.returns-in-Refused-section_words_fault
 returns-in-Refused-section_words_fault c =
-    let w = c.before.before.before in record {
+    let w = (goal.at.returns-in-Refused-section_words_fault c).After-section_words_fault in record {
       result_value = λ q e. sym (place_by_words q (bytes w) (k w) (layout_free w) (below w)
           (sym (w.section_words_fault.ensures q e) ∙ ap fault_refusal c.number-in-Refused-section_words_fault-1.given.1));
       within = tt;
     }
 
 pub sizes_in-requires : goal.sizes_in-requires
-sizes_in-requires c = let w = c.before.before in (laid (bytes w) (layout_free w)).long
+sizes_in-requires c = let w = (goal.at.sizes_in-requires c).After-section_words_fault in (laid (bytes w) (layout_free w)).long
 
 pub section_bounds-bounds-requires : goal.section_bounds-bounds-requires
-section_bounds-bounds-requires c = let w = c.before.before.before in rw c.sizes_in.ensures (laid (bytes w) (layout_free w)).allowed
+section_bounds-bounds-requires c = let w = (goal.at.section_bounds-bounds-requires c).After-section_words_fault in rw c.sizes_in.ensures (laid (bytes w) (layout_free w)).allowed
 
 pub overflow_sub-result : goal.overflow_sub-result
-overflow_sub-result c = rises c
+overflow_sub-result c = rises (goal.at.overflow_sub-result c).After-section_bounds-bounds
 
 pub returns : goal.returns
 unfolding section_bytes
 returns c =
-    let w = scanned c in
-    let b = given c in
+    let w = scanned (goal.at.returns c).After-section_bounds-bounds in
+    let b = given (goal.at.returns c).After-section_bounds-bounds in
     let l = laid (bytes w) (layout_free w) in record {
-      result_value = λ q e. ap₂ (λ start len. Done (start, len)) (start_between (lengths w) b (same c) (k w) (within w))
-          (length-between (lengths w) b (same c) (k w) (within w))
+      result_value = λ q e. ap₂ (λ start len. Done (start, len)) (start_between (lengths w) b (same (goal.at.returns c).After-section_bounds-bounds) (k w) (within w))
+          (length-between (lengths w) b (same (goal.at.returns c).After-section_bounds-bounds) (k w) (within w))
           ∙ sym (place_found q (bytes w) (k w) (layout_free w) (below w)
           (sym (w.section-words-fault.ensures q e) ∙ ap fault_refusal c.enum_told-in_default-section_words_fault-1.given.1));
-      within = omega (arith, rises c, bounds-within (lengths w) b (same c) (k w) (within w), l.total, l.long);
+      within = omega (arith, rises (goal.at.returns c).After-section_bounds-bounds, bounds-within (lengths w) b (same (goal.at.returns c).After-section_bounds-bounds) (k w) (within w), l.total, l.long);
     }

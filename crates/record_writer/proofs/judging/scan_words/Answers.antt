@@ -15,7 +15,7 @@ here s = let a = s.args in refuse_words a.p a.scan.count a.ws.now ∷ []
 
 pub returns-then-not-is_fine : goal.returns-then-not-is_fine
 returns-then-not-is_fine c =
-    let s = c.before.before.before in
+    let s = (goal.at.returns-then-not-is_fine c).Start in
     record {
       count_value = refl;
       fault_value = stops s.args.scan.fault refl (here s) (sym c.is_fine.ensures ∙ not-true _ c.if-not-is_fine.true);

@@ -22,18 +22,18 @@ fine c = sym c.is_fine.ensures ∙ not-false _ c.if-not-is_fine.false
 pub returns-then-not-is_fine : goal.returns-then-not-is_fine
 unfolding shape_refusal size_refusal
 returns-then-not-is_fine c =
-    let j = c.before.before.before.before in
+    let j = (goal.at.returns-then-not-is_fine c).Start in
     stops j.judge_sizes-size.result j.judge_sizes-size.ensures (rest j) (sym c.is_fine.ensures ∙ not-true _ c.if-not-is_fine.true)
 
 pub lengths_fault-requires : goal.lengths_fault-requires
 lengths_fault-requires c =
     let j = c in
     let s = j in
-    (refuse-none 4 0 (six_size_tests (sizes s.args.s)) (fine_none j.judge_sizes-size.result j.judge_sizes-size.ensures (fine c)), s.requires)
+    (refuse-none 4 0 (six_size_tests (sizes s.args.s)) (fine_none j.judge_sizes-size.result j.judge_sizes-size.ensures (fine (goal.at.lengths_fault-requires c).Else-not-is_fine)), s.requires)
 
 pub returns : goal.returns
 unfolding shape_refusal size_refusal
 returns c =
-    let d = c.before in
+    let d = (goal.at.returns c).Else-not-is_fine in
     let j = d.before.before.before.before in
     goes_on j.judge_sizes-size.result j.judge_sizes-size.ensures (rest j) (fine d) (last_answer_lem c.lengths_fault.ensures)

@@ -50,19 +50,19 @@ shape c = let j = c.before.before in shaped (given j) (map length (parts j)) (le
 
 pub returns-then-not-is_fine : goal.returns-then-not-is_fine
 returns-then-not-is_fine c q e =
-    let j = c.before.before in
+    let j = (goal.at.returns-then-not-is_fine c).After-shape_fault-shape in
     let stop = sym c.is_fine.ensures ∙ not-true _ c.if-not-is_fine.true in
     write_refused q (given j) (parts j) (length (lent j)) j.shape_fault-shape.result (lent j) stop
     (stops j.shape_fault-shape.result j.shape_fault-shape.ensures (words_row q j) stop)
 
 pub sections_fault-word-requires : goal.sections_fault-word-requires
 sections_fault-word-requires c =
-    let j = c.before.before in
-    omega (arith, few_bytes (given j) (map length (parts j)) (length (lent j)) (shape c))
+    let j = (goal.at.sections_fault-word-requires c).After-shape_fault-shape in
+    omega (arith, few_bytes (given j) (map length (parts j)) (length (lent j)) (shape (goal.at.sections_fault-word-requires c).Else-not-is_fine))
 
 pub returns-then-not-is_fine-2 : goal.returns-then-not-is_fine-2
 returns-then-not-is_fine-2 c q e =
-    let w = c.before.before.before in
+    let w = (goal.at.returns-then-not-is_fine-2 c).Else-not-is_fine in
     let j = w.before.before in
     let stop = sym c.is_fine-2.ensures ∙ not-true _ c.if-not-is_fine-2.true in
     write_refused q (given j) (parts j) (length (lent j)) w.sections_fault-word.result (lent j) stop
@@ -71,7 +71,7 @@ returns-then-not-is_fine-2 c q e =
 
 pub fill_record-requires : goal.fill_record-requires
 fill_record-requires c =
-    let d = c.before.before.before.before in
+    let d = (goal.at.fill_record-requires c).Else-not-is_fine in
     let j = d.before.before in
     record {
       allowed = (shape d).allowed;

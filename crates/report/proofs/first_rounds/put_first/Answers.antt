@@ -32,26 +32,26 @@ abbrev at-lengths : After-first_round → After-lengths_of-due
 at-lengths c = c.before.before.before
 
 pub slice_bounds-witness-end : goal.slice_bounds-witness-end
-slice_bounds-witness-end c = (room c).witness_most
+slice_bounds-witness-end c = (room (goal.at.slice_bounds-witness-end c).After-lengths_of-due).witness_most
 
 pub slice_bounds-quotient-end : goal.slice_bounds-quotient-end
-slice_bounds-quotient-end c = (room c.before).row_quotient_most
+slice_bounds-quotient-end c = (room (goal.at.slice_bounds-quotient-end c).After-lengths_of-due).row_quotient_most
 
 pub slice_bounds-witness-end-2 : goal.slice_bounds-witness-end-2
 slice_bounds-witness-end-2 c =
-    let f = c.before.before in
+    let f = (goal.at.slice_bounds-witness-end-2 c).After-first_round in
     back_holds 1024 (room (at-lengths f)).witness_most f.first_round.new.witness
     f.first_round.auto.witness
 
 pub slice_bounds-quotient-end-2 : goal.slice_bounds-quotient-end-2
 slice_bounds-quotient-end-2 c =
-    let f = c.before.before.before in
+    let f = (goal.at.slice_bounds-quotient-end-2 c).After-first_round in
     back_holds 1024 (room (at-lengths f)).row_quotient_most f.first_round.new.row_quotient
     f.first_round.auto.row_quotient
 
 pub put_first_lines-requires : goal.put_first_lines-requires
 put_first_lines-requires c =
-    let f = c.before.before.before.before.before in
+    let f = (goal.at.put_first_lines-requires c).After-first_round in
     let last = f.first_round.new.1.1.1.1.1.1.1.1.1 in
     let kept = f.first_round.auto.1.1.1.1.1.1.1.1.1 in
     let n = at-lengths f in
@@ -68,7 +68,7 @@ put_first_lines-requires c =
 pub returns : goal.returns
 unfolding first_text
 returns c =
-    let f = c.before.before.before.before.before.before.before.before in
+    let f = (goal.at.returns c).After-first_round in
     let n = at-lengths f in
     let last = f.first_round.new.1.1.1.1.1.1.1.1.1 in
     let kept = f.first_round.auto.1.1.1.1.1.1.1.1.1 in

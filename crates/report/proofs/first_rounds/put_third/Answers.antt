@@ -32,26 +32,26 @@ abbrev at-lengths : After-third_round → After-lengths_of-due
 at-lengths c = c.before.before.before
 
 pub slice_bounds-remainder-end : goal.slice_bounds-remainder-end
-slice_bounds-remainder-end c = (room c).line_remainder_most
+slice_bounds-remainder-end c = (room (goal.at.slice_bounds-remainder-end c).After-lengths_of-due).line_remainder_most
 
 pub slice_bounds-quotient-end : goal.slice_bounds-quotient-end
-slice_bounds-quotient-end c = (room c.before).line_quotient_most
+slice_bounds-quotient-end c = (room (goal.at.slice_bounds-quotient-end c).After-lengths_of-due).line_quotient_most
 
 pub slice_bounds-remainder-end-2 : goal.slice_bounds-remainder-end-2
 slice_bounds-remainder-end-2 c =
-    let f = c.before.before in
+    let f = (goal.at.slice_bounds-remainder-end-2 c).After-third_round in
     back_holds 1024 (room (at-lengths f)).line_remainder_most f.third_round.new.remainder
     f.third_round.auto.remainder
 
 pub slice_bounds-quotient-end-2 : goal.slice_bounds-quotient-end-2
 slice_bounds-quotient-end-2 c =
-    let f = c.before.before.before in
+    let f = (goal.at.slice_bounds-quotient-end-2 c).After-third_round in
     back_holds 1024 (room (at-lengths f)).line_quotient_most f.third_round.new.quotient
     f.third_round.auto.quotient
 
 pub put_third_lines-requires : goal.put_third_lines-requires
 put_third_lines-requires c =
-    let f = c.before.before.before.before.before in
+    let f = (goal.at.put_third_lines-requires c).After-third_round in
     let last = f.third_round.new.1.1.1.1.1.1.1.1.1.1.1 in
     let kept = f.third_round.auto.1.1.1.1.1.1.1.1.1.1.1 in
     let n = at-lengths f in
@@ -64,7 +64,7 @@ put_third_lines-requires c =
 pub returns : goal.returns
 unfolding third_text
 returns c =
-    let f = c.before.before.before.before.before.before.before.before in
+    let f = (goal.at.returns c).After-third_round in
     let n = at-lengths f in
     let a = (start n).args in
     let last = f.third_round.new.1.1.1.1.1.1.1.1.1.1.1 in

@@ -31,17 +31,17 @@ abbrev at-lengths : After-fifth_round → After-lengths_of-n
 at-lengths c = c.before.before
 
 pub slice_bounds-quotient-end : goal.slice_bounds-quotient-end
-slice_bounds-quotient-end c = (room c).joined_quotient_most
+slice_bounds-quotient-end c = (room (goal.at.slice_bounds-quotient-end c).After-lengths_of-n).joined_quotient_most
 
 pub slice_bounds-quotient-end-2 : goal.slice_bounds-quotient-end-2
 slice_bounds-quotient-end-2 c =
-    let f = c.before.before.before in
+    let f = (goal.at.slice_bounds-quotient-end-2 c).After-fifth_round in
     back_holds 1024 (room (at-lengths f)).joined_quotient_most f.fifth_round.new.out
     f.fifth_round.auto.out
 
 pub put_line-requires : goal.put_line-requires
 put_line-requires c =
-    let f = c.before.before.before.before.before in
+    let f = (goal.at.put_line-requires c).After-fifth_round in
     let n = at-lengths f in
     let h = (room n).joined_quotient_most in
     let long = back_length 1024 h f.fifth_round.new.out f.fifth_round.auto.out in
@@ -50,7 +50,7 @@ put_line-requires c =
 pub returns : goal.returns
 unfolding fifth_text
 returns c =
-    let f = c.before.before.before.before.before.before.before.before in
+    let f = (goal.at.returns c).After-fifth_round in
     let n = at-lengths f in
     let a = (start n).args in
     let last = f.fifth_round.new.out in

@@ -35,35 +35,35 @@ abbrev at-lengths : After-fourth_round-answer → After-lengths_of
 at-lengths c = c.before.before.before.before.before
 
 pub slice_bounds-ga-end : goal.slice_bounds-ga-end
-slice_bounds-ga-end c = (room c.before).a_most
+slice_bounds-ga-end c = (room (goal.at.slice_bounds-ga-end c).After-lengths_of).a_most
 
 pub slice_bounds-gb-end : goal.slice_bounds-gb-end
-slice_bounds-gb-end c = (room c.before.before).b_most
+slice_bounds-gb-end c = (room (goal.at.slice_bounds-gb-end c).After-lengths_of).b_most
 
 pub slice_bounds-gc-end : goal.slice_bounds-gc-end
-slice_bounds-gc-end c = (room c.before.before.before).c_most
+slice_bounds-gc-end c = (room (goal.at.slice_bounds-gc-end c).After-lengths_of).c_most
 
 pub slice_bounds-ga-end-2 : goal.slice_bounds-ga-end-2
 slice_bounds-ga-end-2 c =
-    let f = c.before.before.before.before in
+    let f = (goal.at.slice_bounds-ga-end-2 c).After-fourth_round-answer in
     back_holds 1024 (room (at-lengths f)).a_most f.fourth_round-answer.new.ga
     f.fourth_round-answer.auto.ga
 
 pub slice_bounds-gb-end-2 : goal.slice_bounds-gb-end-2
 slice_bounds-gb-end-2 c =
-    let f = c.before.before.before.before.before in
+    let f = (goal.at.slice_bounds-gb-end-2 c).After-fourth_round-answer in
     back_holds 1024 (room (at-lengths f)).b_most f.fourth_round-answer.new.gb
     f.fourth_round-answer.auto.gb
 
 pub slice_bounds-gc-end-2 : goal.slice_bounds-gc-end-2
 slice_bounds-gc-end-2 c =
-    let f = c.before.before.before.before.before.before in
+    let f = (goal.at.slice_bounds-gc-end-2 c).After-fourth_round-answer in
     back_holds 1024 (room (at-lengths f)).c_most f.fourth_round-answer.new.gc
     f.fourth_round-answer.auto.gc
 
 pub put_fourth_lines-place-requires : goal.put_fourth_lines-place-requires
 put_fourth_lines-place-requires c =
-    let f = c.before.before.before.before.before.before.before.before in
+    let f = (goal.at.put_fourth_lines-place-requires c).After-fourth_round-answer in
     let last = f.fourth_round-answer.new.1.1.1.1.1.1.1.1.1.1.1.1 in
     let kept = f.fourth_round-answer.auto.1.1.1.1.1.1.1.1.1.1.1.1 in
     let n = at-lengths f in

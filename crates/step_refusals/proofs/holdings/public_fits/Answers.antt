@@ -37,11 +37,11 @@ below-is q c e =
 
 pub returns-then-not-begins_with_one : goal.returns-then-not-begins_with_one
 unfolding public_fits
-returns-then-not-begins_with_one c q e = ap (λ b. b && rest q c.before.before.before) (sym (not-true _ c.if-not-begins_with_one.true) ∙ c.begins_with_one.ensures)
+returns-then-not-begins_with_one c q e = ap (λ b. b && rest q (goal.at.returns-then-not-begins_with_one c).Start) (sym (not-true _ c.if-not-begins_with_one.true) ∙ c.begins_with_one.ensures)
 
 pub returns-then-not-all_below : goal.returns-then-not-all_below
 returns-then-not-all_below c q e =
-    let b = c.before.before in
+    let b = (goal.at.returns-then-not-all_below c).Else-not-begins_with_one in
     ap (λ t. t && zeros (from-below b)) (sym (not-true _ c.if-not-all_below.true) ∙ below-is q b e) ∙ past_first q b
 
 pub returns : goal.returns

@@ -57,37 +57,37 @@ pub returns-then-not-all_below : goal.returns-then-not-all_below
 unfolding transcript_fits
 returns-then-not-all_below c q Q e =
     let s = c.before.before.before.before in
-    ap (λ b. b && from_α q s) (sym (not-true _ c.if-not-all_below.true) ∙ words-is q c.before e)
+    ap (λ b. b && from_α q s) (sym (not-true _ c.if-not-all_below.true) ∙ words-is q (goal.at.returns-then-not-all_below c).After-all_below e)
 
 pub is_inside-requires : goal.is_inside-requires
 is_inside-requires c = record {
   lt_p = search rules;
-  n_value = (sized c.before.before.before.before).R-size;
+  n_value = (sized (goal.at.is_inside-requires c).Start).R-size;
 }
 
 pub returns-then-is_inside : goal.returns-then-is_inside
 unfolding transcript_fits
 returns-then-is_inside c q Q e =
-    let i = c.before.before in
+    let i = (goal.at.returns-then-is_inside c).Else-not-all_below in
     let s = i.before.before.before.before.before in
     ap (λ b. not b && from_β q s) (sym c.if-is_inside.true ∙ i.is_inside.ensures q Q e) ∙ past_words q i e
 
 pub is_inside-requires-2 : goal.is_inside-requires-2
 is_inside-requires-2 c = record {
   lt_p = search rules;
-  n_value = (sized c.before.before.before.before.before.before).C-size;
+  n_value = (sized (goal.at.is_inside-requires-2 c).Start).C-size;
 }
 
 pub returns-then-is_inside-2 : goal.returns-then-is_inside-2
 unfolding transcript_fits
 returns-then-is_inside-2 c q Q e =
-    let i = c.before.before.before.before in
+    let i = (goal.at.returns-then-is_inside-2 c).Else-not-all_below in
     let s = i.before.before.before.before.before.before.before in
     ap (λ b. not b && at-γ q s) (sym c.if-is_inside-2.true ∙ i.is_inside-2.ensures q Q e) ∙ past_α q i.before Q e ∙ past_words q i e
 
 pub is_inside-requires-3 : goal.is_inside-requires-3
 is_inside-requires-3 c =
-    let s = c.before.before.before.before.before.before.before.before.before.before in
+    let s = (goal.at.is_inside-requires-3 c).Start in
     record {
       lt_p = search rules;
       n_value = ap is_size c.largest.ensures ∙ largest_size (sizes s.args.s) (sized s);
@@ -96,7 +96,7 @@ is_inside-requires-3 c =
 pub returns : goal.returns
 unfolding transcript_fits
 returns c q Q e =
-    let β = c.before.before.before in
+    let β = (goal.at.returns c).Else-is_inside-2 in
     let α = β.before.before.before.before in
     let s = α in
     ap not (c.is_inside-3.ensures q Q e ∙ ap (λ n. inside {q = q} n (of s.args.t.gamma)) c.largest.ensures)

@@ -38,13 +38,13 @@ below q c e = lt-ltb (start c.before.before.before).args.y q.p (omega arith)
 
 pub returns-then-not-is_fine : goal.returns-then-not-is_fine
 returns-then-not-is_fine c q Q e =
-    let j = c.before.before in
+    let j = (goal.at.returns-then-not-is_fine c).After-judge_turn-turn in
     stops j.judge_turn-turn.result j.judge_turn-turn.ensures (after_turn (start j) q) (sym c.is_fine.ensures ∙ not-true _ c.if-not-is_fine.true)
 
 pub returns-then-p-y : goal.returns-then-p-y
 unfolding word_refusal
 returns-then-p-y c q Q e =
-    let d = c.before in
+    let d = (goal.at.returns-then-p-y c).Else-not-is_fine in
     let j = d.before.before in
     let s = start j in
     goes_on j.judge_turn-turn.result j.judge_turn-turn.ensures (after_turn s q) (fine d)
@@ -52,7 +52,7 @@ returns-then-p-y c q Q e =
 
 pub is_inside-requires : goal.is_inside-requires
 is_inside-requires c =
-    let d = c.before in
+    let d = (goal.at.is_inside-requires c).Else-not-is_fine in
     let j = d.before.before in
     let s = start j in
     let a = s.args in
@@ -64,7 +64,7 @@ is_inside-requires c =
 pub returns-then-is_inside : goal.returns-then-is_inside
 unfolding word_refusal challenge_refusal
 returns-then-is_inside c q Q e =
-    let i = c.before.before in
+    let i = (goal.at.returns-then-is_inside c).Else-p-y in
     let d = i.before in
     let j = d.before.before in
     let s = start j in

@@ -40,12 +40,12 @@ past_turn q c =
 pub returns-then-not-is_fine : goal.returns-then-not-is_fine
 unfolding delta_refusal
 returns-then-not-is_fine c q e =
-    let j = c.before.before.before in
+    let j = (goal.at.returns-then-not-is_fine c).Start in
     stops j.judge_turn-turn.result j.judge_turn-turn.ensures (rest j q) (sym c.is_fine.ensures ∙ not-true _ c.if-not-is_fine.true)
 
 pub returns-then-not-is_fine-2 : goal.returns-then-not-is_fine-2
 returns-then-not-is_fine-2 c q e =
-    let w = c.before.before.before.before in
+    let w = (goal.at.returns-then-not-is_fine-2 c).Else-not-is_fine in
     let s = w.before.before.before in
     past_turn q w
     (stops w.judge_words-word.result (w.judge_words-word.ensures ∙ word_row q e (ws s)) (lengths-row s)

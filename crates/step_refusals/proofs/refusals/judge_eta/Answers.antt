@@ -25,7 +25,7 @@ module _ (s : Start) where
 pub returns-then-not-is_fine : goal.returns-then-not-is_fine
 unfolding eta_refusal
 returns-then-not-is_fine c q e =
-    let j = c.before.before.before in
+    let j = (goal.at.returns-then-not-is_fine c).Start in
     stops j.judge_turn-turn.result j.judge_turn-turn.ensures (rest j q) (sym c.is_fine.ensures ∙ not-true _ c.if-not-is_fine.true)
 
 pub returns : goal.returns

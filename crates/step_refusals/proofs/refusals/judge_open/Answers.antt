@@ -42,18 +42,18 @@ from-words c = c.before.before.before.before.before.before.before
 pub returns-then-not-is_fine : goal.returns-then-not-is_fine
 unfolding open_refusal size_refusal
 returns-then-not-is_fine c q e =
-    let j = c.before.before.before.before in
+    let j = (goal.at.returns-then-not-is_fine c).Start in
     stops j.judge_sizes-size.result j.judge_sizes-size.ensures (rest q j) (sym c.is_fine.ensures ∙ not-true _ c.if-not-is_fine.true)
 
 pub returns-then-x-s : goal.returns-then-x-s
 unfolding list_refusal
 returns-then-x-s c q e =
-    let d = c.before.before.before.before.before.before in
+    let d = (goal.at.returns-then-x-s c).Start in
     past_sizes q d (fails_first 5 0 (after-length q d) (ne_eqb _ _ c.if-x-s.true))
 
 pub returns-then-not-is_fine-2 : goal.returns-then-not-is_fine-2
 returns-then-not-is_fine-2 c q e =
-    let w = c.before.before.before in
+    let w = (goal.at.returns-then-not-is_fine-2 c).Else-x-s in
     let x = (from-words w).args.x.now in
     past_length q w
     (stops w.judge_words-in_words.result {o = word_refusal q x} (w.judge_words-in_words.ensures ∙ word_row q e x) (constant_refusal x ∷ [])

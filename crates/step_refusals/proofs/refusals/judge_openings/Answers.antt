@@ -31,7 +31,7 @@ turn c = sym c.in_turn.ensures ∙ not-false _ c.if-not-in_turn.false
 pub returns-then-not-in_turn : goal.returns-then-not-in_turn
 unfolding openings_refusal turn_refusal
 returns-then-not-in_turn c q Q e =
-    let s = c.before.before.before in
+    let s = (goal.at.returns-then-not-in_turn c).Start in
     fails_first 1 0 (rest s q) (ap (λ b. b && left_by_steps q (session s)) (sym c.in_turn.ensures ∙ not-true _ c.if-not-in_turn.true))
 
 pub left_by_steps-requires : goal.left_by_steps-requires
@@ -39,14 +39,14 @@ left_by_steps-requires c =
     let s = c in
     record {
       lt_p = search rules;
-      s_value = all_true (six_size_tests (sizes s.args.s)) (in_turn_lem 6 s.args.stage (sizes s.args.s) (turn c)).sizes-allowed;
+      s_value = all_true (six_size_tests (sizes s.args.s)) (in_turn_lem 6 s.args.stage (sizes s.args.s) (turn (goal.at.left_by_steps-requires c).Else-not-in_turn)).sizes-allowed;
       x_len = search rules;
     }
 
 pub returns-then-not-left_by_steps : goal.returns-then-not-left_by_steps
 unfolding openings_refusal turn_refusal
 returns-then-not-left_by_steps c q Q e =
-    let l = c.before.before in
+    let l = (goal.at.returns-then-not-left_by_steps c).Else-not-in_turn in
     let s = l.before.before.before in
     fails_first 1 0 (rest s q)
     (ap₂ ◌&&◌ (turn l) (sym (l.left_by_steps.ensures q Q e s.args.stage) ∙ not-true _ c.if-not-left_by_steps.true))

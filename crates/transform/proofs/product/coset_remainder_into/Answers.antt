@@ -94,14 +94,14 @@ module _ (c : After-coset_values_into-2) where
   second-length = back_length 1024 (bound (start second-tables)) second c.coset_values_into-2.auto.out
 
 pub slice_bounds-value_powers-end : goal.slice_bounds-value_powers-end
-slice_bounds-value_powers-end c = bound c.before.before.before.before.before
+slice_bounds-value_powers-end c = bound (goal.at.slice_bounds-value_powers-end c).Start
 
 pub slice_bounds-value_quotients-end : goal.slice_bounds-value_quotients-end
-slice_bounds-value_quotients-end c = bound c.before.before.before.before.before.before
+slice_bounds-value_quotients-end c = bound (goal.at.slice_bounds-value_quotients-end c).Start
 
 pub fill_tables-requires : goal.fill_tables-requires
 fill_tables-requires c =
-    let s = c.before.before.before.before.before.before.before in
+    let s = (goal.at.fill_tables-requires c).Start in
     let part = lent_length 1024 (bound s) in
     record {
       lt_p = s.requires.lt_p;
@@ -109,18 +109,18 @@ fill_tables-requires c =
     }
 
 pub slice_bounds-value_powers-end-2 : goal.slice_bounds-value_powers-end-2
-slice_bounds-value_powers-end-2 c = value-powers_holds c.before.before
+slice_bounds-value_powers-end-2 c = value-powers_holds (goal.at.slice_bounds-value_powers-end-2 c).After-fill_tables
 
 pub slice_bounds-value_quotients-end-2 : goal.slice_bounds-value_quotients-end-2
-slice_bounds-value_quotients-end-2 c = value-quotients_holds c.before.before.before
+slice_bounds-value_quotients-end-2 c = value-quotients_holds (goal.at.slice_bounds-value_quotients-end-2 c).After-fill_tables
 
 pub slice_bounds-left-end : goal.slice_bounds-left-end
-slice_bounds-left-end c = bound (start-from-fill-tables c.before.before.before.before)
+slice_bounds-left-end c = bound (start-from-fill-tables (goal.at.slice_bounds-left-end c).After-fill_tables)
 
 pub coset_values_into-requires : goal.coset_values_into-requires
 coset_values_into-requires c =
-    let s = start-from-fill-tables c.before.before.before.before.before in
-    let t = c.before.before.before.before.before in
+    let s = start-from-fill-tables (goal.at.coset_values_into-requires c).After-fill_tables in
+    let t = (goal.at.coset_values_into-requires c).After-fill_tables in
     let part = lent_length 1024 (bound s) in record {
       lt_p = s.pre.0;
       out_value = ap is_size (sym part) ∙ s.pre.1.0;
@@ -129,18 +129,18 @@ coset_values_into-requires c =
     }
 
 pub slice_bounds-value_powers-end-3 : goal.slice_bounds-value_powers-end-3
-slice_bounds-value_powers-end-3 c = value-powers_holds (fill-tables-from-coset-values-into c.before)
+slice_bounds-value_powers-end-3 c = value-powers_holds (fill-tables-from-coset-values-into (goal.at.slice_bounds-value_powers-end-3 c).After-coset_values_into)
 
 pub slice_bounds-value_quotients-end-3 : goal.slice_bounds-value_quotients-end-3
-slice_bounds-value_quotients-end-3 c = value-quotients_holds (fill-tables-from-coset-values-into c.before.before)
+slice_bounds-value_quotients-end-3 c = value-quotients_holds (fill-tables-from-coset-values-into (goal.at.slice_bounds-value_quotients-end-3 c).After-coset_values_into)
 
 pub slice_bounds-right-end : goal.slice_bounds-right-end
-slice_bounds-right-end c = bound (start-from-coset-values-into c.before.before.before)
+slice_bounds-right-end c = bound (start-from-coset-values-into (goal.at.slice_bounds-right-end c).After-coset_values_into)
 
 pub coset_values_into-requires-2 : goal.coset_values_into-requires-2
 coset_values_into-requires-2 c =
-    let s = start-from-coset-values-into c.before.before.before.before in
-    let t = fill-tables-from-coset-values-into c.before.before.before.before in
+    let s = start-from-coset-values-into (goal.at.coset_values_into-requires-2 c).After-coset_values_into in
+    let t = fill-tables-from-coset-values-into (goal.at.coset_values_into-requires-2 c).After-coset_values_into in
     let part = lent_length 1024 (bound s) in record {
       lt_p = s.pre.0;
       out_value = ap is_size (sym part) ∙ s.pre.1.0;
@@ -150,32 +150,32 @@ coset_values_into-requires-2 c =
 
 pub slice_bounds-left-end-2 : goal.slice_bounds-left-end-2
 slice_bounds-left-end-2 c =
-    let l = coset-values-into-from-coset-values-into2 c.before in
-    back_holds 1024 (bound (start-from-coset-values-into2 c.before)) (first l) l.coset-values-into.kept.1.1.1.1.1.0
+    let l = coset-values-into-from-coset-values-into2 (goal.at.slice_bounds-left-end-2 c).After-coset_values_into-2 in
+    back_holds 1024 (bound (start-from-coset-values-into2 (goal.at.slice_bounds-left-end-2 c).After-coset_values_into-2)) (first l) l.coset-values-into.kept.1.1.1.1.1.0
 
 pub slice_bounds-right-end-2 : goal.slice_bounds-right-end-2
 slice_bounds-right-end-2 c =
-    let r = c.before.before in
-    back_holds 1024 (bound (start-from-coset-values-into2 c.before.before)) (second r) r.coset_values_into-2.auto.out
+    let r = (goal.at.slice_bounds-right-end-2 c).After-coset_values_into-2 in
+    back_holds 1024 (bound (start-from-coset-values-into2 (goal.at.slice_bounds-right-end-2 c).After-coset_values_into-2)) (second r) r.coset_values_into-2.auto.out
 
 pub remainder_from-requires : goal.remainder_from-requires
 remainder_from-requires c =
-    let s = start-from-coset-values-into2 c.before.before.before.before in record {
+    let s = start-from-coset-values-into2 (goal.at.remainder_from-requires c).After-coset_values_into-2 in record {
       lt_p = s.pre.0;
       out_value = s.pre.1.0;
       left_len = (
-        sym (first-length (coset-values-into-from-coset-values-into2 c.before.before.before.before)),
+        sym (first-length (coset-values-into-from-coset-values-into2 (goal.at.remainder_from-requires c).After-coset_values_into-2)),
         sym
-            (second-length c.before.before.before.before),
+            (second-length (goal.at.remainder_from-requires c).After-coset_values_into-2),
       );
       out_in_bounds = s.pre.1.1.1;
     }
 
 pub returns : goal.returns
 returns c q Q e root-word tables =
-    let t = fill-tables-from-remainder-from c.before.before in
-    let l = coset-values-into-from-remainder-from c.before.before in
-    let r = coset-values-into2-from-remainder-from c.before.before in
+    let t = fill-tables-from-remainder-from (goal.at.returns c).After-remainder_from in
+    let l = coset-values-into-from-remainder-from (goal.at.returns c).After-remainder_from in
+    let r = coset-values-into2-from-remainder-from (goal.at.returns c).After-remainder_from in
     let s = start t in
     let a = s.args in
     let m : ℕ = n t in

@@ -39,11 +39,11 @@ module _ (c : After-twist_into) where
   made_length = back_length 1024 (bound (start c)) made c.twist_into.auto.out
 
 pub slice_bounds-twisted-end : goal.slice_bounds-twisted-end
-slice_bounds-twisted-end c = bound c.before.before.before.before
+slice_bounds-twisted-end c = bound (goal.at.slice_bounds-twisted-end c).Start
 
 pub twist_into-requires : goal.twist_into-requires
 twist_into-requires c =
-    let s = c.before.before.before.before.before in
+    let s = (goal.at.twist_into-requires c).Start in
     record {
       lt_p = s.requires.lt_p;
       f_len = s.requires.f_len ∙ lent_length 1024 (bound s);
@@ -51,12 +51,12 @@ twist_into-requires c =
 
 pub slice_bounds-twisted-end-2 : goal.slice_bounds-twisted-end-2
 slice_bounds-twisted-end-2 c =
-    let t = c.before in
+    let t = (goal.at.slice_bounds-twisted-end-2 c).After-twist_into in
     back_holds 1024 (bound (start t)) (made t) t.twist_into.auto.out
 
 pub evaluate_with-requires : goal.evaluate_with-requires
 evaluate_with-requires c =
-    let t = c.before.before.before in
+    let t = (goal.at.evaluate_with-requires c).After-twist_into in
     let s = start t in
     let long = made_length t in record {
       lt_p = s.pre.0;
@@ -66,7 +66,7 @@ evaluate_with-requires c =
 
 pub returns : goal.returns
 returns c q Q e tables =
-    let t = twist-into-from-evaluate-with c.before.before in
+    let t = twist-into-from-evaluate-with (goal.at.returns c).After-evaluate_with in
     let s = start t in
     let a = s.args in
     let f : Poly q = twist (prime_ring q) (of a.s) (map of a.f.now) in

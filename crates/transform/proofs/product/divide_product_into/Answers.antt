@@ -52,17 +52,17 @@ module _ (c : After-fill_inverse_tables) where
   quotients-length = back_length 1024 (bound start) quotients c.fill_inverse_tables.auto.quotients
 
 pub overflow_cast-n : goal.overflow_cast-n
-overflow_cast-n c = omega (arith, bound c.before.before.before.before.before)
+overflow_cast-n c = omega (arith, bound (goal.at.overflow_cast-n c).Start)
 
 pub slice_bounds-powers-end : goal.slice_bounds-powers-end
-slice_bounds-powers-end c = bound (start-from-root-of c)
+slice_bounds-powers-end c = bound (start-from-root-of (goal.at.slice_bounds-powers-end c).After-root_of-root)
 
 pub slice_bounds-quotients-end : goal.slice_bounds-quotients-end
-slice_bounds-quotients-end c = bound (start-from-root-of c.before)
+slice_bounds-quotients-end c = bound (start-from-root-of (goal.at.slice_bounds-quotients-end c).After-root_of-root)
 
 pub fill_inverse_tables-requires : goal.fill_inverse_tables-requires
 fill_inverse_tables-requires c =
-    let s = start-from-root-of c.before.before in
+    let s = start-from-root-of (goal.at.fill_inverse_tables-requires c).After-root_of-root in
     let part = lent_length 1024 (bound s) in
     record {
       lt_p = s.pre.0.0;
@@ -71,26 +71,26 @@ fill_inverse_tables-requires c =
 
 pub slice_bounds-powers-end-2 : goal.slice_bounds-powers-end-2
 slice_bounds-powers-end-2 c =
-    let t = c.before.before in
+    let t = (goal.at.slice_bounds-powers-end-2 c).After-fill_inverse_tables in
     back_holds 1024 (bound (start t)) (powers t) t.fill_inverse_tables.auto.powers
 
 pub slice_bounds-quotients-end-2 : goal.slice_bounds-quotients-end-2
 slice_bounds-quotients-end-2 c =
-    let t = c.before.before.before in
+    let t = (goal.at.slice_bounds-quotients-end-2 c).After-fill_inverse_tables in
     back_holds 1024 (bound (start t)) (quotients t) t.fill_inverse_tables.auto.quotients
 
 pub divide_with-requires : goal.divide_with-requires
 divide_with-requires c =
-    let s = start-from-fill-inverse-tables c.before.before.before.before.before.before.before in
-    let t = c.before.before.before.before.before.before.before in
+    let s = start-from-fill-inverse-tables (goal.at.divide_with-requires c).After-fill_inverse_tables in
+    let t = (goal.at.divide_with-requires c).After-fill_inverse_tables in
     (s.pre.0, (s.pre.1.0, ((omega (arith, powers-length t), omega (arith, quotients-length t)), s.pre.1.1)))
 
 pub returns : goal.returns
 returns c q known =
-    let t = fill-inverse-tables-from-divide-with c.before.before.before.before.before.before in
+    let t = fill-inverse-tables-from-divide-with (goal.at.returns c).After-divide_with in
     let call = t.fill-inverse-tables in
     let fits = bound (start t) in
-    let root-word = (root-of-from-divide-with c.before.before.before.before.before.before).root_of-root.ensures q known in
+    let root-word = (root-of-from-divide-with (goal.at.returns c).After-divide_with).root_of-root.ensures q known in
     c.divide_with.ensures q known root-word
     (coefficients_lent q 1024 fits (powers t) (quotients t) call.kept.1.1.0 call.kept.1.1.1.0
     (call.ensures q known.value (root-word ∙ ap (λ (m : ℕ). (root {q = q} m).word) (lent_length 1024 fits))))

@@ -98,11 +98,11 @@ module _ (c : After-coset_remainder_into) where
   turned_length = back_length 1024 (bound (start at_other)) turned c.coset_remainder_into.auto.out
 
 pub slice_bounds-other-end : goal.slice_bounds-other-end
-slice_bounds-other-end c = bound (start-from-interpolate-with c.before.before)
+slice_bounds-other-end c = bound (start-from-interpolate-with (goal.at.slice_bounds-other-end c).After-interpolate_with)
 
 pub interpolate_with-requires-2 : goal.interpolate_with-requires-2
 interpolate_with-requires-2 c =
-    let s = start-from-interpolate-with c.before.before.before in
+    let s = start-from-interpolate-with (goal.at.interpolate_with-requires-2 c).After-interpolate_with in
     let right : length s.args.right.now ≡ length s.args.left.now = s.pre.1.1.1.0.0 in record {
       lt_p = s.pre.0.0;
       out_len = (sym (lent_length 1024 (bound s)) ∙ sym right, ap is_size right ∙ s.pre.1.0);
@@ -111,7 +111,7 @@ interpolate_with-requires-2 c =
 
 pub remainder_from-requires : goal.remainder_from-requires
 remainder_from-requires c =
-    let s = start-from-interpolate-with2 c.before.before in
+    let s = start-from-interpolate-with2 (goal.at.remainder_from-requires c).After-interpolate_with-2 in
     let rest : length s.args.rest.now ≡ length s.args.left.now = s.pre.1.1.1.1.0 in record {
       lt_p = s.pre.0.0;
       out_value = ap is_size rest ∙ s.pre.1.0;
@@ -121,38 +121,38 @@ remainder_from-requires c =
 
 pub slice_bounds-other-end-2 : goal.slice_bounds-other-end-2
 slice_bounds-other-end-2 c =
-    let o = interpolate-with2-from-remainder-from c.before.before in
+    let o = interpolate-with2-from-remainder-from (goal.at.slice_bounds-other-end-2 c).After-remainder_from in
     back_holds 1024 (bound (start o)) (other o) o.interpolate-with2.kept.1.1.1.1.0
 
 pub slice_bounds-turned-end : goal.slice_bounds-turned-end
-slice_bounds-turned-end c = bound (start-from-remainder-from c.before.before.before)
+slice_bounds-turned-end c = bound (start-from-remainder-from (goal.at.slice_bounds-turned-end c).After-remainder_from)
 
 pub coset_remainder_into-requires : goal.coset_remainder_into-requires
 coset_remainder_into-requires c =
-    let s = start-from-remainder-from c.before.before.before.before in
+    let s = start-from-remainder-from (goal.at.coset_remainder_into-requires c).After-remainder_from in
     let part = lent_length 1024 (bound s) in record {
       lt_p = s.pre.0.0;
       out_value = ap is_size (sym part) ∙ s.pre.1.0;
       f_len = (
-        (interpolate-with-from-remainder-from c.before.before.before.before).interpolate_with.auto.out
+        (interpolate-with-from-remainder-from (goal.at.coset_remainder_into-requires c).After-remainder_from).interpolate_with.auto.out
             ∙ s.pre.1.1.1.0.1 ∙ part,
-        sym (other_length (interpolate-with2-from-remainder-from c.before.before.before.before)) ∙ part,
+        sym (other_length (interpolate-with2-from-remainder-from (goal.at.coset_remainder_into-requires c).After-remainder_from)) ∙ part,
       );
       out_in_bounds = (part_order part s.pre.1.1.0.0, part_order part s.pre.1.1.0.1);
     }
 
 pub overflow_cast-n : goal.overflow_cast-n
-overflow_cast-n c = omega (arith, bound (start-from-coset-remainder-into c.before))
+overflow_cast-n c = omega (arith, bound (start-from-coset-remainder-into (goal.at.overflow_cast-n c).After-coset_remainder_into))
 
 pub slice_bounds-turned-end-2 : goal.slice_bounds-turned-end-2
 slice_bounds-turned-end-2 c =
-    let t = c.before in
-    back_holds 1024 (bound (start-from-coset-remainder-into c.before)) (turned t)
+    let t = (goal.at.slice_bounds-turned-end-2 c).After-coset_remainder_into in
+    back_holds 1024 (bound (start-from-coset-remainder-into (goal.at.slice_bounds-turned-end-2 c).After-coset_remainder_into)) (turned t)
     t.coset_remainder_into.auto.out
 
 pub quotient_from-requires : goal.quotient_from-requires
 quotient_from-requires c =
-    let s = start-from-coset-remainder-into c.before.before.before in
+    let s = start-from-coset-remainder-into (goal.at.quotient_from-requires c).After-coset_remainder_into in
     let m : ℕ = length s.args.out.now in
     let less : m ≤ length s.args.left.now = fewer s.pre.1.1.1.1.1 in record {
       lt_p = s.pre.0.0;
@@ -160,14 +160,14 @@ quotient_from-requires c =
       outside_domain = (shift_outside s.pre.0.1 _ s.pre.1.0, shift_not-zero s.pre.0.1);
       out_in_bounds = (
         subst (λ (k : ℕ). m ≤ k) (sym ((remainder-from-from-coset-remainder-into
-            c.before.before.before).remainder_from.auto.out ∙ s.pre.1.1.1.1.0)) less,
-        subst (λ (k : ℕ). m ≤ k) (turned_length c.before.before.before) less,
+            (goal.at.quotient_from-requires c).After-coset_remainder_into).remainder_from.auto.out ∙ s.pre.1.1.1.1.0)) less,
+        subst (λ (k : ℕ). m ≤ k) (turned_length (goal.at.quotient_from-requires c).After-coset_remainder_into) less,
       );
     }
 
 pub returns : goal.returns
 returns c q known root-word tables =
-    let o = interpolate-with2-from-quotient-from c.before.before in
+    let o = interpolate-with2-from-quotient-from (goal.at.returns c).After-quotient_from in
     let s = start o in
     let a = s.args in
     let m : ℕ = n o in
@@ -182,20 +182,20 @@ returns c q known root-word tables =
     let part : m ≡ _ = lent_length 1024 (bound s) in
     let f : Poly q = interpolate m (map of a.left.now) in
     let g : Poly q = interpolate m (map of a.right.now) in
-    let factor : List ℕ = (interpolate-with-from-quotient-from c.before.before).interpolate_with.new.out in
-    let is_factor : factor ≡ words f = (interpolate-with-from-quotient-from c.before.before).interpolate_with.ensures q Q e tables in
+    let factor : List ℕ = (interpolate-with-from-quotient-from (goal.at.returns c).After-quotient_from).interpolate_with.new.out in
+    let is_factor : factor ≡ words f = (interpolate-with-from-quotient-from (goal.at.returns c).After-quotient_from).interpolate_with.ensures q Q e tables in
     let is-other : map of (take m (returned 1024 m (other o))) ≡ g =
     back_list 1024 (bound s) (other o) o.interpolate-with2.kept.1.1.1.1.0 g
     (o.interpolate-with2.ensures q Q e (at _ (sym right-length))
     ∙ ap (λ (k : ℕ). words {q = q} (interpolate k (map of a.right.now))) right-length) in
     let is-rest : _ ≡ words (remainder m (f ⊠ g)) =
-    (remainder-from-from-quotient-from c.before.before).remainder_from.ensures q Q e (at _ (sym rest-length)) f g
+    (remainder-from-from-quotient-from (goal.at.returns c).After-quotient_from).remainder_from.ensures q Q e (at _ (sym rest-length)) f g
     (sym (ap (λ (k : ℕ). values_on k f) rest-length ∙ values-interpolate Q m size (map of a.left.now)
     (length-map a.left.now (of {q = q}))))
     (sym (ap (λ (k : ℕ). values_on k g) rest-length
     ∙ values-interpolate Q m size (map of a.right.now) (length-map a.right.now (of {q = q}) ∙ right-length)))
     ∙ ap (λ (k : ℕ). words (remainder k (f ⊠ g))) rest-length in
-    let t = coset-remainder-into-from-quotient-from c.before.before in
+    let t = coset-remainder-into-from-quotient-from (goal.at.returns c).After-quotient_from in
     let twisted : Poly q → Poly q = twist (prime_ring q) (of 31) in
     let is_turned : take m (returned 1024 m (turned t)) ≡ words (remainder m (twisted f ⊠ twisted g)) =
     back_is 1024 (bound s) (turned t) t.coset-remainder-into.kept.1.1.1.1.1.1.1.0

@@ -40,11 +40,11 @@ module _ (c : After-products_into) where
   made_length = back_length 1024 (bound (start c)) made c.products_into.auto.out
 
 pub slice_bounds-products-end : goal.slice_bounds-products-end
-slice_bounds-products-end c = bound c.before.before.before.before.before
+slice_bounds-products-end c = bound (goal.at.slice_bounds-products-end c).Start
 
 pub products_into-requires : goal.products_into-requires
 products_into-requires c =
-    let s = c.before.before.before.before.before.before in
+    let s = (goal.at.products_into-requires c).Start in
     let part = lent_length 1024 (bound s) in
     record {
       p_nonzero = omega (arith, s.requires.lt_p);
@@ -53,12 +53,12 @@ products_into-requires c =
 
 pub slice_bounds-products-end-2 : goal.slice_bounds-products-end-2
 slice_bounds-products-end-2 c =
-    let m = c.before in
+    let m = (goal.at.slice_bounds-products-end-2 c).After-products_into in
     back_holds 1024 (bound (start m)) (made m) m.products_into.auto.out
 
 pub interpolate_with-requires : goal.interpolate_with-requires
 interpolate_with-requires c =
-    let m = c.before.before.before in
+    let m = (goal.at.interpolate_with-requires c).After-products_into in
     let s = start m in
     let long = made_length m in record {
       lt_p = s.pre.0;
@@ -68,7 +68,7 @@ interpolate_with-requires c =
 
 pub returns : goal.returns
 returns c q Q e tables f g of_left of_right =
-    let m = products-into-from-interpolate-with c.before.before in
+    let m = products-into-from-interpolate-with (goal.at.returns c).After-interpolate_with in
     let s = start m in
     let a = s.args in
     let rule : ℕ → Elem q = λ i. of (get_or a.left.now i 0) ⊗ of (get_or a.right.now i 0) in

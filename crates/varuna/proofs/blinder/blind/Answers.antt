@@ -49,4 +49,4 @@ returns-in-Fine c =
 
 pub returns-in-Refused : goal.returns-in-Refused
 unfolding blind_call
-returns-in-Refused c = rw (matched c.fault-1.given.1 (judgement c.before.before.before))
+returns-in-Refused c = rw (matched c.fault-1.given.1 (judgement (goal.at.returns-in-Refused c).After-judge_blind-fault))

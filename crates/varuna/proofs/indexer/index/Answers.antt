@@ -50,7 +50,7 @@ judge_index-fault-requires c = tt
 
 pub index_into-requires : goal.index_into-requires
 index_into-requires c =
-    let F = fits c.before.before.before.before.before.before.before.before.before.before.before.before in
+    let F = fits (goal.at.index_into-requires c).In-Fine in
     record {
       lt_p = lit< tt;
       circuit_shaped = F.shape;
@@ -60,45 +60,45 @@ index_into-requires c =
     }
 
 pub shape_of-rowA : goal.shape_of-rowA
-shape_of-rowA c = (filled c).index_into.auto.rowA
+shape_of-rowA c = (filled (goal.at.shape_of-rowA c).After-slice_known-in-Fine-12-1).index_into.auto.rowA
 
 pub shape_of-colA : goal.shape_of-colA
-shape_of-colA c = (filled c).index_into.auto.colA
+shape_of-colA c = (filled (goal.at.shape_of-colA c).After-slice_known-in-Fine-12-1).index_into.auto.colA
 
 pub shape_of-rowcolA : goal.shape_of-rowcolA
-shape_of-rowcolA c = (filled c).index_into.auto.rowcolA
+shape_of-rowcolA c = (filled (goal.at.shape_of-rowcolA c).After-slice_known-in-Fine-12-1).index_into.auto.rowcolA
 
 pub shape_of-rowcolvalA : goal.shape_of-rowcolvalA
-shape_of-rowcolvalA c = (filled c).index_into.auto.rowcolvalA
+shape_of-rowcolvalA c = (filled (goal.at.shape_of-rowcolvalA c).After-slice_known-in-Fine-12-1).index_into.auto.rowcolvalA
 
 pub shape_of-rowB : goal.shape_of-rowB
-shape_of-rowB c = (filled c).index_into.auto.rowB
+shape_of-rowB c = (filled (goal.at.shape_of-rowB c).After-slice_known-in-Fine-12-1).index_into.auto.rowB
 
 pub shape_of-colB : goal.shape_of-colB
-shape_of-colB c = (filled c).index_into.auto.colB
+shape_of-colB c = (filled (goal.at.shape_of-colB c).After-slice_known-in-Fine-12-1).index_into.auto.colB
 
 pub shape_of-rowcolB : goal.shape_of-rowcolB
-shape_of-rowcolB c = (filled c).index_into.auto.rowcolB
+shape_of-rowcolB c = (filled (goal.at.shape_of-rowcolB c).After-slice_known-in-Fine-12-1).index_into.auto.rowcolB
 
 pub shape_of-rowcolvalB : goal.shape_of-rowcolvalB
-shape_of-rowcolvalB c = (filled c).index_into.auto.rowcolvalB
+shape_of-rowcolvalB c = (filled (goal.at.shape_of-rowcolvalB c).After-slice_known-in-Fine-12-1).index_into.auto.rowcolvalB
 
 pub shape_of-rowC : goal.shape_of-rowC
-shape_of-rowC c = (filled c).index_into.auto.rowC
+shape_of-rowC c = (filled (goal.at.shape_of-rowC c).After-slice_known-in-Fine-12-1).index_into.auto.rowC
 
 pub shape_of-colC : goal.shape_of-colC
-shape_of-colC c = (filled c).index_into.auto.colC
+shape_of-colC c = (filled (goal.at.shape_of-colC c).After-slice_known-in-Fine-12-1).index_into.auto.colC
 
 pub shape_of-rowcolC : goal.shape_of-rowcolC
-shape_of-rowcolC c = (filled c).index_into.auto.rowcolC
+shape_of-rowcolC c = (filled (goal.at.shape_of-rowcolC c).After-slice_known-in-Fine-12-1).index_into.auto.rowcolC
 
 pub shape_of-rowcolvalC : goal.shape_of-rowcolvalC
-shape_of-rowcolvalC c = (filled c).index_into.auto.rowcolvalC
+shape_of-rowcolvalC c = (filled (goal.at.shape_of-rowcolvalC c).After-slice_known-in-Fine-12-1).index_into.auto.rowcolvalC
 
 pub returns-in-Fine : goal.returns-in-Fine
 unfolding circuit_of
 returns-in-Fine c =
-    let v = filled c in
+    let v = filled (goal.at.returns-in-Fine c).After-slice_known-in-Fine-12-1 in
     let d = v.before.before.before.before.before.before.before.before.before.before.before.before.before in
     let j = d.before.before in
     let k : Circuit = circuit_of (circuit (start j)) in
@@ -108,5 +108,5 @@ returns-in-Fine c =
 
 pub returns-in-Refused : goal.returns-in-Refused
 returns-in-Refused c =
-    let j = c.before.before.before in
+    let j = (goal.at.returns-in-Refused c).After-judge_index-fault in
     index-refused (circuit (start j)) (lent (start j)) j.judge_index-fault.result (judgement j) c.fault-1.given.1

@@ -24,18 +24,18 @@ let_through c =
     (matched c.enum_told-1.given.1 c.judge_transform-fault.ensures)
 
 pub root_of-root-requires : goal.root_of-root-requires
-root_of-root-requires c = (let_through c).size
+root_of-root-requires c = (let_through (goal.at.root_of-root-requires c).In-Fine).size
 
 pub evaluate_into-requires : goal.evaluate_into-requires
 evaluate_into-requires c = record {
   lt_p = lit< tt;
-  out_len = transform_asked (let_through c.before.before);
+  out_len = transform_asked (let_through (goal.at.evaluate_into-requires c).In-Fine);
 }
 
 pub returns-in-Fine : goal.returns-in-Fine
 unfolding evaluate_on_domain_call
 returns-in-Fine c =
-    let d = c.before.before.before.before.before in
+    let d = (goal.at.returns-in-Fine c).In-Fine in
     let t = let_through d in
     let a = d.args in
     fill_done a.out.now (matched d.enum_told-1.given.1 d.judge_transform-fault.ensures)

@@ -72,7 +72,7 @@ lengths_of-requires c = tt
 pub joined_quotient_into-requires : goal.joined_quotient_into-requires
 unfolding lengths sizes_of circuit_of largest
 joined_quotient_into-requires c =
-    let F = fits c.before in
+    let F = fits (goal.at.joined_quotient_into-requires c).In-Fine in
     record {
       modulus = baby_bear_modulus;
       circuit_shaped = shaped F.fits;
@@ -86,7 +86,7 @@ shape_of-out c = c.joined_quotient_into.auto.out
 pub returns-in-Fine : goal.returns-in-Fine
 unfolding fifth_round_call lengths sizes_of circuit_of largest
 returns-in-Fine c =
-    let d = c.before.before.before.before.before.before in
+    let d = (goal.at.returns-in-Fine c).After-judge_round-fault in
     let s = start d in
     let a = s.args in
     let F = fits d in
@@ -98,4 +98,4 @@ returns-in-Fine c =
 
 pub returns-in-Refused : goal.returns-in-Refused
 unfolding fifth_round_call lengths sizes_of circuit_of largest
-returns-in-Refused c = rw (matched c.fault-1.given.1 (judgement c.before.before.before))
+returns-in-Refused c = rw (matched c.fault-1.given.1 (judgement (goal.at.returns-in-Refused c).After-judge_round-fault))

@@ -73,7 +73,7 @@ lengths_of-due-requires c = tt
 pub witness_into-requires : goal.witness_into-requires
 unfolding lengths sizes_of circuit_of
 witness_into-requires c =
-    let F = fits c.before in
+    let F = fits (goal.at.witness_into-requires c).In-Fine in
     record {
       lt_p = lit< tt;
       c_value = (C-fits F.fits, X-fits F.fits, X-below F.fits);
@@ -83,7 +83,7 @@ witness_into-requires c =
 pub row_quotient_into-requires : goal.row_quotient_into-requires
 unfolding lengths sizes_of circuit_of
 row_quotient_into-requires c =
-    let F = fits c.before.before.before.before.before in
+    let F = fits (goal.at.row_quotient_into-requires c).In-Fine in
     record {
       modulus = baby_bear_modulus;
       r_value = R-fits F.fits;
@@ -100,7 +100,7 @@ shape_of-row_quotient c = c.row_quotient_into.auto.out
 pub returns-in-Fine : goal.returns-in-Fine
 unfolding first_round_call circuit_of
 returns-in-Fine c =
-    let d = c.before.before.before.before.before.before.before.before.before.before in
+    let d = (goal.at.returns-in-Fine c).After-judge_round-fault in
     let s = start d in
     let a = s.args in
     let F = fits d in
@@ -114,4 +114,4 @@ returns-in-Fine c =
 
 pub returns-in-Refused : goal.returns-in-Refused
 unfolding first_round_call circuit_of
-returns-in-Refused c = rw (matched c.fault-1.given.1 (judgement c.before.before.before))
+returns-in-Refused c = rw (matched c.fault-1.given.1 (judgement (goal.at.returns-in-Refused c).After-judge_round-fault))

@@ -74,7 +74,7 @@ lengths_of-requires c = tt
 pub values_into-requires : goal.values_into-requires
 unfolding lengths sizes_of circuit_of
 values_into-requires c =
-    let F = fits c.before.before.before in record {
+    let F = fits (goal.at.values_into-requires c).In-Fine in record {
       lt_p = lit< tt;
       circuit_shaped = shaped F.fits;
       each_within = F.fits.within;
@@ -112,4 +112,4 @@ returns-in-Fine c =
 
 pub returns-in-Refused : goal.returns-in-Refused
 unfolding fourth_round_call lengths sizes_of circuit_of
-returns-in-Refused c = rw (matched c.fault-1.given.1 (judgement c.before.before.before))
+returns-in-Refused c = rw (matched c.fault-1.given.1 (judgement (goal.at.returns-in-Refused c).After-judge_round-fault))

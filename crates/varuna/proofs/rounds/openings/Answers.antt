@@ -53,11 +53,11 @@ fits c =
 
 pub open_all-all-requires : goal.open_all-all-requires
 open_all-all-requires c =
-    let a = (start c.before.before).args in
+    let a = (start (goal.at.open_all-all-requires c).After-judge_round-fault).args in
     record {
       lt_p = lit< tt;
-      fits = (fits c).ranges;
-      points_outside = points_outside baby_bear-known a.alpha a.beta a.gamma (fits c).outside;
+      fits = (fits (goal.at.open_all-all-requires c).In-Fine).ranges;
+      points_outside = points_outside baby_bear-known a.alpha a.beta a.gamma (fits (goal.at.open_all-all-requires c).In-Fine).outside;
     }
 
 pub returns-in-Fine : goal.returns-in-Fine
@@ -69,4 +69,4 @@ returns-in-Fine c =
 
 pub returns-in-Refused : goal.returns-in-Refused
 unfolding openings_call
-returns-in-Refused c = rw (matched c.fault-1.given.1 (judgement c.before.before.before))
+returns-in-Refused c = rw (matched c.fault-1.given.1 (judgement (goal.at.returns-in-Refused c).After-judge_round-fault))

@@ -57,7 +57,7 @@ fits c =
 
 pub sums_at-requires : goal.sums_at-requires
 sums_at-requires c =
-    let F = fits c in
+    let F = fits (goal.at.sums_at-requires c).In-Fine in
     record {
       lt_p = lit< tt;
       r_value = R-fits F.fits;
@@ -67,7 +67,7 @@ sums_at-requires c =
 pub returns-in-Fine : goal.returns-in-Fine
 unfolding second_round_call circuit_of
 returns-in-Fine c =
-    let d = c.before.before.before in
+    let d = (goal.at.returns-in-Fine c).After-judge_round-fault in
     let s = start d in
     let a = s.args in
     let F = fits d in
@@ -80,4 +80,4 @@ returns-in-Fine c =
 
 pub returns-in-Refused : goal.returns-in-Refused
 unfolding second_round_call
-returns-in-Refused c = rw (matched c.fault-1.given.1 (judgement c.before.before.before))
+returns-in-Refused c = rw (matched c.fault-1.given.1 (judgement (goal.at.returns-in-Refused c).After-judge_round-fault))

@@ -69,7 +69,7 @@ lengths_of-due-requires c = tt
 pub line_into-requires : goal.line_into-requires
 unfolding lengths sizes_of circuit_of
 line_into-requires c =
-    let F = fits c.before.before in
+    let F = fits (goal.at.line_into-requires c).In-Fine in
     record {
       modulus = baby_bear_modulus;
       fits = F.fits;
@@ -95,4 +95,4 @@ returns-in-Fine c =
 
 pub returns-in-Refused : goal.returns-in-Refused
 unfolding third_round_call lengths sizes_of circuit_of
-returns-in-Refused c = rw (matched c.fault-1.given.1 (judgement c.before.before.before))
+returns-in-Refused c = rw (matched c.fault-1.given.1 (judgement (goal.at.returns-in-Refused c).After-judge_round-fault))

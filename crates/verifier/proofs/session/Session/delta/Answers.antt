@@ -14,14 +14,14 @@ judged c = sym (c.judge_delta.ensures baby_bear refl)
 
 pub taken-requires : goal.taken-requires
 taken-requires c =
-    let j = c.before.before.before in
+    let j = (goal.at.taken-requires c).After-judge_delta in
     let passed = judged j ∙ ap fault_refusal c.enum_told-1.given.1 in
     omega (arith, ((delta_passes baby_bear _ _ _ _ _).0 passed).0.Stage-is)
 
 pub returns-in-Refused : goal.returns-in-Refused
 unfolding delta_step
-returns-in-Refused c = rw (judged c.before.before.before.before ∙ ap fault_refusal c.number-1.given.1) c.refused.ensures
+returns-in-Refused c = rw (judged (goal.at.returns-in-Refused c).After-judge_delta ∙ ap fault_refusal c.number-1.given.1) c.refused.ensures
 
 pub returns-in-Fine : goal.returns-in-Fine
 unfolding delta_step
-returns-in-Fine c = rw (judged c.before.before.before.before ∙ ap fault_refusal c.enum_told-1.given.1) c.taken.ensures
+returns-in-Fine c = rw (judged (goal.at.returns-in-Fine c).After-judge_delta ∙ ap fault_refusal c.enum_told-1.given.1) c.taken.ensures

@@ -14,7 +14,7 @@ whole : (c : Start) → length c.args.self.x ≡ max_size
 whole c = sym (length-map c.args.self.x (λ w. w)) ∙ c.well_formed.0.1.1.1.1.0.1.0.1
 
 pub put_words-requires-2 : goal.put_words-requires-2
-put_words-requires-2 c = omega (arith, whole c.before.before.before.before.before.before.before.before.before)
+put_words-requires-2 c = omega (arith, whole (goal.at.put_words-requires-2 c).Start)
 
 pub returns : goal.returns
 unfolding session_words opening_words

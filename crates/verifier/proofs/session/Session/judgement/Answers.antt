@@ -48,15 +48,15 @@ within c =
 pub judge_openings-requires : goal.judge_openings-requires
 judge_openings-requires c = record {
   lt_p = search rules;
-  x_len = whole c.before.before.before.before;
+  x_len = whole (goal.at.judge_openings-requires c).Start;
 }
 
 pub slice_bounds-x-end : goal.slice_bounds-x-end
-slice_bounds-x-end c = within c.before.before
+slice_bounds-x-end c = within (goal.at.slice_bounds-x-end c).In-Fine
 
 pub verdict-verdict-requires : goal.verdict-verdict-requires
 verdict-verdict-requires c =
-    let t = c.before.before.before.before in
+    let t = (goal.at.verdict-verdict-requires c).In-Fine in
     let a = t.args in
     let n = sizes a.self.sizes in record {
       lt_p = lit< tt;
@@ -67,11 +67,11 @@ verdict-verdict-requires c =
 
 pub returns-in-Refused : goal.returns-in-Refused
 unfolding ask_step
-returns-in-Refused c = rw (judged c.before.before.before ∙ ap fault_refusal c.number-1.given.1)
+returns-in-Refused c = rw (judged (goal.at.returns-in-Refused c).After-judge_openings ∙ ap fault_refusal c.number-1.given.1)
 
 pub returns-in-Fine : goal.returns-in-Fine
 unfolding ask_step verdict_of
 returns-in-Fine c =
-    let t = c.before.before.before.before.before.before.before in
+    let t = (goal.at.returns-in-Fine c).After-judge_openings in
     rw (judged t ∙ ap fault_refusal t.enum_told-1.given.1)
     (ap Judged (c.verdict-verdict.ensures baby_bear baby_bear-known.known baby_bear-qualifies))
