@@ -53,7 +53,7 @@ module _ (q : Prime) (s : Session) (o : Openings ℕ) where
 pub commit_ends : (q : Prime) → CommitEnds q
 commit_ends q s o v e =
     let (free, _) = gets_verdict q s o v (inr e) in
-    let six : s.stage ≡ 6 = ((openings-passes q s o).0 free).0.Stage-is in
+    let six : s.stage ≡ 6 = ((openings-passes q s o).0 free).0.stage_is in
     ap (λ (r : Stepped). r.session) (free_taken q s (Commit o) free)
     ∙ (λ i. record { stage = suc (six i); sizes = s.sizes; x = s.x; transcript = s.transcript })
 

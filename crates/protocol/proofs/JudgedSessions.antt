@@ -161,6 +161,6 @@ module _ {q : Prime} (s : Sizes) (x : List (Elem q)) (t : Challenges (Elem q)) (
       session-judged e =
           let u : Session = after q unopened (hearing s (words x) heard_words declared) in
           let (free, v-is) = gets_verdict q u last v (inr (ap (λ u. (commit_step q u last).answer) (sym (ask_leaves q u last)) ∙ e)) in
-          let J = heard-session ((openings-passes q u last).0 free).0.Stage-is in
+          let J = heard-session ((openings-passes q u last).0 free).0.stage_is in
           let same : u ≡ heard_all s (words x) heard_words = hearing-taken q s (words x) heard_words declared (fitting J) in
           subst (λ v. JudgedSession o v) (sym (v-is ∙ ap (λ u. verdict_of q u last) same ∙ verdict_back J.x-length)) J

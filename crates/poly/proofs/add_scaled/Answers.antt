@@ -8,25 +8,13 @@ use native.Mathlib.Omega.{arith}
 use lib.ListN.{length, get_or, length-set, length-map}
 use Rattle.algebra.proofs.PolynomialLaws.{length-add, length-scale}
 use Rattle.field.specs.Prime.{Prime}
-use Rattle.field.specs.Element.{Elem, of, 𝟘, ◌⊕◌, ◌⊗◌, words}
+use Rattle.field.specs.Element.{Elem, of, ◌⊕◌, ◌⊗◌, words}
 use Rattle.field.proofs.ElementLaws.{prime_ring, add_comm}
-use Rattle.domain.specs.Polynomial.{Poly, ◌⊞◌, ◌·◌}
+use Rattle.domain.specs.Polynomial.{Poly, ◌·◌}
 use Rattle.domain.proofs.Fill.{length-words}
 use Rattle.poly.proofs.Stores.{joined-none, joined-all, joined-second, store_up}
-use Rattle.poly.proofs.Coefficients.{coefficient_add, coefficient_scale}
-use Rattle.poly.proofs.WordLists.{element-at, made_at}
+use Rattle.poly.proofs.add_scaled.Invariants.{sum_of, sum-at}
 use Rattle.poly.proofs.add_scaled.Goals as goal
-
--- what the slice is to hold, and its entries
-module _ (q : Prime) (f : List ℕ) (k : ℕ) (g : List ℕ) where
-  abbrev sum_of : Poly q
-  sum_of = map of f ⊞ of k · map of g
-
-  sum-at : (i : ℕ) → (of (get_or f i 0) ⊕ of {q = q} k ⊗ of (get_or g i 0)).word ≡ get_or (words sum_of) i 0
-  sum-at i =
-      made_at sum_of i (ap₂ (λ (x y : Elem q). (x ⊕ of k ⊗ y).word) (element-at f i) (element-at g i))
-      (coefficient_add (prime_ring q) (map of f) (of k · map of g) i
-      ∙ ap (λ (x : Elem q). get_or (map of f) i 𝟘 ⊕ x) (coefficient_scale (prime_ring q) (of k) (map of g) i))
 
 length-sum : (q : Prime) (f : List ℕ) (k : ℕ) (g : List ℕ) → length g ≤ length f → length (words (sum_of q f k g)) ≡ length f
 length-sum q f k g le =

@@ -15,20 +15,10 @@ use Rattle.field.specs.Element.{Elem, 𝟘, ◌⊕◌, ◌⊗◌, ◌⊖◌, wor
 use Rattle.field.proofs.ElementLaws.{prime_ring}
 use Rattle.field.proofs.Words.{result-below, result-product, result-sum, result_difference}
 use Rattle.domain.proofs.Fill.{length-words, word-at, length_rule_words, rule_word-at}
-use Rattle.transform.proofs.FilledHalves.{halves, halves_none, halves_all, even_at, odd_at, halves_turn}
+use Rattle.transform.proofs.FilledHalves.{halves_none, halves_all, even_at, odd_at, halves_turn}
+use Rattle.transform.proofs.join.Invariants.{plus_at, minus_at, so_far}
 use Rattle.transform.proofs.join.Goals as goal
 use Rattle.transform.proofs.join.Goals.{After-subtract_reduced, After-subtract_reduced-in-loop-i, At-loop-i, Start}
-
--- what the two halves are to hold
-module _ {q : Prime} (v : Elem q) (e o : List (Elem q)) where
-  abbrev plus_at : ℕ → Elem q
-  plus_at i = get_or e i 𝟘 ⊕ pow (prime_ring q) v i ⊗ get_or o i 𝟘
-
-  abbrev minus_at : ℕ → Elem q
-  minus_at i = get_or e i 𝟘 ⊖ pow (prime_ring q) v i ⊗ get_or o i 𝟘
-
-  abbrev so_far : ℕ → ℕ → List ℕ
-  so_far h = halves (words (tabulate h plus_at)) (words (tabulate h minus_at)) (words e) (words o)
 
 module _ {q : Prime} (h : ℕ) (v : Elem q) (e o : List (Elem q)) (even-length : length e ≡ h) (odd-length : length o ≡ h) where
   abbrev plus_words : List ℕ

@@ -1,12 +1,27 @@
 -- What the loop of `transform::join` keeps. Assumes nothing.
 use mathlib.Core.Path.{◌≡◌}
 use mathlib.Core.List.{List}
-use Prim.Native.Nat.{◌+◌, ◌-◌, ◌^◌, ◌≤◌, ◌<◌}
-use lib.ListN.{length}
+use Prim.Native.Nat.{ℕ, ◌+◌, ◌-◌, ◌^◌, ◌≤◌, ◌<◌}
+use lib.ListN.{length, get_or}
+use Rattle.algebra.specs.Lists.{tabulate}
+use Rattle.algebra.specs.Ring.{pow}
 use Rattle.field.specs.Prime.{Prime}
-use Rattle.field.specs.Element.{Elem}
+use Rattle.field.specs.Element.{Elem, 𝟘, ◌⊕◌, ◌⊗◌, ◌⊖◌, words}
+use Rattle.field.proofs.ElementLaws.{prime_ring}
 use Rattle.transform.specs.Reading.{LevelOf, Prepared}
+use Rattle.transform.proofs.FilledHalves.{halves}
 use Rattle.transform.proofs.join.Given as goal
+
+-- what the two halves are to hold
+module _ {q : Prime} (v : Elem q) (e o : List (Elem q)) where
+  abbrev pub plus_at : ℕ → Elem q
+  plus_at i = get_or e i 𝟘 ⊕ pow (prime_ring q) v i ⊗ get_or o i 𝟘
+
+  abbrev pub minus_at : ℕ → Elem q
+  minus_at i = get_or e i 𝟘 ⊖ pow (prime_ring q) v i ⊗ get_or o i 𝟘
+
+  abbrev pub so_far : ℕ → ℕ → List ℕ
+  so_far h = halves (words (tabulate h plus_at)) (words (tabulate h minus_at)) (words e) (words o)
 
 abbrev pub invariant-loop-i : goal.invariant-loop-i
 invariant-loop-i l =
