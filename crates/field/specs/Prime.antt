@@ -1,5 +1,5 @@
 -- A prime number with its generator: the parameter of all that follows (document 01, "Field and domains"). Assumes nothing.
-use Rattle.std.specs.Prelude.{◌≡◌, ℕ, ◌%◌, ◌<◌, ◌≢◌}
+use Rattle.std.specs.Prelude.{ℕ, ◌%◌, ◌<◌, ◌≢◌}
 
 -- p is more than 2 and no number between 1 and p divides it; powers of the generator give the domains
 pub record Prime : Type 0 where

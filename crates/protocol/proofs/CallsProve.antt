@@ -19,7 +19,7 @@ use Rattle.protocol.specs.Three.{Three, listed, map_three}
 use Rattle.protocol.specs.Circuit.{Circuit, sizes_of}
 use Rattle.protocol.specs.Checks.{Openings, map_openings, list_openings}
 use Rattle.protocol.specs.Messages.{Messages, MessageLengths, map_messages, lengths, messages}
-use Rattle.protocol.specs.Refusals.{Refusal, Done, judged, list_refusal}
+use Rattle.protocol.specs.Refusals.{Refusal, list_refusal}
 use Rattle.protocol.specs.Admission.{count_tests, assignment_tests, circuit_refusals, refusals_after_circuit, prover_refusal}
 use Rattle.protocol.specs.Calls.{ProverInput, CircuitWords, entries_of, circuit_of, entry_list_tests, round_refusal}
 use Rattle.protocol.specs.Calls.{first_round_call, second_round_call, third_round_call, fourth_round_call, fifth_round_call, openings_call}

@@ -25,7 +25,7 @@ use Rattle.domain.proofs.SizeLaws.{size_bound, size_not-zero}
 use Rattle.domain.proofs.DomainLaws.{sum_over_ext, outside_many, outside_subgroup}
 use Rattle.domain.proofs.Interpolation.{length-agreeing, eval-agreeing, equal_on_domain}
 use Rattle.domain.proofs.Division.{vanishing_divides}
-use Rattle.protocol.specs.Three.{MatrixName, C, at}
+use Rattle.protocol.specs.Three.{MatrixName, at}
 use Rattle.protocol.specs.Circuit.{Circuit, Sizes, sizes_of, largest, extension}
 use Rattle.protocol.specs.Index.{index_at, index}
 use Rattle.protocol.specs.Checks.{Transcript, matrix_left, matrix_right}

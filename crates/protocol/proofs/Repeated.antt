@@ -1,11 +1,11 @@
 -- Repeated conversations: how many lists of tuples there are, how many of them are accepted throughout, and how many conversations are
 -- enough. Assumes nothing.
-use mathlib.Core.Path.{◌≡◌, refl, sym, ap, ◌∙◌, subst}
-use mathlib.Core.Bool.{Bool, true, false, true≢false}
+use mathlib.Core.Path.{◌≡◌, refl, sym, ap, ◌∙◌}
+use mathlib.Core.Bool.{Bool, true, false}
 use mathlib.Core.List.{List, [], ◌∷◌, tail}
-use Prim.Native.Nat.{ℕ, zero, suc, ◌+◌, ◌-◌, ◌*◌, ◌/◌, ◌^◌, ◌≤◌, ◌<◌}
+use Prim.Native.Nat.{ℕ, zero, suc, ◌+◌, ◌-◌, ◌*◌, ◌^◌, ◌≤◌, ◌<◌}
 use native.Mathlib.Omega.{arith}
-use native.Mathlib.Nat.{pow-zero, pow-suc, mul_comm, mul-le-mul, mul-le-mul_left, mul-le-mul_right, pow-le-pow_left, le-div_iff_mul-le, le_trans}
+use native.Mathlib.Nat.{pow-zero, pow-suc, mul_comm, mul-le-mul, mul-le-mul_right, pow-le-pow_left, le-div_iff_mul-le, le_trans}
 use lib.Dec.{leb}
 use lib.ListN.{length, get_or}
 use borrow.Author.Tests.{leb-true, leb-false, le-leb}
@@ -17,7 +17,6 @@ use Rattle.algebra.proofs.PolynomialCounting.{exactly_lists-of}
 use Rattle.field.specs.Prime.{Prime}
 use Rattle.field.specs.Element.{Elem, 𝟘}
 use Rattle.field.proofs.ElementLaws.{decide}
-use Rattle.domain.specs.Size.{is_size}
 use Rattle.domain.specs.Qualifies.{Qualifies}
 use Rattle.domain.proofs.ListLaws.{first_or_all, first_or_passes}
 use Rattle.domain.proofs.SizeLaws.{size_bound}
@@ -27,7 +26,7 @@ use Rattle.protocol.specs.Admission.{Admitted}
 use Rattle.protocol.specs.Conversation.{Challenges}
 use Rattle.protocol.specs.Demand3.{Demand3Holds}
 use Rattle.protocol.specs.FalseProofs.{EndsInAccept, Allowed, all_tuples, saved_byα, saved_byη, saved_byβ, saved_byδ, saved_byγ, five_counts, one_in_many}
-use Rattle.protocol.specs.Repeated.{Repeating, most_repeats, fewest_repeats, AllAccept, Accepted, Unknowing, Repeated}
+use Rattle.protocol.specs.Repeated.{Repeating, most_repeats, fewest_repeats, AllAccept, Accepted, Unknowing}
 use Rattle.protocol.proofs.AdmissionLaws.{WellFormed, admitted_well_formed}
 use Rattle.protocol.proofs.AllowedTuples.{allowed_tuples, sum_positive, largest_multiple}
 use Rattle.protocol.proofs.FalseProofs.{without_knowledge}

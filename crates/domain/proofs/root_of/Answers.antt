@@ -1,10 +1,9 @@
 -- `domain::root_of` meets its contract: its constant ROOTS is the generator table, in which g_n stands at the trailing zeros of n.
 -- Assumes nothing.
-use mathlib.Core.Path.{◌≡◌, refl, sym, ap, ◌∙◌}
+use mathlib.Core.Path.{sym, ap, ◌∙◌}
 use Prim.Native.Nat.{ℕ}
 use native.Mathlib.Omega.{arith}
 use lib.Count.{count_trailing_zeros}
-use lib.ListN.{get_or}
 use Rattle.field.specs.Prime.{Prime}
 use Rattle.domain.specs.Domain.{root}
 use Rattle.domain.specs.BabyBear.{baby_bear}

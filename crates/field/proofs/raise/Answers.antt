@@ -1,5 +1,5 @@
 -- `field::raise` meets its contract: the result so far, times the power that is left, is the power asked. Assumes nothing.
-use Rattle.std.proofs.Common.{◌≡◌, ℕ, ◌/◌, sym, ap, ◌∙◌, ap₂, ⊎_elim, arith}
+use Rattle.std.proofs.Common.{◌≡◌, ℕ, ◌/◌, sym, ap, ◌∙◌, ap₂, arith}
 use Rattle.algebra.specs.Ring.{pow}
 use Rattle.algebra.proofs.RingLaws.{one_mul}
 use Rattle.field.specs.Element.{Elem, of, ◌⊗◌}

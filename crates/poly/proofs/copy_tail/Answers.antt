@@ -5,7 +5,6 @@ use Prim.Native.Nat.{ℕ, ◌+◌, ◌-◌}
 use native.Mathlib.Omega.{arith}
 use native.Mathlib.Numerals.{add-one}
 use lib.ListN.{length, get_or, length-set}
-use Rattle.field.specs.Element.{words}
 use Rattle.domain.proofs.Fill.{fill_none, fill_turn, fill_end}
 use Rattle.poly.proofs.copy_tail.Goals as goal
 

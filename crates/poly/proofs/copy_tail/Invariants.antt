@@ -3,7 +3,6 @@ use mathlib.Core.Path.{◌≡◌}
 use mathlib.Core.List.{tail}
 use Prim.Native.Nat.{◌-◌, ◌≤◌}
 use lib.ListN.{length}
-use Rattle.field.specs.Element.{words}
 use Rattle.domain.proofs.Fill.{Filled}
 use Rattle.poly.proofs.copy_tail.Given as goal
 
