@@ -24,7 +24,8 @@ impl Program {
     fn path(&self) -> &Path {
         self.path.get_or_init(|| {
             let given = std::env::var_os(self.variable).map(PathBuf::from);
-            let path = given.unwrap_or_else(|| sources::in_repository("crates").join(self.name).join("out").join(self.name));
+            let path =
+                given.unwrap_or_else(|| sources::in_repository("crates").join(self.name).join("out").join(self.name));
             // `rt run` alone makes nothing where only a file's time has changed
             let command = format!("(cd crates/{0} && rm -f out/{0} && rt run < stdin)", self.name);
             if let Err(fault) = sources::check_made(&path, &command) {
