@@ -13,7 +13,7 @@ fn main() {
     for path in [file.clone(), sources::in_repository("crates"), sources::in_repository("crates.txt")] {
         println!("cargo::rerun-if-changed={}", path.display());
     }
-    if let Err(fault) = sources::check_made(&file, "rt staticlib varuna_c") {
+    if let Err(fault) = sources::check_made(&file, sources::MAKES_LIBRARY) {
         println!("cargo::error={fault}");
         println!("cargo::error=or set VARUNA_LIBRARY to the folder that holds libvaruna_c.a");
         return;

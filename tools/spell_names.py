@@ -186,7 +186,7 @@ def main(argv):
         else:
             for f in ["README.md", "CONTRIBUTING.md", *sorted(glob.glob("docs/*.md"))]:
                 turn = lambda m: TOKEN.sub(lambda n: rows.get(n[0], n[0]), m[0])
-                write(f, re.sub(r"`[^`\n]+`", turn, read(f)))
+                write(f, re.sub(r"(?<=`)[^`\n]+(?=`)", turn, read(f)))
         return 0
     rows = table()
     stay = meet(rows)

@@ -19,14 +19,15 @@ static PROVE: Program = Program { name: "prove", variable: "VARUNA_PROVE", path:
 static SHEET: Program = Program { name: "sheet", variable: "VARUNA_SHEET", path: OnceLock::new() };
 
 impl Program {
-    /// The variable's file, or that in target/bin of the repository. A test without it fails, and so does one with a program that
+    /// The variable's file, or that in the crate's folder out. A test without it fails, and so does one with a program that
     /// is older than its sources.
     fn path(&self) -> &Path {
         self.path.get_or_init(|| {
             let given = std::env::var_os(self.variable).map(PathBuf::from);
-            let path = given.unwrap_or_else(|| sources::in_repository("target/bin").join(self.name));
-            // `rt check` alone makes nothing where only a file's time has changed
-            let command = format!("rm -f target/stamp/{0} && rt check {0}", self.name);
+            let path =
+                given.unwrap_or_else(|| sources::in_repository("crates").join(self.name).join("out").join(self.name));
+            // `rt run` alone makes nothing where only a file's time has changed
+            let command = format!("(cd crates/{0} && rm -f out/{0} && rt run < stdin)", self.name);
             if let Err(fault) = sources::check_made(&path, &command) {
                 panic!("{fault}, or set {} to the program", self.variable);
             }

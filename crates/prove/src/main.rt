@@ -2,15 +2,22 @@
 #![tactic(auto)]
 
 use job::TEXT_BYTES;
-use libc::{STDIN_FILENO, STDOUT_FILENO};
+use std::io::{self, Read};
 
 // One byte more than a job may have.
 const READ_BYTES: usize = 4097;
 
-fn main() {
+fn main(rt: HostRuntime) -> io::Result<()> {
     let mut bytes = [0u8; READ_BYTES];
     let mut out = [0u8; TEXT_BYTES];
-    let n = io::read_full(STDIN_FILENO, &mut bytes);
+    let mut n = 0;
+    while n < READ_BYTES {
+        let got = rt.stdin().read(&mut bytes[n..])?;
+        if got == 0 {
+            break;
+        }
+        n += got;
+    }
     let k = job::text(&bytes[..n], &mut out);
-    io::write_all(STDOUT_FILENO, &out[..k]);
+    rt.write_all(&out[..k])
 }

@@ -2,15 +2,22 @@
 #![tactic(auto)]
 
 use figures::{LONGEST_TEXT, SHEET_BYTES};
-use libc::{STDIN_FILENO, STDOUT_FILENO};
+use std::io::{self, Read};
 
 // One byte more than a text may have.
 const READ_BYTES: usize = LONGEST_TEXT + 1;
 
-fn main() {
+fn main(rt: HostRuntime) -> io::Result<()> {
     let mut input = [0u8; READ_BYTES];
     let mut out = [0u8; SHEET_BYTES];
-    let n = io::read_full(STDIN_FILENO, &mut input);
+    let mut n = 0;
+    while n < READ_BYTES {
+        let got = rt.stdin().read(&mut input[n..])?;
+        if got == 0 {
+            break;
+        }
+        n += got;
+    }
     let end = figures::text(&input[..n], &mut out);
-    io::write_all(STDOUT_FILENO, &out[..end]);
+    rt.write_all(&out[..end])
 }

@@ -1,9 +1,5 @@
--- `prove::main` meets its contract: the text that is written stands within the buffer. Assumes nothing.
-use mathlib.Core.Path.{◌≡◌, ap}
-use mathlib.Core.List.{List, ◌++◌}
-use Prim.Native.Nat.{ℕ, ◌+◌, ◌≤◌}
-use native.Mathlib.Omega.{arith}
-use lib.ListN.{length, take, drop, length-append}
+-- The text that is written stands within the buffer.
+use Rattle.std.proofs.Common.{◌≡◌, ℕ, ◌+◌, ◌≤◌, length, List, ◌++◌, take, drop, ap, sym, length-append, length-take-le, arith}
 use Rattle.text.specs.Buffer.{put}
 use Rattle.prove.proofs.main.Goals as goal
 
@@ -20,3 +16,8 @@ text_within b t d n same e =
 
 pub slice_bounds-out-end : goal.slice_bounds-out-end
 slice_bounds-out-end c = text_within _ _ _ _ c.text-k.ensures.value c.text-k.ensures.out_after
+
+pub slice_bounds-write_all-end : goal.slice_bounds-write_all-end
+slice_bounds-write_all-end c =
+    let e = c.text-k.ensures in
+    sym (length-take-le _ _ (text_within _ _ _ _ e.value e.out_after))

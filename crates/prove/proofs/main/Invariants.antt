@@ -1,0 +1,9 @@
+-- What is read lies within its array.
+use Rattle.std.proofs.Common.{◌-◌, ◌≤◌}
+use Rattle.prove.proofs.main.Given as goal
+
+abbrev pub invariant-loop-n : goal.invariant-loop-n
+invariant-loop-n l = l.n ≤ 4097
+
+abbrev pub decreases-loop-n : goal.decreases-loop-n
+decreases-loop-n l = 4097 - l.n
