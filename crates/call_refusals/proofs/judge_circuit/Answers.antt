@@ -14,15 +14,11 @@ use Rattle.circuit.specs.Judgement.{index_shape_refusal, index_contents_refusal}
 use Rattle.shared.proofs.EarlyReturns.{stops, goes_on, fine_none, last_answer_lem}
 use Rattle.circuit.proofs.Parts.{circuit_in_parts, index_shape_fits}
 use Rattle.call_refusals.proofs.judge_circuit.Goals as goal
-use Rattle.call_refusals.proofs.judge_circuit.Goals.{After-judge_index_shape-shape, Else-not-is_fine, Start}
-
--- the start, from the answer on the shape; the circuit that is given there, and the row after its shape
-abbrev start : After-judge_index_shape-shape → Start
-start j = j.before.before.before.before
+use Rattle.call_refusals.proofs.judge_circuit.Goals.{After-judge_index_shape-shape, Else-not-is_fine}
 
 abbrev circuit : After-judge_index_shape-shape → CircuitWords
 circuit j =
-    let a = (start j).args in
+    let a = j.args in
     given a.r a.c a.x a.ea.now a.eb.now a.ec.now
 
 abbrev contents : Prime → After-judge_index_shape-shape → List (Option Refusal)
@@ -47,7 +43,7 @@ returns-then-not-is_fine c q e =
 pub judge_index_contents-requires : goal.judge_index_contents-requires
 judge_index_contents-requires c =
     let j = (goal.at.judge_index_contents-requires c).After-judge_index_shape-shape in
-    let a = (start j).args in
+    let a = j.args in
     (index_shape_fits a.r a.c a.x a.ea.now a.eb.now a.ec.now
     (fine_none j.judge_index_shape-shape.result {o = index_shape_refusal (circuit j)} j.judge_index_shape-shape.ensures (shape_fine (goal.at.judge_index_contents-requires c).Else-not-is_fine))).lists
 

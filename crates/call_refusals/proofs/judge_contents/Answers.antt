@@ -21,23 +21,7 @@ use Rattle.circuit.specs.Judgement.{contents_refusal}
 use Rattle.shared.proofs.EarlyReturns.{stops, goes_on, fine_none, last_answer_lem}
 use Rattle.circuit.proofs.Parts.{largest_by_counts, larger_is_size, entries-within}
 use Rattle.call_refusals.proofs.judge_contents.Goals as goal
-use Rattle.call_refusals.proofs.judge_contents.Goals.{After-check_assignment-in_rows, After-check_call_words-in_words, After-check_mask-in_mask, After-check_three_entries-in_entries, After-judge_constant-in_constant, Else-not-is_fine, Else-not-is_fine-2, Else-not-is_fine-3, Else-not-is_fine-4, Else-not-is_fine-5, Start}
-
--- the start, from the places of the five answers
-abbrev from-words : After-check_call_words-in_words → Start
-from-words c = c.before.before.before.before.before.before.before.before
-
-abbrev from_entries : After-check_three_entries-in_entries → Start
-from_entries c = from-words c.before.before.before
-
-abbrev from-mask : After-check_mask-in_mask → Start
-from-mask c = from_entries c.before.before.before
-
-abbrev from-constant : After-judge_constant-in_constant → Start
-from-constant c = from-mask c.before.before.before
-
-abbrev from-rows : After-check_assignment-in_rows → Start
-from-rows c = from-constant c.before.before.before
+use Rattle.call_refusals.proofs.judge_contents.Goals.{Else-not-is_fine, Else-not-is_fine-2, Else-not-is_fine-3, Else-not-is_fine-4, Else-not-is_fine-5, Start}
 
 -- what is to be answered, its row 6, and the rows after 9, after 13, after 8, after 7 and after 6
 module _ (q : Prime) (k : Circuit) (s : Start) where
@@ -71,40 +55,40 @@ record Given (q : Prime) (k : Circuit) (s : Start) : Type 0 where
 
 -- past the words, the entries, the mask, column 0 and the rows
 module _ (q : Prime) (Q : Qualifies q) (k : Circuit) {x : Option Refusal} where
-  pass_words : (c : Else-not-is_fine) → let s = from-words c.before.before.before.before.before.before.before.before.before.before.before.before.before.before in Given q k s → x ≡ first (after-words q k s) → x ≡ due q k s
+  pass_words : (c : Else-not-is_fine) → let s = c.before.before.before.before.before.before.before.before.before.before.before.before.before.before.before.before.before.before.before.before.before.before in Given q k s → x ≡ first (after-words q k s) → x ≡ due q k s
   unfolding contents_refusal
   pass_words c g y =
-      let w = c.before.before.before.before.before.before.before.before.before.before.before.before.before.before in
-      let s = from-words w in
+      let w = c in
+      let s = w.before.before.before.before.before.before.before.before.before.before.before.before.before.before.before.before.before.before.before.before.before.before in
       goes_on w.check_call_words-in_words.result {o = words q k s} (w.check_call_words-in_words.ensures q g.prime k g.matrices) (after-words q k s)
       (sym c.is_fine.ensures ∙ not-false _ c.if-not-is_fine.false) y
 
-  pass_entries : (c : Else-not-is_fine-2) → let s = from_entries c.before.before.before.before.before.before.before.before.before.before.before in Given q k s → x ≡ first (after-entries q k s) → x ≡ due q k s
+  pass_entries : (c : Else-not-is_fine-2) → let s = c.before.before.before.before.before.before.before.before.before.before.before.before.before.before.before.before.before.before.before.before.before.before in Given q k s → x ≡ first (after-entries q k s) → x ≡ due q k s
   pass_entries c g y =
-      let e = c.before.before.before.before.before.before.before.before.before.before.before in
+      let e = c.before.before.before.before.before.before.before.before.before.before.before.before.before.before.before.before.before.before.before.before.before.before in
       pass_words e.before g
       (goes_on e.check_three_entries-in_entries.result (e.check_three_entries-in_entries.ensures k g.rows g.columns g.matrices)
-      (after-entries q k (from_entries e)) (sym c.is_fine-2.ensures ∙ not-false _ c.if-not-is_fine-2.false) y)
+      (after-entries q k e) (sym c.is_fine-2.ensures ∙ not-false _ c.if-not-is_fine-2.false) y)
 
-  pass_mask : (c : Else-not-is_fine-3) → let s = from-mask c.before.before.before.before.before.before.before.before in Given q k s → x ≡ first (after-mask q k s) → x ≡ due q k s
+  pass_mask : (c : Else-not-is_fine-3) → let s = c.before.before.before.before.before.before.before.before.before.before.before.before.before.before.before.before.before.before.before.before.before.before in Given q k s → x ≡ first (after-mask q k s) → x ≡ due q k s
   pass_mask c g y =
-      let m = c.before.before.before.before.before.before.before.before in
+      let m = c.before.before.before.before.before.before.before.before.before.before.before.before.before.before.before.before.before.before.before.before.before.before in
       pass_entries m.before g
-      (goes_on m.check_mask-in_mask.result (m.check_mask-in_mask.ensures q Q g.prime k g.columns) (after-mask q k (from-mask m))
+      (goes_on m.check_mask-in_mask.result (m.check_mask-in_mask.ensures q Q g.prime k g.columns) (after-mask q k m)
       (sym c.is_fine-3.ensures ∙ not-false _ c.if-not-is_fine-3.false) y)
 
-  pass_constant : (c : Else-not-is_fine-4) → let s = from-constant c.before.before.before.before.before in Given q k s → x ≡ first (after-constant q k s) → x ≡ due q k s
+  pass_constant : (c : Else-not-is_fine-4) → let s = c.before.before.before.before.before.before.before.before.before.before.before.before.before.before.before.before.before.before.before.before.before.before in Given q k s → x ≡ first (after-constant q k s) → x ≡ due q k s
   pass_constant c g y =
-      let o = c.before.before.before.before.before in
+      let o = c.before.before.before.before.before.before.before.before.before.before.before.before.before.before.before.before.before.before.before.before.before.before in
       pass_mask o.before g
-      (goes_on o.judge_constant-in_constant.result o.judge_constant-in_constant.ensures (after-constant q k (from-constant o))
+      (goes_on o.judge_constant-in_constant.result o.judge_constant-in_constant.ensures (after-constant q k o)
       (sym c.is_fine-4.ensures ∙ not-false _ c.if-not-is_fine-4.false) y)
 
-  pass_rows : (c : Else-not-is_fine-5) → let s = from-rows c.before.before in Given q k s → x ≡ first (after-rows q k s) → x ≡ due q k s
+  pass_rows : (c : Else-not-is_fine-5) → let s = c.before.before.before.before.before.before.before.before.before.before.before.before.before.before.before.before.before.before.before.before.before.before in Given q k s → x ≡ first (after-rows q k s) → x ≡ due q k s
   pass_rows c g y =
-      let r = c.before.before in
+      let r = c.before.before.before.before.before.before.before.before.before.before.before.before.before.before.before.before.before.before.before.before.before.before in
       pass_constant r.before g
-      (goes_on r.check_assignment-in_rows.result (r.check_assignment-in_rows.ensures q g.prime k g.rows g.matrices) (after-rows q k (from-rows r))
+      (goes_on r.check_assignment-in_rows.result (r.check_assignment-in_rows.ensures q g.prime k g.rows g.matrices) (after-rows q k r)
       (sym c.is_fine-5.ensures ∙ not-false _ c.if-not-is_fine-5.false) y)
 
 pub check_call_words-in_words-requires : goal.check_call_words-in_words-requires
@@ -123,8 +107,8 @@ is_fine-requires c = tt
 pub returns-then-not-is_fine : goal.returns-then-not-is_fine
 unfolding contents_refusal
 returns-then-not-is_fine c q Q e k er ec matrices =
-    let w = (goal.at.returns-then-not-is_fine c).After-check_call_words-in_words in
-    let s = from-words w in
+    let w = c in
+    let s = w.before.before.before.before.before.before.before.before.before.before in
     stops w.check_call_words-in_words.result {o = words q k s} (w.check_call_words-in_words.ensures q e k matrices) (after-words q k s)
     (sym c.is_fine.ensures ∙ not-true _ c.if-not-is_fine.true)
 
@@ -133,9 +117,9 @@ is_fine-requires-2 c = tt
 
 pub returns-then-not-is_fine-2 : goal.returns-then-not-is_fine-2
 returns-then-not-is_fine-2 c q Q e k er ec matrices =
-    let t = (goal.at.returns-then-not-is_fine-2 c).After-check_three_entries-in_entries in
+    let t = (goal.at.returns-then-not-is_fine-2 c).Start in
     pass_words q Q k t.before (record { prime = e; rows = er; columns = ec; matrices = matrices })
-    (stops t.check_three_entries-in_entries.result (t.check_three_entries-in_entries.ensures k er ec matrices) (after-entries q k (from_entries t))
+    (stops t.check_three_entries-in_entries.result (t.check_three_entries-in_entries.ensures k er ec matrices) (after-entries q k t)
     (sym c.is_fine-2.ensures ∙ not-true _ c.if-not-is_fine-2.true))
 
 pub is_fine-requires-3 : goal.is_fine-requires-3
@@ -143,9 +127,9 @@ is_fine-requires-3 c = tt
 
 pub returns-then-not-is_fine-3 : goal.returns-then-not-is_fine-3
 returns-then-not-is_fine-3 c q Q e k er ec matrices =
-    let m = (goal.at.returns-then-not-is_fine-3 c).After-check_mask-in_mask in
+    let m = (goal.at.returns-then-not-is_fine-3 c).Start in
     pass_entries q Q k m.before (record { prime = e; rows = er; columns = ec; matrices = matrices })
-    (stops m.check_mask-in_mask.result (m.check_mask-in_mask.ensures q Q e k ec) (after-mask q k (from-mask m))
+    (stops m.check_mask-in_mask.result (m.check_mask-in_mask.ensures q Q e k ec) (after-mask q k m)
     (sym c.is_fine-3.ensures ∙ not-true _ c.if-not-is_fine-3.true))
 
 -- the circuit that the call is given; no row tells its public inputs
@@ -153,11 +137,11 @@ abbrev circuit : Start → Circuit
 circuit s = circuit_of (given s.args.r s.args.c 0 s.args.ea.now s.args.eb.now s.args.ec.now)
 
 -- the entries that passed are within the matrices
-within : (c : Else-not-is_fine-2) → let a = (from_entries c.before.before).args in EachWithin a.r a.c a.ea.now a.eb.now a.ec.now
+within : (c : Else-not-is_fine-2) → let a = c.args in EachWithin a.r a.c a.ea.now a.eb.now a.ec.now
 unfolding circuit_of
 within c =
-    let e = c.before.before in
-    let s = from_entries e in
+    let e = c in
+    let s = e.before.before.before.before.before.before.before.before.before.before.before.before.before in
     entries-within s.args.r s.args.c 0 s.args.ea.now s.args.eb.now s.args.ec.now
     (fine_none e.check_three_entries-in_entries.result (e.check_three_entries-in_entries.ensures (circuit s) refl refl refl)
     (sym c.is_fine-2.ensures ∙ not-false _ c.if-not-is_fine-2.false))
@@ -170,17 +154,17 @@ is_fine-requires-4 c = tt
 
 pub returns-then-not-is_fine-4 : goal.returns-then-not-is_fine-4
 returns-then-not-is_fine-4 c q Q e k er ec matrices =
-    let o = (goal.at.returns-then-not-is_fine-4 c).After-judge_constant-in_constant in
+    let o = (goal.at.returns-then-not-is_fine-4 c).Start in
     pass_mask q Q k o.before (record { prime = e; rows = er; columns = ec; matrices = matrices })
-    (stops o.judge_constant-in_constant.result o.judge_constant-in_constant.ensures (after-constant q k (from-constant o))
+    (stops o.judge_constant-in_constant.result o.judge_constant-in_constant.ensures (after-constant q k o)
     (sym c.is_fine-4.ensures ∙ not-true _ c.if-not-is_fine-4.true))
 
 pub check_assignment-in_rows-requires : goal.check_assignment-in_rows-requires
 check_assignment-in_rows-requires c =
     let o = c in
     let m = o.before.before.before.before.before.before in
-    let s = from-mask m in
-    let h = s.pre.1.0 in record {
+    let s = m in
+    let h = s.requires.shaped in record {
       p_nonzero = omega arith;
       r_le_max_size = size_bound s.args.r h.circuit.R-size;
       each_within = subst⁻¹ (λ (n : ℕ). EachWithin s.args.r n s.args.ea.now s.args.eb.now s.args.ec.now) h.z-length (within m);
@@ -191,9 +175,9 @@ is_fine-requires-5 c = tt
 
 pub returns-then-not-is_fine-5 : goal.returns-then-not-is_fine-5
 returns-then-not-is_fine-5 c q Q e k er ec matrices =
-    let r = (goal.at.returns-then-not-is_fine-5 c).After-check_assignment-in_rows in
+    let r = (goal.at.returns-then-not-is_fine-5 c).Start in
     pass_constant q Q k r.before (record { prime = e; rows = er; columns = ec; matrices = matrices })
-    (stops r.check_assignment-in_rows.result (r.check_assignment-in_rows.ensures q e k er matrices) (after-rows q k (from-rows r))
+    (stops r.check_assignment-in_rows.result (r.check_assignment-in_rows.ensures q e k er matrices) (after-rows q k r)
     (sym c.is_fine-5.ensures ∙ not-true _ c.if-not-is_fine-5.true))
 
 pub largest_size-requires : goal.largest_size-requires
@@ -202,21 +186,21 @@ largest_size-requires c = tt
 pub check_points-requires : goal.check_points-requires
 unfolding circuit_of
 check_points-requires c =
-    let s = from-rows (goal.at.check_points-requires c).After-check_assignment-in_rows in
-    let h = s.pre.1.0 in
+    let s = (goal.at.check_points-requires c).Start in
+    let h = s.requires.shaped in
     let size : is_size c.largest_size.result ≡ true =
     ap is_size (c.largest_size.ensures (circuit s) refl ∙ largest_by_counts (circuit s) s.args.ea.now s.args.eb.now s.args.ec.now refl)
     ∙ larger_is_size (length (entries_of s.args.ea.now)) (length (entries_of s.args.eb.now)) (length (entries_of s.args.ec.now)) in
     record {
-      lt_p = s.pre.0;
+      lt_p = s.requires.lt_p;
       r_value = (h.circuit.R-size, (h.circuit.C-size, size));
-      points_len_bound = s.pre.1.1;
+      points_len_bound = s.requires.points_len_bound;
     }
 
 pub returns : goal.returns
 returns c q Q e k er ec matrices =
     let l = (goal.at.returns c).Else-not-is_fine-5 in
-    let a = (from-rows l.before.before).args in
+    let a = l.args in
     let same : a.r ∷ a.c ∷ l.largest_size.result ∷ [] ≡ k.|R| ∷ k.|C| ∷ largest (sizes_of k).|K| ∷ [] =
     ap₂ ◌∷◌ (sym er) (ap₂ ◌∷◌ (sym ec) (ap (λ (n : ℕ). n ∷ []) (l.largest_size.ensures k matrices))) in
     pass_rows q Q k l (record { prime = e; rows = er; columns = ec; matrices = matrices })

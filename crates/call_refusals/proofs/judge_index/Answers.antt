@@ -16,14 +16,7 @@ use Rattle.circuit.specs.Judgement.{index_due, index_shape_refusal, index_refusa
 use Rattle.shared.proofs.EarlyReturns.{stops, goes_on, fine_none, last_answer_lem}
 use Rattle.circuit.proofs.Parts.{index_in_parts, index_shape_fits}
 use Rattle.call_refusals.proofs.judge_index.Goals as goal
-use Rattle.call_refusals.proofs.judge_index.Goals.{After-check_lent-slices, After-judge_index_shape-shape, Else-not-is_fine, Start}
-
--- the start, from the answers on the shape and on the lent slices
-abbrev from-shape : After-judge_index_shape-shape → Start
-from-shape c = c.before.before.before.before
-
-abbrev from-lent : After-check_lent-slices → Start
-from-lent c = from-shape c.before.before.before.before.before.before
+use Rattle.call_refusals.proofs.judge_index.Goals.{After-check_lent-slices, Else-not-is_fine, Start}
 
 -- what the call is given: its circuit and, argument 8, the lengths of the lent slices; the tests of these, and the parts of the answer
 module _ (s : Start) where
@@ -51,20 +44,20 @@ module _ (s : Start) where
 shape_fine : (c : Else-not-is_fine) → is_fine c.judge_index_shape-shape.result ≡ true
 shape_fine c = sym c.is_fine.ensures ∙ not-false _ c.if-not-is_fine.false
 
-pass_shape : (q : Prime) (c : Else-not-is_fine) {x : Option Refusal} → let s = from-shape c.before.before in
+pass_shape : (q : Prime) (c : Else-not-is_fine) {x : Option Refusal} → let s = c.before.before.before.before.before.before in
     x ≡ first (after_shape s q) → x ≡ index_refusal q (circuit s) (lengths s)
 pass_shape q c y =
-    let j = c.before.before in
-    let s = from-shape j in
+    let j = c in
+    let s = j.before.before.before.before.before.before in
     goes_on j.judge_index_shape-shape.result {o = index_shape_refusal (circuit s)} j.judge_index_shape-shape.ensures (after_shape s q) (shape_fine c) y
     ∙ in_parts s q
 
 -- the slices are judged by the lengths that are due
-slices : (c : After-check_lent-slices) → fault_refusal c.check_lent-slices.result ≡ refuse 5 3 (tests (from-lent c))
+slices : (c : After-check_lent-slices) → fault_refusal c.check_lent-slices.result ≡ refuse 5 3 (tests c.before.before.before.before.before.before.before.before.before.before)
 unfolding circuit_of
 slices c =
     c.check_lent-slices.ensures
-    ∙ ap (λ (due : List ℕ). refuse 5 3 (pairs eqb (lengths (from-lent c)) due)) c.index_lengths-due.ensures
+    ∙ ap (λ (due : List ℕ). refuse 5 3 (pairs eqb (lengths c.before.before.before.before.before.before.before.before.before.before) due)) c.index_lengths-due.ensures
 
 pub judge_index_shape-shape-requires : goal.judge_index_shape-shape-requires
 judge_index_shape-shape-requires c = tt
@@ -74,8 +67,8 @@ is_fine-requires c = tt
 
 pub returns-then-not-is_fine : goal.returns-then-not-is_fine
 returns-then-not-is_fine c q e =
-    let j = (goal.at.returns-then-not-is_fine c).After-judge_index_shape-shape in
-    let s = from-shape j in
+    let j = c in
+    let s = j.before.before.before.before.before.before in
     stops j.judge_index_shape-shape.result {o = index_shape_refusal (circuit s)} j.judge_index_shape-shape.ensures (after_shape s q)
     (sym c.is_fine.ensures ∙ not-true _ c.if-not-is_fine.true)
     ∙ in_parts s q
@@ -91,15 +84,15 @@ is_fine-requires-2 c = tt
 
 pub returns-then-not-is_fine-2 : goal.returns-then-not-is_fine-2
 returns-then-not-is_fine-2 c q e =
-    let l = (goal.at.returns-then-not-is_fine-2 c).After-check_lent-slices in
+    let l = (goal.at.returns-then-not-is_fine-2 c).Start in
     pass_shape q l.before.before.before.before
-    (stops l.check_lent-slices.result (slices l) (contents (from-lent l) q ∷ []) (sym c.is_fine-2.ensures ∙ not-true _ c.if-not-is_fine-2.true))
+    (stops l.check_lent-slices.result (slices l) (contents l q ∷ []) (sym c.is_fine-2.ensures ∙ not-true _ c.if-not-is_fine-2.true))
 
 pub judge_index_contents-requires : goal.judge_index_contents-requires
 judge_index_contents-requires c =
     let d = (goal.at.judge_index_contents-requires c).Else-not-is_fine in
-    let j = d.before.before in
-    let s = from-shape j in
+    let j = d in
+    let s = j.before.before.before.before.before.before in
     (index_shape_fits s.args.r s.args.c s.args.x s.args.ea.now s.args.eb.now s.args.ec.now
     (fine_none j.judge_index_shape-shape.result {o = index_shape_refusal (circuit s)} j.judge_index_shape-shape.ensures (shape_fine d))).lists
 
@@ -108,7 +101,7 @@ unfolding circuit_of
 returns c q e =
     let d = c in
     let l = d.before.before.before in
-    let s = from-lent l in
+    let s = l.before.before.before.before.before.before.before.before.before.before in
     pass_shape q l.before.before.before.before
     (goes_on l.check_lent-slices.result (slices l) (contents s q ∷ []) (sym d.is_fine-2.ensures ∙ not-false _ d.if-not-is_fine-2.false)
     (last_answer_lem (c.judge_index_contents.ensures q e (circuit_of (circuit s)) refl refl refl)))

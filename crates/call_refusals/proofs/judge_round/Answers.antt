@@ -15,14 +15,7 @@ use Rattle.circuit.specs.Judgement.{shape_refusal, contents_refusal}
 use Rattle.shared.proofs.EarlyReturns.{stops, goes_on, fine_none, last_answer_lem}
 use Rattle.circuit.proofs.Parts.{prover_in_parts, shape_fits}
 use Rattle.call_refusals.proofs.judge_round.Goals as goal
-use Rattle.call_refusals.proofs.judge_round.Goals.{After-check_lent-slices, After-judge_shape-shape, Else-not-is_fine, Start}
-
--- the start, from the answers on the shape and on the lent slices
-abbrev from-shape : After-judge_shape-shape → Start
-from-shape c = c.before.before.before.before.before.before.before.before.before.before
-
-abbrev from-lent : After-check_lent-slices → Start
-from-lent c = from-shape c.before.before.before
+use Rattle.call_refusals.proofs.judge_round.Goals.{Else-not-is_fine, Start}
 
 -- the circuit that the call is given, and what is to be answered: the shape, the lent slices, the contents
 abbrev circuit : Start → CircuitWords
@@ -56,11 +49,11 @@ module _ (q : Prime) (s : Start) where
 shape_fine : (c : Else-not-is_fine) → is_fine c.judge_shape-shape.result ≡ true
 shape_fine c = sym c.is_fine.ensures ∙ not-false _ c.if-not-is_fine.false
 
-pass_shape : (q : Prime) (c : Else-not-is_fine) {x : Option Refusal} → let s = from-shape c.before.before in x ≡ first (after_shape q s) → x ≡ due q s
+pass_shape : (q : Prime) (c : Else-not-is_fine) {x : Option Refusal} → let s = c.before.before.before.before.before.before.before.before.before.before.before.before in x ≡ first (after_shape q s) → x ≡ due q s
 pass_shape q c y =
-    let j = c.before.before in
-    goes_on j.judge_shape-shape.result {o = shape (from-shape j)} j.judge_shape-shape.ensures (after_shape q (from-shape j)) (shape_fine c) y
-    ∙ in_parts q (from-shape j)
+    let j = c.before.before.before.before.before.before.before.before.before.before.before.before in
+    goes_on j.judge_shape-shape.result {o = shape j} j.judge_shape-shape.ensures (after_shape q j) (shape_fine c) y
+    ∙ in_parts q j
 
 pub judge_shape-shape-requires : goal.judge_shape-shape-requires
 judge_shape-shape-requires c = tt
@@ -70,10 +63,10 @@ is_fine-requires c = tt
 
 pub returns-then-not-is_fine : goal.returns-then-not-is_fine
 returns-then-not-is_fine c q Q e =
-    let j = (goal.at.returns-then-not-is_fine c).After-judge_shape-shape in
-    stops j.judge_shape-shape.result {o = shape (from-shape j)} j.judge_shape-shape.ensures (after_shape q (from-shape j))
+    let j = (goal.at.returns-then-not-is_fine c).Start in
+    stops j.judge_shape-shape.result {o = shape j} j.judge_shape-shape.ensures (after_shape q j)
     (sym c.is_fine.ensures ∙ not-true _ c.if-not-is_fine.true)
-    ∙ in_parts q (from-shape j)
+    ∙ in_parts q j
 
 pub check_lent-slices-requires : goal.check_lent-slices-requires
 check_lent-slices-requires c = omega arith
@@ -83,22 +76,22 @@ is_fine-requires-2 c = tt
 
 pub returns-then-not-is_fine-2 : goal.returns-then-not-is_fine-2
 returns-then-not-is_fine-2 c q Q e =
-    let l = (goal.at.returns-then-not-is_fine-2 c).After-check_lent-slices in
+    let l = (goal.at.returns-then-not-is_fine-2 c).Start in
     pass_shape q l.before
-    (stops l.check_lent-slices.result l.check_lent-slices.ensures (contents q (from-lent l) ∷ []) (sym c.is_fine-2.ensures ∙ not-true _ c.if-not-is_fine-2.true))
+    (stops l.check_lent-slices.result l.check_lent-slices.ensures (contents q l ∷ []) (sym c.is_fine-2.ensures ∙ not-true _ c.if-not-is_fine-2.true))
 
 pub judge_contents-requires : goal.judge_contents-requires
 judge_contents-requires c =
-    let j = (goal.at.judge_contents-requires c).After-judge_shape-shape in
-    let s = from-shape j in
+    let j = c in
+    let s = j.before.before.before.before.before.before.before.before.before.before.before.before.before.before.before in
     let a = s.args in
     let fits =
     shape_fits a.r a.c a.x a.ea.now a.eb.now a.ec.now a.z.now a.m.now
     (fine_none j.judge_shape-shape.result {o = shape s} j.judge_shape-shape.ensures (shape_fine (goal.at.judge_contents-requires c).Else-not-is_fine)) in
     record {
-      lt_p = s.pre.0;
+      lt_p = s.requires.lt_p;
       shaped = fits;
-      points_len_bound = s.pre.1.1;
+      points_len_bound = s.requires.points_len_bound;
     }
 
 pub returns : goal.returns
@@ -106,7 +99,7 @@ unfolding circuit_of
 returns c q Q e =
     let d = c in
     let l = d.before.before.before.before in
-    let s = from-lent l in
+    let s = l.before.before.before.before.before.before.before.before.before.before.before.before in
     pass_shape q l
     (goes_on l.check_lent-slices.result l.check_lent-slices.ensures (contents q s ∷ []) (sym d.is_fine-2.ensures ∙ not-false _ d.if-not-is_fine-2.false)
     (last_answer_lem {o = contents q s} (c.judge_contents.ensures q Q e (circuit_of (circuit s)) refl refl refl)))

@@ -11,11 +11,7 @@ use Rattle.circuit.specs.Judgement.{index_shape_refusal}
 use Rattle.shared.proofs.EarlyReturns.{stops, goes_on, last_answer_lem}
 use Rattle.circuit.proofs.Parts.{shape_in_parts}
 use Rattle.call_refusals.proofs.judge_shape.Goals as goal
-use Rattle.call_refusals.proofs.judge_shape.Goals.{After-judge_index_shape-fault, Start}
-
--- the start, from the answer on the circuit; the circuit that the call is given, and the part of the answer after it
-abbrev start : After-judge_index_shape-fault → Start
-start c = c.before.before.before.before.before.before
+use Rattle.call_refusals.proofs.judge_shape.Goals.{Start}
 
 abbrev circuit : Start → CircuitWords
 circuit s = given s.args.r s.args.c s.args.x s.args.ea.now s.args.eb.now s.args.ec.now
@@ -31,8 +27,8 @@ is_fine-requires c = tt
 
 pub returns-then-not-is_fine : goal.returns-then-not-is_fine
 returns-then-not-is_fine c =
-    let j = (goal.at.returns-then-not-is_fine c).After-judge_index_shape-fault in
-    let s = start j in
+    let j = c in
+    let s = j.before.before.before.before.before.before.before.before in
     stops j.judge_index_shape-fault.result {o = index_shape_refusal (circuit s)} j.judge_index_shape-fault.ensures (after-circuit s)
     (sym c.is_fine.ensures ∙ not-true _ c.if-not-is_fine.true)
     ∙ sym (shape_in_parts (circuit s) s.args.z.now s.args.m.now)
@@ -44,8 +40,8 @@ pub returns : goal.returns
 unfolding assignment_tests circuit_of
 returns c =
     let d = c in
-    let j = d.before.before.before in
-    let s = start j in
+    let j = d in
+    let s = j.before.before.before.before.before.before.before.before.before in
     goes_on j.judge_index_shape-fault.result {o = index_shape_refusal (circuit s)} j.judge_index_shape-fault.ensures (after-circuit s)
     (sym d.is_fine.ensures ∙ not-false _ d.if-not-is_fine.false) (last_answer_lem c.check_assignment_lists.ensures)
     ∙ sym (shape_in_parts (circuit s) s.args.z.now s.args.m.now)

@@ -18,7 +18,7 @@ use Rattle.index.specs.IndexValues.{tabulate_index, Listed}
 use Rattle.index.proofs.IndexValues.{Lengths}
 use Rattle.index.proofs.fill_index_values.Invariants.{Made, values}
 use Rattle.index.proofs.fill_index_values.Goals as goal
-use Rattle.index.proofs.fill_index_values.Goals.{After-multiply, At-loop-i, Start}
+use Rattle.index.proofs.fill_index_values.Goals.{After-multiply}
 
 -- four lists, each with a word stored at place i
 abbrev stored : Index (List ℕ) → ℕ → Index ℕ → Index (List ℕ)
@@ -64,13 +64,6 @@ module _ {q : Prime} (n : ℕ) (f : ℕ → Index (Elem q)) (l : Index (List ℕ
           rowcolval = rule_end n (λ j. (f j).rowcolval) l.rowcolval i h.rowcolval-length past m.rowcolval t;
         }
 
--- the loop's head, from the end of a turn, and the start from there; the words that the turn stores
-abbrev head : After-multiply → At-loop-i
-head c = c.before.before.before.before.before.before.before.before
-
-abbrev start : At-loop-i → Start
-start c = c.before.before.before.before.before.before.before.before
-
 abbrev made : After-multiply → Index ℕ
 made c =
     record {
@@ -81,9 +74,9 @@ made c =
     }
 
 -- they are those of the values
-made_words : (c : After-multiply) (q : Prime) → let a = (start (head c)).args in
+made_words : (c : After-multiply) (q : Prime) → let a = (c.before.before.before.before.before.before.before.before.before.before.before.before.before.before.before.before).args in
     Qualifies q → q.p ≡ a.p → (k : Circuit) → Listed q k a.rows.now a.columns.now
-    → made c ≡ map_index word_of (values q k a.entries.now (head c).loop-i.i)
+    → made c ≡ map_index word_of (values q k a.entries.now c.loop-i.i)
 unfolding row_element column_element
 made_words c q Q same k listed =
     let m = c in
@@ -109,21 +102,21 @@ loop-i-smaller c = simp length-set (omega arith)
 
 pub loop-i-preserved : goal.loop-i-preserved
 loop-i-preserved c =
-    let l = (head (goal.at.loop-i-preserved c).After-multiply).loop-i in
-    let a = (start (head (goal.at.loop-i-preserved c).After-multiply)).args in
+    let l = c.loop-i in
+    let a = (c.before.before.before.before.before.before.before.before.before.before.before.before.before.before.before.before).args in
     let n : ℕ = length a.row.now in
     let lists : Index (List ℕ) = index_lists l.row l.col l.rowcol l.rowcolval in
-    let kept = stored-lengths n lists l.i (made (goal.at.loop-i-preserved c).After-multiply) l.inv.1 in (
+    let kept = stored-lengths n lists l.i (made (goal.at.loop-i-preserved c).After-multiply) l.invariant.1 in (
       omega (arith, l, c.loop-i-test),
       kept,
       λ q Q e k listed.
-          made_turn n (values q k a.entries.now) lists l.i l.inv.1 (l.inv.2 q Q e k listed) (omega arith) (made (goal.at.loop-i-preserved c).After-multiply)
+          made_turn n (values q k a.entries.now) lists l.i l.invariant.1 (l.invariant.2 q Q e k listed) (omega arith) (made (goal.at.loop-i-preserved c).After-multiply)
           (made_words (goal.at.loop-i-preserved c).After-multiply q Q e k listed),
     )
 
 pub returns : goal.returns
 returns c q Q e k listed =
     let l = c.loop-i in
-    let a = (start (goal.at.returns c).At-loop-i).args in
+    let a = c.args in
     let lists : Index (List ℕ) = index_lists l.row l.col l.rowcol l.rowcolval in
     made_end (length a.row.now) (values q k a.entries.now) lists l.i l.invariant.1 (l.invariant.2 q Q e k listed) (omega arith)

@@ -13,11 +13,7 @@ use Rattle.protocol.specs.Circuit.{Circuit}
 use Rattle.index.specs.IndexValues.{Listed}
 use Rattle.index.proofs.IndexValues.{listed}
 use Rattle.index.proofs.index_into.Goals as goal
-use Rattle.index.proofs.index_into.Goals.{After-columns-3-1, After-fill_powers, After-fill_powers-2, After-index_matrix_into, After-index_matrix_into-2, After-index_matrix_into-3, After-slice_known-12-1, After-slice_known-24-1, Start}
-
--- the start, where the lent slices are known
-abbrev start : After-slice_known-12-1 → Start
-start c = c.before.before.before.before.before.before.before.before.before.before.before.before.before.before.before
+use Rattle.index.proofs.index_into.Goals.{After-fill_powers-2, Start}
 
 rows_fit : (s : Start) → s.args.r ≤ 1024
 rows_fit s = size_bound _ s.requires.circuit_shaped.R-size
@@ -25,12 +21,8 @@ rows_fit s = size_bound _ s.requires.circuit_shaped.R-size
 columns_fit : (s : Start) → s.args.c ≤ 1024
 columns_fit s = size_bound _ s.requires.circuit_shaped.C-size
 
--- the two lists
-abbrev at_rows : After-fill_powers-2 → After-fill_powers
-at_rows c = c.before.before.before.before
-
 abbrev begun : After-fill_powers-2 → Start
-begun c = start (at_rows c).before.before.before
+begun c = c.before.before.before.before.before.before.before.before.before.before.before.before.before.before.before.before.before.before.before.before.before.before
 
 module _ (c : After-fill_powers-2) where
   abbrev m : ℕ
@@ -40,13 +32,13 @@ module _ (c : After-fill_powers-2) where
   n = (begun c).args.c
 
   abbrev rows : List ℕ
-  rows = take m (returned 1024 m (at_rows c).fill_powers.new.out)
+  rows = take m (returned 1024 m c.fill_powers.new.out)
 
   abbrev columns : List ℕ
   columns = take n (returned 1024 n c.fill_powers-2.new.out)
 
   rows-length : m ≡ length rows
-  rows-length = back_length 1024 (rows_fit (begun c)) (at_rows c).fill_powers.new.out (at_rows c).fill_powers.auto.out
+  rows-length = back_length 1024 (rows_fit (begun c)) c.fill_powers.new.out c.fill_powers.auto.out
 
   columns-length : n ≡ length columns
   columns-length = back_length 1024 (columns_fit (begun c)) c.fill_powers-2.new.out c.fill_powers-2.auto.out
@@ -59,56 +51,40 @@ module _ (c : After-fill_powers-2) where
 
   both_listed : (q : Prime) → Known q (begun c).args.p → (k : Circuit) → k.|R| ≡ m → k.|C| ≡ n → Listed q k rows columns
   both_listed q known k er ec =
-      let e = at_rows c in
+      let e = c in
       record {
         R-size = ap is_size er ∙ (begun c).requires.circuit_shaped.R-size;
         C-size = ap is_size ec ∙ (begun c).requires.circuit_shaped.C-size;
         R-words =
-            listed q e.fill-powers.last.1.1.0 er (rows_fit (begun c)) e.fill-powers.kept.1.1.0
-            (e.before.before.root-of.ensures q known) (e.fill-powers.ensures q known.value);
+            listed q e.fill_powers.last.1.1.0 er (rows_fit (begun c)) e.fill_powers.kept.1.1.0
+            (e.root_of.ensures q known) (e.fill_powers.ensures q known.value);
         C-words =
             listed q c.fill_powers-2.new.out ec (columns_fit (begun c)) c.fill_powers-2.auto.out
             (c.root_of-2.ensures q known) (c.fill_powers-2.ensures q known.value);
       }
 
--- the lists, from where both are lent again, and from the calls
-abbrev from-lists : After-columns-3-1 → After-fill_powers-2
-from-lists c = c.before.before.before
-
-abbrev from_a : After-index_matrix_into → After-fill_powers-2
-from_a c = from-lists c.before.before.before.before.before
-
-abbrev at_a : After-index_matrix_into-2 → After-index_matrix_into
-at_a c = c.before.before.before.before.before.before.before.before.before.before.before.before.before
-
-abbrev at_b : After-index_matrix_into-3 → After-index_matrix_into-2
-at_b c = c.before.before.before.before.before.before.before.before.before.before.before.before.before
-
-abbrev at_c : After-slice_known-24-1 → After-index_matrix_into-3
-at_c c = c.before.before.before.before.before.before.before.before
-
 pub root_of-requires : goal.root_of-requires
-root_of-requires c = (start (goal.at.root_of-requires c).After-slice_known-12-1).requires.circuit_shaped.R-size
+root_of-requires c = c.requires.circuit_shaped.R-size
 
 pub slice_bounds-rows-end : goal.slice_bounds-rows-end
-slice_bounds-rows-end c = rows_fit (start (goal.at.slice_bounds-rows-end c).After-slice_known-12-1)
+slice_bounds-rows-end c = rows_fit (goal.at.slice_bounds-rows-end c).Start
 
 pub fill_powers-requires : goal.fill_powers-requires
-fill_powers-requires c = (start (goal.at.fill_powers-requires c).After-slice_known-12-1).requires.lt_p
+fill_powers-requires c = c.requires.lt_p
 
 pub root_of-requires-2 : goal.root_of-requires-2
-root_of-requires-2 c = (start (goal.at.root_of-requires-2 c).After-slice_known-12-1).requires.circuit_shaped.C-size
+root_of-requires-2 c = c.requires.circuit_shaped.C-size
 
 pub slice_bounds-columns-end : goal.slice_bounds-columns-end
-slice_bounds-columns-end c = columns_fit (start (goal.at.slice_bounds-columns-end c).After-slice_known-12-1)
+slice_bounds-columns-end c = columns_fit (goal.at.slice_bounds-columns-end c).Start
 
 pub fill_powers-requires-2 : goal.fill_powers-requires-2
-fill_powers-requires-2 c = (start (goal.at.fill_powers-requires-2 c).After-slice_known-12-1).requires.lt_p
+fill_powers-requires-2 c = c.requires.lt_p
 
 pub slice_bounds-rows-end-2 : goal.slice_bounds-rows-end-2
 slice_bounds-rows-end-2 c =
-    let f = at_rows (goal.at.slice_bounds-rows-end-2 c).After-fill_powers-2 in
-    back_holds 1024 (rows_fit (begun (goal.at.slice_bounds-rows-end-2 c).After-fill_powers-2)) f.fill-powers.last.1.1.0 f.fill-powers.kept.1.1.0
+    let f = c in
+    back_holds 1024 (rows_fit (begun (goal.at.slice_bounds-rows-end-2 c).After-fill_powers-2)) f.fill_powers.last.1.1.0 f.fill_powers.kept.1.1.0
 
 pub slice_bounds-columns-end-2 : goal.slice_bounds-columns-end-2
 slice_bounds-columns-end-2 c =
@@ -117,7 +93,7 @@ slice_bounds-columns-end-2 c =
 
 pub index_matrix_into-requires : goal.index_matrix_into-requires
 index_matrix_into-requires c =
-    let f = from-lists (goal.at.index_matrix_into-requires c).After-columns-3-1 in
+    let f = (goal.at.index_matrix_into-requires c).After-fill_powers-2 in
     let h = (begun f).pre in
     record {
       lt_p = h.0;
@@ -127,7 +103,7 @@ index_matrix_into-requires c =
 
 pub index_matrix_into-requires-2 : goal.index_matrix_into-requires-2
 index_matrix_into-requires-2 c =
-    let f = from_a (goal.at.index_matrix_into-requires-2 c).After-index_matrix_into in
+    let f = (goal.at.index_matrix_into-requires-2 c).After-fill_powers-2 in
     let h = (begun f).pre in
     record {
       lt_p = h.0;
@@ -137,7 +113,7 @@ index_matrix_into-requires-2 c =
 
 pub index_matrix_into-requires-3 : goal.index_matrix_into-requires-3
 index_matrix_into-requires-3 c =
-    let f = from_a (at_a (goal.at.index_matrix_into-requires-3 c).After-index_matrix_into-2) in
+    let f = (goal.at.index_matrix_into-requires-3 c).After-fill_powers-2 in
     let h = (begun f).pre in
     record {
       lt_p = h.0;
@@ -146,48 +122,48 @@ index_matrix_into-requires-3 c =
     }
 
 pub shape_of-rowA : goal.shape_of-rowA
-shape_of-rowA c = (at_a (at_b (at_c (goal.at.shape_of-rowA c).After-slice_known-24-1))).index_matrix_into.auto.row
+shape_of-rowA c = (at_a (c.before.before.before.before.before.before.before.before.before.before.before.before.before.before.before.before.before.before.before.before.before)).index_matrix_into.auto.row
 
 pub shape_of-colA : goal.shape_of-colA
-shape_of-colA c = (at_a (at_b (at_c (goal.at.shape_of-colA c).After-slice_known-24-1))).index_matrix_into.auto.col
+shape_of-colA c = (at_a (c.before.before.before.before.before.before.before.before.before.before.before.before.before.before.before.before.before.before.before.before.before)).index_matrix_into.auto.col
 
 pub shape_of-rowcolA : goal.shape_of-rowcolA
-shape_of-rowcolA c = (at_a (at_b (at_c (goal.at.shape_of-rowcolA c).After-slice_known-24-1))).index_matrix_into.auto.rowcol
+shape_of-rowcolA c = (at_a (c.before.before.before.before.before.before.before.before.before.before.before.before.before.before.before.before.before.before.before.before.before)).index_matrix_into.auto.rowcol
 
 pub shape_of-rowcolvalA : goal.shape_of-rowcolvalA
-shape_of-rowcolvalA c = (at_a (at_b (at_c (goal.at.shape_of-rowcolvalA c).After-slice_known-24-1))).index_matrix_into.auto.rowcolval
+shape_of-rowcolvalA c = (at_a (c.before.before.before.before.before.before.before.before.before.before.before.before.before.before.before.before.before.before.before.before.before)).index_matrix_into.auto.rowcolval
 
 pub shape_of-rowB : goal.shape_of-rowB
-shape_of-rowB c = (at_b (at_c (goal.at.shape_of-rowB c).After-slice_known-24-1)).index_matrix_into-2.auto.row
+shape_of-rowB c = (c.before.before.before.before.before.before.before.before.before.before.before.before.before.before.before.before.before.before.before.before.before).index_matrix_into-2.auto.row
 
 pub shape_of-colB : goal.shape_of-colB
-shape_of-colB c = (at_b (at_c (goal.at.shape_of-colB c).After-slice_known-24-1)).index_matrix_into-2.auto.col
+shape_of-colB c = (c.before.before.before.before.before.before.before.before.before.before.before.before.before.before.before.before.before.before.before.before.before).index_matrix_into-2.auto.col
 
 pub shape_of-rowcolB : goal.shape_of-rowcolB
-shape_of-rowcolB c = (at_b (at_c (goal.at.shape_of-rowcolB c).After-slice_known-24-1)).index_matrix_into-2.auto.rowcol
+shape_of-rowcolB c = (c.before.before.before.before.before.before.before.before.before.before.before.before.before.before.before.before.before.before.before.before.before).index_matrix_into-2.auto.rowcol
 
 pub shape_of-rowcolvalB : goal.shape_of-rowcolvalB
-shape_of-rowcolvalB c = (at_b (at_c (goal.at.shape_of-rowcolvalB c).After-slice_known-24-1)).index_matrix_into-2.auto.rowcolval
+shape_of-rowcolvalB c = (c.before.before.before.before.before.before.before.before.before.before.before.before.before.before.before.before.before.before.before.before.before).index_matrix_into-2.auto.rowcolval
 
 pub shape_of-rowC : goal.shape_of-rowC
-shape_of-rowC c = (at_c (goal.at.shape_of-rowC c).After-slice_known-24-1).index_matrix_into-3.auto.row
+shape_of-rowC c = c.index_matrix_into-3.auto.row
 
 pub shape_of-colC : goal.shape_of-colC
-shape_of-colC c = (at_c (goal.at.shape_of-colC c).After-slice_known-24-1).index_matrix_into-3.auto.col
+shape_of-colC c = c.index_matrix_into-3.auto.col
 
 pub shape_of-rowcolC : goal.shape_of-rowcolC
-shape_of-rowcolC c = (at_c (goal.at.shape_of-rowcolC c).After-slice_known-24-1).index_matrix_into-3.auto.rowcol
+shape_of-rowcolC c = c.index_matrix_into-3.auto.rowcol
 
 pub shape_of-rowcolvalC : goal.shape_of-rowcolvalC
-shape_of-rowcolvalC c = (at_c (goal.at.shape_of-rowcolvalC c).After-slice_known-24-1).index_matrix_into-3.auto.rowcolval
+shape_of-rowcolvalC c = c.index_matrix_into-3.auto.rowcolval
 
 pub returns : goal.returns
 returns c q known k er ec matrices =
-    let l = at_c (goal.at.returns c).After-slice_known-24-1 in
-    let a = at_a (at_b l) in
-    let both = both_listed (from_a a) q known k er ec in
+    let l = c in
+    let a = l.before.before.before.before.before.before.before.before.before.before.before.before.before.before.before.before.before.before.before.before.before.before.before.before.before.before.before.before.before.before.before.before.before.before.before.before.before.before.before.before.before.before in
+    let both = both_listed a q known k er ec in
     record {
-      of-a = a.index-matrix-into.ensures q known k A both (ap (λ m. m.a) matrices);
-      of-b = (at_b l).index_matrix_into-2.ensures q known k B both (ap (λ m. m.b) matrices);
-      of_c = l.index-matrix-into3.ensures q known k C both (ap (λ m. m.c) matrices);
+      of-a = a.index_matrix_into.ensures q known k A both (ap (λ m. m.a) matrices);
+      of-b = l.index_matrix_into-2.ensures q known k B both (ap (λ m. m.b) matrices);
+      of_c = l.index_matrix_into-3.ensures q known k C both (ap (λ m. m.c) matrices);
     }

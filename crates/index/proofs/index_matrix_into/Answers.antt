@@ -14,32 +14,12 @@ use Rattle.transform.proofs.TableLaws.{coefficients_lent}
 use Rattle.circuit.specs.IndexLists.{index_lists}
 use Rattle.index.proofs.IndexValues.{Lengths, K-size, index_interpolated}
 use Rattle.index.proofs.index_matrix_into.Goals as goal
-use Rattle.index.proofs.index_matrix_into.Goals.{After-fill_index_values, After-fill_inverse_tables, After-interpolate_four, After-root_of-root, Start}
-
--- the way back from a place in the code to an earlier one
-abbrev start-from-fill-index-values : After-fill_index_values → Start
-start-from-fill-index-values c = c.before.before.before.before.before.before.before.before.before.before.before.before
-
-abbrev fill-index-values-from-root-of : After-root_of-root → After-fill_index_values
-fill-index-values-from-root-of c = c.before.before.before.before.before.before.before.before.before
-
-abbrev fill-index-values-from-fill-inverse-tables : After-fill_inverse_tables → After-fill_index_values
-fill-index-values-from-fill-inverse-tables c = fill-index-values-from-root-of c.before.before.before
-
-abbrev fill-inverse-tables-from-interpolate-four : After-interpolate_four → After-fill_inverse_tables
-fill-inverse-tables-from-interpolate-four c = c.before.before.before.before.before.before.before.before.before
-
-abbrev root-of-from-fill-inverse-tables : After-fill_inverse_tables → After-root_of-root
-root-of-from-fill-inverse-tables c = c.before.before.before
-
-abbrev root-of-from-interpolate-four : After-interpolate_four → After-root_of-root
-root-of-from-interpolate-four c =
-    root-of-from-fill-inverse-tables c.before.before.before.before.before.before.before.before.before
+use Rattle.index.proofs.index_matrix_into.Goals.{After-fill_index_values, After-fill_inverse_tables, Start}
 
 -- the words of the values, as many in each list as the first slice has
 module _ (c : After-fill_index_values) where
   abbrev start : Start
-  start = start-from-fill-index-values c
+  start = c.before.before.before.before.before.before.before.before.before.before.before.before
 
   abbrev values : Index (List ℕ)
   values =
@@ -66,7 +46,7 @@ module _ (c : After-fill_index_values) where
 -- the tables in their arrays
 module _ (c : After-fill_inverse_tables) where
   abbrev at-values : After-fill_index_values
-  at-values = fill-index-values-from-fill-inverse-tables c
+  at-values = c.before.before.before.before.before.before.before.before.before.before.before.before
 
   abbrev m : ℕ
   m = n at-values
@@ -104,14 +84,14 @@ pub root_of-root-requires : goal.root_of-root-requires
 root_of-root-requires c = size_is _ (long (goal.at.root_of-root-requires c).After-fill_index_values).row-length
 
 pub slice_bounds-powers-end : goal.slice_bounds-powers-end
-slice_bounds-powers-end c = fits (fill-index-values-from-root-of (goal.at.slice_bounds-powers-end c).After-root_of-root)
+slice_bounds-powers-end c = fits (goal.at.slice_bounds-powers-end c).After-fill_index_values
 
 pub slice_bounds-quotients-end : goal.slice_bounds-quotients-end
-slice_bounds-quotients-end c = fits (fill-index-values-from-root-of (goal.at.slice_bounds-quotients-end c).After-root_of-root)
+slice_bounds-quotients-end c = fits (goal.at.slice_bounds-quotients-end c).After-fill_index_values
 
 pub fill_inverse_tables-requires : goal.fill_inverse_tables-requires
 fill_inverse_tables-requires c =
-    let v = fill-index-values-from-root-of (goal.at.fill_inverse_tables-requires c).After-root_of-root in
+    let v = (goal.at.fill_inverse_tables-requires c).After-fill_index_values in
     let part = lent_length 1024 (fits v) in
     record {
       lt_p = (start v).pre.0;
@@ -146,12 +126,12 @@ interpolate_four-requires c =
 
 pub returns : goal.returns
 returns c q known k M listed matrix =
-    let t = fill-inverse-tables-from-interpolate-four (goal.at.returns c).After-interpolate_four in
+    let t = (goal.at.returns c).After-fill_inverse_tables in
     let v = at-values t in
     let s = start v in
-    let call = t.fill-inverse-tables in
+    let call = t.fill_inverse_tables in
     let root-word =
-    (root-of-from-interpolate-four (goal.at.returns c).After-interpolate_four).root_of-root.ensures q known in
+    c.root_of-root.ensures q known in
     let (row, col, rowcol, rowcolval) =
     c.interpolate_four.ensures q known
     (coefficients_lent q 1024 (fits v) (powers t) (quotients t) call.kept.1.1.0 call.kept.1.1.1.0

@@ -11,13 +11,6 @@ use Rattle.index.proofs.IndexValues.{listed}
 use Rattle.index.proofs.index_values_into.Goals as goal
 use Rattle.index.proofs.index_values_into.Goals.{After-fill_powers, After-fill_powers-2, Start}
 
--- the start, from the first list, and that from the second
-abbrev start : After-fill_powers → Start
-start c = c.before.before.before.before.before.before.before.before
-
-abbrev at_rows : After-fill_powers-2 → After-fill_powers
-at_rows c = c.before.before.before.before
-
 -- |R| and |C| words fit into an array
 rows_fit : (s : Start) → s.args.r ≤ 1024
 rows_fit s = size_bound _ s.requires.r_value.0
@@ -26,13 +19,13 @@ columns_fit : (s : Start) → s.args.c ≤ 1024
 columns_fit s = size_bound _ s.requires.r_value.1
 
 -- the lists as they are lent the second time
-rows-length : (c : After-fill_powers) → let n : ℕ = (start c).args.r in
+rows-length : (c : After-fill_powers) → let n : ℕ = c.args.r in
     n ≡ length (take n (returned 1024 n c.fill_powers.new.out))
-rows-length c = back_length 1024 (rows_fit (start c)) c.fill_powers.new.out c.fill_powers.auto.out
+rows-length c = back_length 1024 (rows_fit c.before.before.before.before.before.before.before.before) c.fill_powers.new.out c.fill_powers.auto.out
 
-columns-length : (c : After-fill_powers-2) → let n : ℕ = (start (at_rows c)).args.c in
+columns-length : (c : After-fill_powers-2) → let n : ℕ = (c.before.before.before.before.before.before.before.before.before.before.before.before).args.c in
     n ≡ length (take n (returned 1024 n c.fill_powers-2.new.out))
-columns-length c = back_length 1024 (columns_fit (start (at_rows c))) c.fill_powers-2.new.out c.fill_powers-2.auto.out
+columns-length c = back_length 1024 (columns_fit (c.before.before.before.before.before.before.before.before.before.before.before.before)) c.fill_powers-2.new.out c.fill_powers-2.auto.out
 
 pub slice_bounds-rows-end : goal.slice_bounds-rows-end
 slice_bounds-rows-end c = rows_fit (goal.at.slice_bounds-rows-end c).Start
@@ -42,21 +35,21 @@ slice_bounds-columns-end c = columns_fit (goal.at.slice_bounds-columns-end c).St
 
 pub slice_bounds-rows-end-2 : goal.slice_bounds-rows-end-2
 slice_bounds-rows-end-2 c =
-    let f = (goal.at.slice_bounds-rows-end-2 c).After-fill_powers in
-    back_holds 1024 (rows_fit (start f)) f.fill_powers.new.out f.fill_powers.auto.out
+    let f = (goal.at.slice_bounds-rows-end-2 c).Start in
+    back_holds 1024 (rows_fit f) f.fill_powers.new.out f.fill_powers.auto.out
 
 pub slice_bounds-columns-end-2 : goal.slice_bounds-columns-end-2
 slice_bounds-columns-end-2 c =
-    let f = (goal.at.slice_bounds-columns-end-2 c).After-fill_powers-2 in
-    back_holds 1024 (columns_fit (start (at_rows f))) f.fill_powers-2.new.out f.fill_powers-2.auto.out
+    let f = c.before.before in
+    back_holds 1024 (columns_fit (f.before.before.before.before.before.before.before.before.before.before.before.before)) f.fill_powers-2.new.out f.fill_powers-2.auto.out
 
 pub fill_index_values-requires : goal.fill_index_values-requires
 fill_index_values-requires c =
     let f = (goal.at.fill_index_values-requires c).After-fill_powers-2 in
-    let h = (start (at_rows f)).requires in record {
+    let h = (f.before.before.before.before.before.before.before.before.before.before.before.before).requires in record {
       p_nonzero = omega (arith, h.0);
       rows_nonzero = (
-        subst (λ (n : ℕ). 0 < n) (rows-length (at_rows f)) (size_positive _ h.1.0.0),
+        subst (λ (n : ℕ). 0 < n) (rows-length f.before.before.before.before) (size_positive _ h.1.0.0),
         subst (λ (n : ℕ). 0 < n) (columns-length f) (size_positive _ h.1.0.1),
       );
       index_lengths = h.1.1;
@@ -65,16 +58,16 @@ fill_index_values-requires c =
 pub returns : goal.returns
 returns c q known k er ec =
     let v = c in
-    let f = v.before.before.before.before.before.before.before.before.before.before.before.before.before.before.before.before in
-    let e = at_rows f in
-    let s = start e in
+    let f = v in
+    let e = f in
+    let s = e.before.before.before.before.before.before.before.before.before.before.before.before.before.before.before.before.before.before.before.before.before.before.before.before.before.before.before.before in
     v.fill_index_values.ensures q (known-qualifies known) known.value k
     (record {
-      R-size = ap is_size er ∙ s.pre.1.0.0;
-      C-size = ap is_size ec ∙ s.pre.1.0.1;
+      R-size = ap is_size er ∙ s.requires.r_value.0;
+      C-size = ap is_size ec ∙ s.requires.r_value.1;
       R-words =
-          listed q e.fill-powers.last.1.1.0 er (rows_fit s) e.fill-powers.kept.1.1.0
-          (e.before.before.root-of.ensures q known) (e.fill-powers.ensures q known.value);
+          listed q e.fill_powers.last.1.1.0 er (rows_fit s) e.fill_powers.kept.1.1.0
+          (e.root_of.ensures q known) (e.fill_powers.ensures q known.value);
       C-words =
           listed q f.fill_powers-2.new.out ec (columns_fit s) f.fill_powers-2.auto.out
           (f.root_of-2.ensures q known) (f.fill_powers-2.ensures q known.value);

@@ -7,32 +7,7 @@ use Rattle.domain.specs.Size.{is_size}
 use Rattle.poly.proofs.LentParts.{part_order}
 use Rattle.transform.specs.Reading.{CoefficientTables}
 use Rattle.index.proofs.interpolate_four.Goals as goal
-use Rattle.index.proofs.interpolate_four.Goals.{After-interpolate_in_place, After-interpolate_in_place-2, After-interpolate_in_place-3, After-interpolate_in_place-4, Start}
-
--- the way back from a place in the code to an earlier one
-abbrev start-from-interpolate-in-place : After-interpolate_in_place → Start
-start-from-interpolate-in-place c = c.before.before.before.before.before.before.before.before
-
-abbrev start-from-interpolate-in-place2 : After-interpolate_in_place-2 → Start
-start-from-interpolate-in-place2 c = start-from-interpolate-in-place c.before.before.before.before
-
-abbrev start-from-interpolate-in-place3 : After-interpolate_in_place-3 → Start
-start-from-interpolate-in-place3 c = start-from-interpolate-in-place2 c.before.before.before.before
-
-abbrev start-from-interpolate-in-place4 : After-interpolate_in_place-4 → Start
-start-from-interpolate-in-place4 c = start-from-interpolate-in-place3 c.before.before.before.before
-
-abbrev interpolate-in-place-from-interpolate-in-place3 : After-interpolate_in_place-3 → After-interpolate_in_place
-interpolate-in-place-from-interpolate-in-place3 c = c.before.before.before.before.before.before.before.before
-
-abbrev interpolate-in-place-from-interpolate-in-place4 : After-interpolate_in_place-4 → After-interpolate_in_place
-interpolate-in-place-from-interpolate-in-place4 c = interpolate-in-place-from-interpolate-in-place3 c.before.before.before.before
-
-abbrev interpolate-in-place2-from-interpolate-in-place4 : After-interpolate_in_place-4 → After-interpolate_in_place-2
-interpolate-in-place2-from-interpolate-in-place4 c = c.before.before.before.before.before.before.before.before
-
-abbrev interpolate-in-place3-from-interpolate-in-place4 : After-interpolate_in_place-4 → After-interpolate_in_place-3
-interpolate-in-place3-from-interpolate-in-place4 c = c.before.before.before.before
+use Rattle.index.proofs.interpolate_four.Goals.{Start}
 
 -- what is asked for a list as long as the first
 ready : (s : Start) {m : ℕ} → m ≡ length s.args.row.now
@@ -41,27 +16,27 @@ ready s e = (s.requires.lt_p, (ap is_size e ∙ s.requires.row_value, (part_orde
 
 pub interpolate_in_place-requires-2 : goal.interpolate_in_place-requires-2
 interpolate_in_place-requires-2 c =
-    let s = start-from-interpolate-in-place (goal.at.interpolate_in_place-requires-2 c).After-interpolate_in_place in ready s s.pre.1.1.1.col-length
+    let s = (goal.at.interpolate_in_place-requires-2 c).Start in ready s s.requires.index_lengths.col-length
 
 pub interpolate_in_place-requires-3 : goal.interpolate_in_place-requires-3
 interpolate_in_place-requires-3 c =
-    let s = start-from-interpolate-in-place2 (goal.at.interpolate_in_place-requires-3 c).After-interpolate_in_place-2 in ready s s.pre.1.1.1.rowcol-length
+    let s = (goal.at.interpolate_in_place-requires-3 c).Start in ready s s.requires.index_lengths.rowcol-length
 
 pub interpolate_in_place-requires-4 : goal.interpolate_in_place-requires-4
 interpolate_in_place-requires-4 c =
-    let s = start-from-interpolate-in-place3 (goal.at.interpolate_in_place-requires-4 c).After-interpolate_in_place-3 in ready s s.pre.1.1.1.rowcolval-length
+    let s = (goal.at.interpolate_in_place-requires-4 c).Start in ready s s.requires.index_lengths.rowcolval-length
 
 pub returns : goal.returns
 returns c q known tables =
-    let s = start-from-interpolate-in-place4 (goal.at.returns c).After-interpolate_in_place-4 in
+    let s = c in
     let a = s.args in
-    let lengths = s.pre.1.1.1 in
+    let lengths = s.requires.index_lengths in
     let at : (m : ℕ) → m ≡ length a.row.now → CoefficientTables q m a.powers.now a.quotients.now =
     λ m e. subst⁻¹ (λ (m : ℕ). CoefficientTables q m a.powers.now a.quotients.now) e tables in (
-      (interpolate-in-place-from-interpolate-in-place4 (goal.at.returns c).After-interpolate_in_place-4).interpolate_in_place.ensures q known tables,
-      (interpolate-in-place2-from-interpolate-in-place4 (goal.at.returns c).After-interpolate_in_place-4).interpolate_in_place-2.ensures q known
+      c.interpolate_in_place.ensures q known tables,
+      c.interpolate_in_place-2.ensures q known
           (at _ lengths.col-length),
-      (interpolate-in-place3-from-interpolate-in-place4 (goal.at.returns c).After-interpolate_in_place-4).interpolate_in_place-3.ensures q known
+      c.interpolate_in_place-3.ensures q known
           (at _ lengths.rowcol-length),
       c.interpolate_in_place-4.ensures q known (at _ lengths.rowcolval-length),
     )

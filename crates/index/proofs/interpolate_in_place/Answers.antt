@@ -13,18 +13,11 @@ use Rattle.domain.proofs.SizeLaws.{size_bound}
 use Rattle.poly.proofs.LentParts.{array, part_order}
 use Rattle.transform.specs.Reading.{CoefficientTables}
 use Rattle.index.proofs.interpolate_in_place.Goals as goal
-use Rattle.index.proofs.interpolate_in_place.Goals.{After-copy_front, After-interpolate_with, Start}
-
--- the way back from a place in the code to an earlier one
-abbrev start-from-copy-front : After-copy_front → Start
-start-from-copy-front c = c.before.before.before.before.before
-
-abbrev copy-front-from-interpolate-with : After-interpolate_with → After-copy_front
-copy-front-from-interpolate-with c = c.before.before.before.before
+use Rattle.index.proofs.interpolate_in_place.Goals.{After-copy_front, Start}
 
 -- the start, from the copy
 abbrev start : After-copy_front → Start
-start c = start-from-copy-front c
+start c = c.before.before.before.before.before
 
 -- the first words of the array are the values
 copied : (c : After-copy_front) → let l : List ℕ = (start c).args.out.now in take (length l) c.copy_front.new.out ≡ l
@@ -52,7 +45,7 @@ interpolate_with-requires c =
 
 pub returns : goal.returns
 returns c q known tables =
-    let f = copy-front-from-interpolate-with (goal.at.returns c).After-interpolate_with in
+    let f = (goal.at.returns c).After-copy_front in
     let a = (start f).args in
     c.interpolate_with.ensures q (known-qualifies known) known.value
     (subst (λ (m : ℕ). CoefficientTables q m a.powers.now a.quotients.now) (ap length (sym (copied f))) tables)

@@ -22,16 +22,6 @@ use Rattle.openings.proofs.OpeningLaws.{MadeIn, made_holds, made_length, made_is
 use Rattle.openings.proofs.open_all.Goals as goal
 use Rattle.openings.proofs.open_all.Goals.{After-lagrange_values_into, After-lagrange_values_into-2, After-weights_from, Start}
 
--- the start, from the rows' values; these, from the columns'; and these, from the weights
-abbrev start : After-lagrange_values_into → Start
-start c = c.before.before.before.before.before.before.before
-
-abbrev at_rows : After-lagrange_values_into-2 → After-lagrange_values_into
-at_rows c = c.before.before.before
-
-abbrev at-columns : After-weights_from → After-lagrange_values_into-2
-at-columns c = c.before.before.before.before
-
 rows_fit : (s : Start) → s.args.r ≤ 1024
 rows_fit s = size_bound s.args.r (R-fits s.requires.fits)
 
@@ -39,16 +29,16 @@ columns_fit : (s : Start) → s.args.c ≤ 1024
 columns_fit s = size_bound s.args.c (C-fits s.requires.fits)
 
 -- the three lists as they were made
-rows_made : (c : After-lagrange_values_into) → MadeIn 1024 (start c).args.r c.lagrange_values_into.new.out
-rows_made c = record { fits = rows_fit (start c); kept = c.lagrange_values_into.auto.out }
+rows_made : (c : After-lagrange_values_into) → MadeIn 1024 c.args.r c.lagrange_values_into.new.out
+rows_made c = record { fits = rows_fit c.before.before.before.before.before.before.before; kept = c.lagrange_values_into.auto.out }
 
-columns_made : (c : After-lagrange_values_into-2) → MadeIn 1024 (start (at_rows c)).args.c c.lagrange_values_into-2.new.out
-columns_made c = record { fits = columns_fit (start (at_rows c)); kept = c.lagrange_values_into-2.auto.out }
+columns_made : (c : After-lagrange_values_into-2) → MadeIn 1024 (c.before.before.before.before.before.before.before.before.before.before).args.c c.lagrange_values_into-2.new.out
+columns_made c = record { fits = columns_fit (c.before.before.before.before.before.before.before.before.before.before); kept = c.lagrange_values_into-2.auto.out }
 
 weights_made : (c : After-weights_from)
-    → MadeIn 1024 (start (at_rows (at-columns c))).args.c c.weights_from.new.out
+    → MadeIn 1024 (start (c.before.before.before.before.before.before.before)).args.c c.weights_from.new.out
 weights_made c =
-    record { fits = columns_fit (start (at_rows (at-columns c))); kept = c.weights_from.auto.out }
+    record { fits = columns_fit (start (c.before.before.before.before.before.before.before)); kept = c.weights_from.auto.out }
 
 pub slice_bounds-rows-end : goal.slice_bounds-rows-end
 slice_bounds-rows-end c = rows_fit (goal.at.slice_bounds-rows-end c).Start
@@ -62,36 +52,36 @@ lagrange_values_into-requires c =
     }
 
 pub slice_bounds-columns-end : goal.slice_bounds-columns-end
-slice_bounds-columns-end c = columns_fit (start (goal.at.slice_bounds-columns-end c).After-lagrange_values_into)
+slice_bounds-columns-end c = columns_fit (goal.at.slice_bounds-columns-end c).Start
 
 pub lagrange_values_into-requires-2 : goal.lagrange_values_into-requires-2
 lagrange_values_into-requires-2 c =
-    let s = start (goal.at.lagrange_values_into-requires-2 c).After-lagrange_values_into in
+    let s = (goal.at.lagrange_values_into-requires-2 c).Start in
     record {
-      lt_p = s.pre.0;
-      out_value = ap is_size (sym (lent_length 1024 (columns_fit s))) ∙ C-fits s.pre.1.0;
+      lt_p = s.requires.lt_p;
+      out_value = ap is_size (sym (lent_length 1024 (columns_fit s))) ∙ C-fits s.requires.fits;
     }
 
 pub slice_bounds-rows-end-2 : goal.slice_bounds-rows-end-2
-slice_bounds-rows-end-2 c = made_holds (rows_made (at_rows (goal.at.slice_bounds-rows-end-2 c).After-lagrange_values_into-2))
+slice_bounds-rows-end-2 c = made_holds (rows_made (goal.at.slice_bounds-rows-end-2 c).After-lagrange_values_into)
 
 pub slice_bounds-weights-end : goal.slice_bounds-weights-end
-slice_bounds-weights-end c = columns_fit (start (at_rows (goal.at.slice_bounds-weights-end c).After-lagrange_values_into-2))
+slice_bounds-weights-end c = columns_fit (c.before.before.before.before.before.before.before.before.before.before.before.before)
 
 pub weights_from-requires : goal.weights_from-requires
 weights_from-requires c =
-    let l = at_rows (goal.at.weights_from-requires c).After-lagrange_values_into-2 in
-    let s = start l in
+    let l = (goal.at.weights_from-requires c).After-lagrange_values_into in
+    let s = l.before.before.before.before.before.before.before in
     record {
-      p_nonzero = omega (arith, s.pre.0);
-      each_within = each_within (made_length (rows_made l)) (lent_length 1024 (columns_fit s)) s.pre.1.0.within;
+      p_nonzero = omega (arith, s.requires.lt_p);
+      each_within = each_within (made_length (rows_made l)) (lent_length 1024 (columns_fit s)) s.requires.fits.within;
     }
 
 pub slice_bounds-rows-end-3 : goal.slice_bounds-rows-end-3
-slice_bounds-rows-end-3 c = made_holds (rows_made (at_rows (at-columns (goal.at.slice_bounds-rows-end-3 c).After-weights_from)))
+slice_bounds-rows-end-3 c = made_holds (rows_made (c.before.before.before.before.before.before.before.before))
 
 pub slice_bounds-columns-end-2 : goal.slice_bounds-columns-end-2
-slice_bounds-columns-end-2 c = made_holds (columns_made (at-columns (goal.at.slice_bounds-columns-end-2 c).After-weights_from))
+slice_bounds-columns-end-2 c = made_holds (columns_made (goal.at.slice_bounds-columns-end-2 c).After-lagrange_values_into-2)
 
 pub slice_bounds-weights-end-2 : goal.slice_bounds-weights-end-2
 slice_bounds-weights-end-2 c = made_holds (weights_made (goal.at.slice_bounds-weights-end-2 c).After-weights_from)
@@ -99,9 +89,9 @@ slice_bounds-weights-end-2 c = made_holds (weights_made (goal.at.slice_bounds-we
 pub opened_from-requires : goal.opened_from-requires
 opened_from-requires c =
     let w = (goal.at.opened_from-requires c).After-weights_from in
-    let l = at-columns w in
-    let h = (start (at_rows l)).requires in
-    let long = made_length (rows_made (at_rows l)) in
+    let l = w.before.before.before.before in
+    let h = (l.before.before.before.before.before.before.before.before.before.before).requires in
+    let long = made_length (rows_made l.before.before.before) in
     record {
       lt_p = h.0;
       fits = h.1.0;
@@ -113,15 +103,15 @@ pub returns : goal.returns
 unfolding circuit_of
 returns c q K =
     let w = (goal.at.returns c).After-weights_from in
-    let l = at-columns w in
-    let m = at_rows l in
-    let s = start m in
+    let l = w.before.before.before.before in
+    let m = l.before.before.before in
+    let s = m.before.before.before.before.before.before.before in
     let a = s.args in
     let k : Circuit = circuit_of (given a.r a.c a.x a.ea.now a.eb.now a.ec.now) in
     let α : Elem q = of a.alpha in
-    let rows = made_by_length (rows_made m) (λ (n : ℕ). lagrange_values n α) (m.lagrange-values-into.ensures q K) in
+    let rows = made_by_length (rows_made m) (λ (n : ℕ). lagrange_values n α) (m.lagrange_values_into.ensures q K) in
     let β : Elem q = of a.beta in
-    let columns = made_by_length (columns_made l) (λ (n : ℕ). lagrange_values n β) (l.lagrange-values-into2.ensures q K) in
+    let columns = made_by_length (columns_made l) (λ (n : ℕ). lagrange_values n β) (l.lagrange_values_into-2.ensures q K) in
     let η : Three (Elem q) = map_three of (three a.eta) in
     c.opened_from.ensures q K
     (record { by_row = made_is (rows_made m) ∙ rows; by_column = made_is (columns_made l) ∙ columns }) (three a.eta)

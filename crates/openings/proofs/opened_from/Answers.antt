@@ -25,17 +25,10 @@ use Rattle.openings.proofs.OpeningLaws.{nine_same, three_same}
 use Rattle.domain.proofs.Divisors.{outside_smaller}
 use Rattle.openings.proofs.OutsideLaws.{outside_here, outside-matrix}
 use Rattle.openings.proofs.opened_from.Goals as goal
-use Rattle.openings.proofs.opened_from.Goals.{After-matrix_at-of_c, After-multiply-scale, Start}
+use Rattle.openings.proofs.opened_from.Goals.{After-multiply-scale, Start}
 
 append : {a b c d : List ℕ} → a ≡ b → c ≡ d → a ++ c ≡ b ++ d
 append = ap₂ (λ (l m : List ℕ). l ++ m)
-
--- the start, from the scale, and the scale, from the openings of the matrices
-abbrev start : After-multiply-scale → Start
-start c = c.before.before.before.before.before.before.before.before.before.before.before
-
-abbrev at-scale : After-matrix_at-of_c → After-multiply-scale
-at-scale c = c.before.before.before
 
 -- the circuit that is given
 abbrev circuit : Start → Circuit
@@ -60,18 +53,18 @@ entries_fit s whole within =
     entries-within (R-fits F) (C-fits F) whole within (sym long.0) (sym long.1)
 
 -- v_R(α) v_C(β)
-scaled : (c : After-multiply-scale) (q : Prime) → q.p ≡ (start c).args.p
-    → let a = (start c).args in c.multiply-scale.result ≡ (vanishing a.r (of {q = q} a.alpha) ⊗ vanishing a.c (of a.beta)).word
+scaled : (c : After-multiply-scale) (q : Prime) → q.p ≡ c.args.p
+    → let a = c.args in c.multiply-scale.result ≡ (vanishing a.r (of {q = q} a.alpha) ⊗ vanishing a.c (of a.beta)).word
 scaled c q e =
-    let a = (start c).args in
+    let a = c.args in
     c.multiply-scale.ensures q e
     ∙ ap₂ (λ (u v : Elem q). (u ⊗ v).word) (of-result (vanishing a.r (of a.alpha)) (c.vanishing_value.ensures q e))
     (of-result (vanishing a.c (of a.beta)) (c.vanishing_value-2.ensures q e))
 
 pub matrix_at-of_a-requires : goal.matrix_at-of_a-requires
 matrix_at-of_a-requires c =
-    let s = start (goal.at.matrix_at-of_a-requires c).After-multiply-scale in
-    let h = s.pre in
+    let s = (goal.at.matrix_at-of_a-requires c).Start in
+    let h = s.requires in
     let F = h.1.0 in
     record {
       lt_p = h.0;
@@ -82,8 +75,8 @@ matrix_at-of_a-requires c =
 
 pub matrix_at-of_b-requires : goal.matrix_at-of_b-requires
 matrix_at-of_b-requires c =
-    let s = start (goal.at.matrix_at-of_b-requires c).After-multiply-scale in
-    let h = s.pre in
+    let s = (goal.at.matrix_at-of_b-requires c).Start in
+    let h = s.requires in
     let F = h.1.0 in
     record {
       lt_p = h.0;
@@ -94,8 +87,8 @@ matrix_at-of_b-requires c =
 
 pub matrix_at-of_c-requires : goal.matrix_at-of_c-requires
 matrix_at-of_c-requires c =
-    let s = start (goal.at.matrix_at-of_c-requires c).After-multiply-scale in
-    let h = s.pre in
+    let s = (goal.at.matrix_at-of_c-requires c).Start in
+    let h = s.requires in
     let F = h.1.0 in
     record {
       lt_p = h.0;
@@ -106,7 +99,7 @@ matrix_at-of_c-requires c =
 
 pub assignment_at-assignment-requires : goal.assignment_at-assignment-requires
 assignment_at-assignment-requires c =
-    let h = (start (at-scale (goal.at.assignment_at-assignment-requires c).After-matrix_at-of_c)).requires in
+    let h = (c.before.before.before.before.before.before.before.before.before.before.before.before.before.before).requires in
     record {
       lt_p = h.0;
       c_value = C-fits h.1.0;
@@ -115,7 +108,7 @@ assignment_at-assignment-requires c =
 
 pub line_at-at_beta-requires : goal.line_at-at_beta-requires
 line_at-at_beta-requires c =
-    let h = (start (at-scale (goal.at.line_at-at_beta-requires c).After-matrix_at-of_c)).requires in
+    let h = (c.before.before.before.before.before.before.before.before.before.before.before.before.before.before.before).requires in
     record {
       lt_p = h.0;
       c_value = (C-fits h.1.0, h.1.1.0.β-outside);
@@ -124,8 +117,8 @@ line_at-at_beta-requires c =
 
 pub witness_at-requires : goal.witness_at-requires
 witness_at-requires c =
-    let s = start (at-scale (goal.at.witness_at-requires c).After-matrix_at-of_c) in
-    let h = s.pre in
+    let s = c in
+    let h = s.requires in
     let F = h.1.0 in record {
       lt_p = h.0;
       c_value = (C-fits F, X-fits F, X-below F);
@@ -135,7 +128,7 @@ witness_at-requires c =
 
 pub row_quotient_at-requires : goal.row_quotient_at-requires
 row_quotient_at-requires c =
-    let h = (start (at-scale (goal.at.row_quotient_at-requires c).After-matrix_at-of_c)).requires in
+    let h = (c.before.before.before.before.before.before.before.before.before.before.before.before.before.before.before.before.before).requires in
     let F = h.1.0 in
     record {
       lt_p = h.0;
@@ -145,7 +138,7 @@ row_quotient_at-requires c =
     }
 
 pub joined_at-requires : goal.joined_at-requires
-joined_at-requires c = (start (at-scale (goal.at.joined_at-requires c).After-matrix_at-of_c)).requires.lt_p
+joined_at-requires c = (c.before.before.before.before.before.before.before.before.before.before.before.before.before.before.before.before.before.before).requires.lt_p
 
 pub returns : goal.returns
 unfolding circuit_of messages openings
@@ -155,11 +148,11 @@ returns c q K L η weighed =
     let w = r in
     let l = w in
     let i = l in
-    let last = i.before.before.before.before.before.before.before.before in
-    let t = at-scale last in
-    let s = start t in
+    let last = i in
+    let t = last.before.before.before.before.before.before.before.before.before.before.before in
+    let s = t.before.before.before.before.before.before.before.before.before.before.before in
     let a = s.args in
-    let F = s.pre.1.0 in
+    let F = s.requires.fits in
     let v = K.value in
     let Q = known-qualifies K in
     let k : Circuit = circuit s in

@@ -8,14 +8,7 @@ use Rattle.domain.proofs.SizeLaws.{size_bound}
 use Rattle.poly.proofs.LentParts.{returned, lent_length, back_holds, back_length}
 use Rattle.transform.proofs.TableLaws.{values-lent}
 use Rattle.transform.proofs.evaluate_into.Goals as goal
-use Rattle.transform.proofs.evaluate_into.Goals.{After-evaluate_with, After-fill_tables, Start}
-
--- the way back from a place in the code to an earlier one
-abbrev start-from-fill-tables : After-fill_tables → Start
-start-from-fill-tables c = c.before.before.before.before.before
-
-abbrev fill-tables-from-evaluate-with : After-evaluate_with → After-fill_tables
-fill-tables-from-evaluate-with c = c.before.before.before.before.before.before
+use Rattle.transform.proofs.evaluate_into.Goals.{After-fill_tables, Start}
 
 bound : (c : Start) → length c.args.f.now ≤ 1024
 bound c = size_bound (length c.args.f.now) c.requires.out_len.1
@@ -23,7 +16,7 @@ bound c = size_bound (length c.args.f.now) c.requires.out_len.1
 -- the tables in their arrays
 module _ (c : After-fill_tables) where
   abbrev start : Start
-  start = start-from-fill-tables c
+  start = c.before.before.before.before.before
 
   abbrev n : ℕ
   n = length start.args.f.now
@@ -67,18 +60,18 @@ slice_bounds-quotients-end-2 c =
 
 pub evaluate_with-requires : goal.evaluate_with-requires
 evaluate_with-requires c =
-    let s = start-from-fill-tables (goal.at.evaluate_with-requires c).After-fill_tables in
+    let s = c in
     let t = (goal.at.evaluate_with-requires c).After-fill_tables in
     record {
-      lt_p = s.pre.0;
-      out_len = s.pre.1;
+      lt_p = s.requires.lt_p;
+      out_len = s.requires.out_len;
       f_in_bounds = (omega (arith, powers-length t), omega (arith, quotients-length t));
     }
 
 pub returns : goal.returns
 returns c q Q e root-word =
-    let t = fill-tables-from-evaluate-with (goal.at.returns c).After-evaluate_with in
-    let call = t.fill-tables in
+    let t = (goal.at.returns c).After-fill_tables in
+    let call = t.fill_tables in
     c.evaluate_with.ensures q Q e
     (values-lent q 1024 (bound (start t)) (powers t) (quotients t) call.kept.1.1.0 call.kept.1.1.1.0 (start t).args.g
     root-word (call.ensures q e))

@@ -15,11 +15,6 @@ use Rattle.transform.proofs.Directions.{to_values-words}
 use Rattle.transform.proofs.Parts.{part-whole}
 use Rattle.transform.proofs.TableLaws.{prepared_by_value, below_by_value}
 use Rattle.transform.proofs.evaluate_with.Goals as goal
-use Rattle.transform.proofs.evaluate_with.Goals.{After-transform, Start}
-
--- the way back from a place in the code to an earlier one
-abbrev start-from-transform : After-transform → Start
-start-from-transform c = c.before.before.before.before.before.before
 
 pub transform-requires : goal.transform-requires
 transform-requires c =
@@ -36,12 +31,12 @@ transform-requires c =
 
 pub returns : goal.returns
 returns c q Q e tables =
-    let s = start-from-transform (goal.at.returns c).After-transform in
+    let s = c in
     let a = s.args in
     let f : Poly q = map of a.f.now in
     let n : ℕ = length a.f.now in
-    let (k, within, size) = size_is-power n s.pre.1.0.1 in
-    c.transform.ensures q e (below_by_value e Q.small) (root n) k (s.pre.1.0.0 ∙ size) (tables k size).levels
+    let (k, within, size) = size_is-power n s.requires.out_len.1 in
+    c.transform.ensures q e (below_by_value e Q.small) (root n) k (s.requires.out_len.0 ∙ size) (tables k size).levels
     (prepared_by_value a.powers.now a.quotients.now e (tables k size).prepared)
     ∙ ap words (part-whole 1 a.f.now k (root n) size ∙ ap (λ (m : ℕ). transform (prime_ring q) k (root m) (of 1 · f)) size
     ∙ to_values-words Q k within a.f.now size ∙ ap (λ (m : ℕ). values_on m f) (sym size))

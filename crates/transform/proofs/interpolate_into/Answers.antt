@@ -10,14 +10,7 @@ use Rattle.domain.proofs.SizeLaws.{size_bound}
 use Rattle.poly.proofs.LentParts.{returned, lent_length, back_holds, back_length}
 use Rattle.transform.proofs.TableLaws.{coefficients_lent}
 use Rattle.transform.proofs.interpolate_into.Goals as goal
-use Rattle.transform.proofs.interpolate_into.Goals.{After-fill_inverse_tables, After-interpolate_with, Start}
-
--- the way back from a place in the code to an earlier one
-abbrev start-from-fill-inverse-tables : After-fill_inverse_tables → Start
-start-from-fill-inverse-tables c = c.before.before.before.before.before
-
-abbrev fill-inverse-tables-from-interpolate-with : After-interpolate_with → After-fill_inverse_tables
-fill-inverse-tables-from-interpolate-with c = c.before.before.before.before.before.before
+use Rattle.transform.proofs.interpolate_into.Goals.{After-fill_inverse_tables, Start}
 
 bound : (c : Start) → length c.args.values.now ≤ 1024
 bound c = size_bound (length c.args.values.now) c.requires.out_len.1
@@ -25,7 +18,7 @@ bound c = size_bound (length c.args.values.now) c.requires.out_len.1
 -- the tables in their arrays
 module _ (c : After-fill_inverse_tables) where
   abbrev start : Start
-  start = start-from-fill-inverse-tables c
+  start = c.before.before.before.before.before
 
   abbrev n : ℕ
   n = length start.args.values.now
@@ -69,18 +62,18 @@ slice_bounds-quotients-end-2 c =
 
 pub interpolate_with-requires : goal.interpolate_with-requires
 interpolate_with-requires c =
-    let s = start-from-fill-inverse-tables (goal.at.interpolate_with-requires c).After-fill_inverse_tables in
+    let s = c in
     let t = (goal.at.interpolate_with-requires c).After-fill_inverse_tables in
     record {
-      lt_p = s.pre.0;
-      out_len = s.pre.1;
+      lt_p = s.requires.lt_p;
+      out_len = s.requires.out_len;
       values_in_bounds = (omega (arith, powers-length t), omega (arith, quotients-length t));
     }
 
 pub returns : goal.returns
 returns c q Q e root-word =
-    let t = fill-inverse-tables-from-interpolate-with (goal.at.returns c).After-interpolate_with in
-    let call = t.fill-inverse-tables in
+    let t = (goal.at.returns c).After-fill_inverse_tables in
+    let call = t.fill_inverse_tables in
     let fits = bound (start t) in
     c.interpolate_with.ensures q Q e
     (coefficients_lent q 1024 fits (powers t) (quotients t) call.kept.1.1.0 call.kept.1.1.1.0

@@ -16,14 +16,6 @@ use Rattle.transform.proofs.Directions.{to_coefficients-words}
 use Rattle.transform.proofs.Parts.{part-whole}
 use Rattle.transform.proofs.TableLaws.{prepared_by_value, below_by_value}
 use Rattle.transform.proofs.interpolate_with.Goals as goal
-use Rattle.transform.proofs.interpolate_with.Goals.{After-size_inverse-share, After-transform, Start}
-
--- the way back from a place in the code to an earlier one
-abbrev start-from-size-inverse : After-size_inverse-share → Start
-start-from-size-inverse c = c.before.before.before.before.before
-
-abbrev start-from-transform : After-transform → Start
-start-from-transform c = c.before.before.before.before.before.before.before
 
 pub overflow_cast-values : goal.overflow_cast-values
 overflow_cast-values c =
@@ -32,26 +24,26 @@ overflow_cast-values c =
 
 pub transform-requires : goal.transform-requires
 transform-requires c =
-    let s = start-from-size-inverse (goal.at.transform-requires c).After-size_inverse-share in
+    let s = c in
     let n : ℕ = length s.args.values.now in
-    let same : length s.args.out.now ≡ n = s.pre.1.0.0 in
-    let in-powers : n ≤ length s.args.powers.now = s.pre.1.1.0 in
-    let in-quotients : n ≤ length s.args.quotients.now = s.pre.1.1.1 in record {
-      p_nonzero = omega (arith, s.pre.0);
-      out_value = ap is_size same ∙ s.pre.1.0.1;
-      out_in_bounds = omega (arith, size_positive n s.pre.1.0.1);
+    let same : length s.args.out.now ≡ n = s.requires.out_len.0 in
+    let in-powers : n ≤ length s.args.powers.now = s.requires.values_in_bounds.0 in
+    let in-quotients : n ≤ length s.args.quotients.now = s.requires.values_in_bounds.1 in record {
+      p_nonzero = omega (arith, s.requires.lt_p);
+      out_value = ap is_size same ∙ s.requires.out_len.1;
+      out_in_bounds = omega (arith, size_positive n s.requires.out_len.1);
       out_in_bounds_2 = (omega arith, omega arith);
     }
 
 pub returns : goal.returns
 returns c q Q e tables =
-    let s = start-from-transform (goal.at.returns c).After-transform in
+    let s = c in
     let a = s.args in
     let vs : List (Elem q) = map of a.values.now in
     let n : ℕ = length a.values.now in
-    let (k, within, size) = size_is-power n s.pre.1.0.1 in
+    let (k, within, size) = size_is-power n s.requires.out_len.1 in
     let share = c.size_inverse-share in
-    c.transform.ensures q e (below_by_value e Q.small) (element n (n - 1)) k (s.pre.1.0.0 ∙ size)
+    c.transform.ensures q e (below_by_value e Q.small) (element n (n - 1)) k (s.requires.out_len.0 ∙ size)
     (tables k size).levels (prepared_by_value a.powers.now a.quotients.now e (tables k size).prepared)
     ∙ ap words (part-whole share.result a.values.now k (element n (n - 1)) size
     ∙ ap (λ (m : ℕ). transform (prime_ring q) k (element m (m - 1)) (of share.result · vs)) size

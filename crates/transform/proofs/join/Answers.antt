@@ -18,7 +18,6 @@ use Rattle.domain.proofs.Fill.{length-words, word-at, length_rule_words, rule_wo
 use Rattle.transform.proofs.FilledHalves.{halves_none, halves_all, even_at, odd_at, halves_turn}
 use Rattle.transform.proofs.join.Invariants.{plus_at, minus_at, so_far}
 use Rattle.transform.proofs.join.Goals as goal
-use Rattle.transform.proofs.join.Goals.{After-subtract_reduced, After-subtract_reduced-in-loop-i, At-loop-i, Start}
 
 module _ {q : Prime} (h : ℕ) (v : Elem q) (e o : List (Elem q)) (even-length : length e ≡ h) (odd-length : length o ≡ h) where
   abbrev plus_words : List ℕ
@@ -84,13 +83,6 @@ module _ {q : Prime} (h : ℕ) (v : Elem q) (e o : List (Elem q)) (even-length :
         (is-plus ∙ ap (λ (y : Elem q). (get_or e 0 𝟘 ⊕ y).word) plain)
         (is-minus ∙ ap (λ (y : Elem q). (get_or e 0 𝟘 ⊖ y).word) plain)
 
--- the way back from a place in the code to an earlier one
-abbrev start-from-subtract-reduced : After-subtract_reduced → Start
-start-from-subtract-reduced c = c.before.before.before.before.before.before.before
-
-abbrev loop-from-subtract-reduced2 : After-subtract_reduced-in-loop-i → At-loop-i
-loop-from-subtract-reduced2 c = c.before.before.before.before.before.before.before.before
-
 pub bounds-out-half-2 : goal.bounds-out-half-2
 bounds-out-half-2 c = simp length-set (omega arith)
 
@@ -114,16 +106,16 @@ bounds-out-j-in-loop-i c = simp length-set (omega arith)
 
 pub loop-i-preserved : goal.loop-i-preserved
 loop-i-preserved c =
-    let l = (loop-from-subtract-reduced2 (goal.at.loop-i-preserved c).After-subtract_reduced-in-loop-i).loop-i in
-    let a = (start-from-subtract-reduced (loop-from-subtract-reduced2 (goal.at.loop-i-preserved c).After-subtract_reduced-in-loop-i).before).args in
+    let l = c.loop-i in
+    let a = (c.before.before.before.before.before.before.before.before.before.before.before.before.before.before.before.before).args in
     let i : ℕ = l.i in
     let h : ℕ = length a.out.now / 2 in
     let below : i < h = omega arith in (
       omega arith,
-      simp length-set l.inv.1,
-      simp length-set (l.inv.2 ∙ simp length-set),
+      simp length-set l.invariant.1,
+      simp length-set (l.invariant.2 ∙ simp length-set),
       λ q e small w level prepared es os even-length odd-length one.
-          let before : l.out ≡ so_far w es os h i = l.inv.3 q e small w level prepared es os even-length odd-length one in
+          let before : l.out ≡ so_far w es os h i = l.invariant.3 q e small w level prepared es os even-length odd-length one in
           let even : get_or l.out i 0 ≡ (get_or es i 𝟘).word =
           ap (λ (r : List ℕ). get_or r i 0) before ∙ even_word h w es os even-length odd-length i below in
           let odd : get_or l.out (h + i) 0 ≡ (get_or os i 𝟘).word =
@@ -149,10 +141,10 @@ shape_of-out c = c.loop-i.invariant.2 ∙ simp length-set
 pub returns : goal.returns
 returns c q e small w level prepared es os even-length odd-length split =
     let l = c.loop-i in
-    let f = (goal.at.returns c).After-subtract_reduced in
-    let d : List ℕ = (start-from-subtract-reduced f).args.out.now in
+    let f = c in
+    let d : List ℕ = f.args.out.now in
     let h : ℕ = length d / 2 in
-    let some : 0 < h = omega (arith, (start-from-subtract-reduced f).requires.in_bounds) in
+    let some : 0 < h = omega (arith, f.requires.in_bounds) in
     let x : Elem q = get_or es 0 𝟘 in
     let y : Elem q = get_or os 0 𝟘 in
     let even : get_or d 0 0 ≡ x.word = ap (λ (r : List ℕ). get_or r 0 0) split ∙ first_even h w es os even-length odd-length some in

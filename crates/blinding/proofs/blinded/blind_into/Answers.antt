@@ -12,14 +12,10 @@ use Rattle.blinding.specs.Given.{Reserving, Fitting}
 use Rattle.blinding.proofs.Reserved.{columns-below}
 use Rattle.blinding.proofs.Filling.{all_filled}
 use Rattle.blinding.proofs.blinded.blind_into.Goals as goal
-use Rattle.blinding.proofs.blinded.blind_into.Goals.{After-reserved_columns-columns, Start}
-
--- the start, from the columns, the circuit that is given there, and its reserved columns
-abbrev start : After-reserved_columns-columns → Start
-start r = r.before.before.before.before.before.before.before.before.before
+use Rattle.blinding.proofs.blinded.blind_into.Goals.{After-reserved_columns-columns}
 
 abbrev circuit : After-reserved_columns-columns → CircuitWords
-circuit r = let a = (start r).args in given a.r a.c a.x a.ea.now a.eb.now a.ec.now
+circuit r = let a = r.args in given a.r a.c a.x a.ea.now a.eb.now a.ec.now
 
 columns : (r : After-reserved_columns-columns) → three r.reserved_columns-columns.result ≡ reserved_columns (circuit_of (circuit r))
 unfolding circuit_of
@@ -35,13 +31,13 @@ pub reserved_columns-columns-requires : goal.reserved_columns-columns-requires
 reserved_columns-columns-requires c = reserving c.requires
 
 pub overflow_sub-last : goal.overflow_sub-last
-overflow_sub-last c = omega (arith, size_positive _ (start (goal.at.overflow_sub-last c).After-reserved_columns-columns).requires.shaped.sized.R-size)
+overflow_sub-last c = omega (arith, size_positive _ c.requires.shaped.sized.R-size)
 
 pub assignment_into-requires : goal.assignment_into-requires
 unfolding circuit_of
 assignment_into-requires c =
     let r = (goal.at.assignment_into-requires c).After-reserved_columns-columns in
-    let F = (start r).requires in
+    let F = r.requires in
     record {
       out_len = F.lent-z ∙ sym F.shaped.z-length;
       a_in_bounds = columns-below (circuit_of (circuit r)) refl refl (reserving F) (columns r) F.shaped.z-length;
@@ -54,7 +50,7 @@ returns c =
     let second = third in
     let first = second in
     let r = first.before.before.before.before.before.before.before.before.before.before.before.before.before.before.before.before in
-    let F = (start r).requires.shaped in
-    all_filled (circuit r) (start r).args.z.now (three (start r).args.rho) (three r.reserved_columns-columns.result) (columns r)
+    let F = r.requires.shaped in
+    all_filled (circuit r) r.args.z.now (three r.args.rho) (three r.reserved_columns-columns.result) (columns r)
     F.list-a.whole F.list-b.whole F.list-c.whole
     first.entries_into.ensures second.entries_into-2.ensures third.entries_into-3.ensures filled.assignment_into.ensures

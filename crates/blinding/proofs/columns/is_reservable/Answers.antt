@@ -8,16 +8,12 @@ use Rattle.protocol.specs.Blinded.{reserved_row, reserved_columns}
 use Rattle.shared.specs.Meanings.{three}
 use Rattle.blinding.proofs.Reserved.{too_few, found_in_a, found_in_b, found_in_c}
 use Rattle.blinding.proofs.columns.is_reservable.Goals as goal
-use Rattle.blinding.proofs.columns.is_reservable.Goals.{After-reserved_columns-columns, Start}
-
--- the start, from the columns; and the reserved row and columns of a circuit with the sizes that are given
-abbrev start : After-reserved_columns-columns → Start
-start c = c.before.before.before.before.before
+use Rattle.blinding.proofs.columns.is_reservable.Goals.{After-reserved_columns-columns}
 
 row : (k : Circuit) {r : ℕ} → k.|R| ≡ r → reserved_row k ≡ r - 1
 row k rows = ap (λ n. n - 1) rows
 
-reserved : (c : After-reserved_columns-columns) (k : Circuit) → k.|C| ≡ (start c).args.c → k.|X| ≡ (start c).args.x
+reserved : (c : After-reserved_columns-columns) (k : Circuit) → k.|C| ≡ c.args.c → k.|X| ≡ c.args.x
     → reserved_columns k ≡ three c.reserved_columns-columns.result
 reserved c k columns publics = sym (c.reserved_columns-columns.ensures k columns publics)
 
@@ -32,13 +28,13 @@ reserved_columns-columns-requires c =
     record { C-size = h.C-size; X-size = h.X-size; X-within = h.X-within; enough = omega arith }
 
 pub overflow_sub-last : goal.overflow_sub-last
-overflow_sub-last c = omega (arith, size_positive _ (start (goal.at.overflow_sub-last c).After-reserved_columns-columns).requires.R-size)
+overflow_sub-last c = omega (arith, size_positive _ c.requires.R-size)
 
 pub returns-then-any_reserved : goal.returns-then-any_reserved
 returns-then-any_reserved c k rows columns publics matrices =
     let found = (goal.at.returns-then-any_reserved c).After-reserved_columns-columns in
-    let s = start found in
-    found_in_a k columns publics s.pre s.args.ea.now s.args.eb.now s.args.ec.now matrices (omega arith)
+    let s = found in
+    found_in_a k columns publics s.requires s.args.ea.now s.args.eb.now s.args.ec.now matrices (omega arith)
     (sym (found.any_reserved.ensures k (row k rows) (reserved found k columns publics)) ∙ c.if-any_reserved.true)
 
 pub returns-then-any_reserved-2 : goal.returns-then-any_reserved-2
@@ -46,9 +42,9 @@ returns-then-any_reserved-2 c k rows columns publics matrices =
     let found = c in
     let not_a = found in
     let r = not_a.before.before.before.before in
-    let s = start r in
+    let s = r in
     let same = reserved r k columns publics in
-    found_in_b k columns publics s.pre s.args.ea.now s.args.eb.now s.args.ec.now matrices (omega arith)
+    found_in_b k columns publics s.requires s.args.ea.now s.args.eb.now s.args.ec.now matrices (omega arith)
     (sym (not_a.any_reserved.ensures k (row k rows) same) ∙ not_a.if-any_reserved.false)
     (sym (found.any_reserved-2.ensures k (row k rows) same) ∙ c.if-any_reserved-2.true)
 
@@ -57,9 +53,9 @@ returns c k rows columns publics matrices =
     let not-b = c in
     let not_a = not-b in
     let r = not_a.before.before.before.before.before in
-    let s = start r in
+    let s = r in
     let same = reserved r k columns publics in
-    found_in_c k columns publics s.pre s.args.ea.now s.args.eb.now s.args.ec.now matrices (omega arith)
+    found_in_c k columns publics s.requires s.args.ea.now s.args.eb.now s.args.ec.now matrices (omega arith)
     (sym (not_a.any_reserved.ensures k (row k rows) same) ∙ not_a.if-any_reserved.false)
     (sym (not-b.any_reserved-2.ensures k (row k rows) same) ∙ not-b.if-any_reserved-2.false)
     (c.any_reserved-3.ensures k (row k rows) same)

@@ -15,14 +15,7 @@ use Rattle.blinding.specs.Judgement.{shape_refusal, contents_refusal}
 use Rattle.shared.proofs.EarlyReturns.{stops, goes_on, fine_none, last_answer_lem}
 use Rattle.blinding.proofs.Parts.{lengths_due, blind_in_parts, shape_fits}
 use Rattle.blinding.proofs.refusals.judge_blind.Goals as goal
-use Rattle.blinding.proofs.refusals.judge_blind.Goals.{After-check_lent-slices, After-judge_shape-shape, Else-not-is_fine, Start}
-
--- the start, from the answers on the shape and on the lent slices
-abbrev from-shape : After-judge_shape-shape → Start
-from-shape c = c.before.before.before.before.before
-
-abbrev from-lent : After-check_lent-slices → Start
-from-lent c = from-shape c.before.before.before.before.before
+use Rattle.blinding.proofs.refusals.judge_blind.Goals.{Else-not-is_fine, Start}
 
 -- the circuit that the call is given, and what is to be answered: the shape, the lent slices, the contents
 abbrev circuit : Start → CircuitWords
@@ -54,31 +47,31 @@ module _ (q : Prime) (s : Start) where
 shape_fine : (c : Else-not-is_fine) → is_fine c.judge_shape-shape.result ≡ true
 shape_fine c = sym c.is_fine.ensures ∙ not-false _ c.if-not-is_fine.false
 
-pass_shape : (q : Prime) (c : Else-not-is_fine) {x : Option Refusal} → let s = from-shape c.before.before in x ≡ first (after_shape q s) → x ≡ due q s
+pass_shape : (q : Prime) (c : Else-not-is_fine) {x : Option Refusal} → let s = c.before.before.before.before.before.before.before in x ≡ first (after_shape q s) → x ≡ due q s
 pass_shape q c y =
-    let j = c.before.before in
-    goes_on j.judge_shape-shape.result {o = shape (from-shape j)} j.judge_shape-shape.ensures (after_shape q (from-shape j)) (shape_fine c) y
-    ∙ in_parts q (from-shape j)
+    let j = c.before.before.before.before.before.before.before in
+    goes_on j.judge_shape-shape.result {o = shape j} j.judge_shape-shape.ensures (after_shape q j) (shape_fine c) y
+    ∙ in_parts q j
 
 pub returns-then-not-is_fine : goal.returns-then-not-is_fine
 returns-then-not-is_fine c q e =
-    let j = (goal.at.returns-then-not-is_fine c).After-judge_shape-shape in
-    stops j.judge_shape-shape.result {o = shape (from-shape j)} j.judge_shape-shape.ensures (after_shape q (from-shape j))
+    let j = (goal.at.returns-then-not-is_fine c).Start in
+    stops j.judge_shape-shape.result {o = shape j} j.judge_shape-shape.ensures (after_shape q j)
     (sym c.is_fine.ensures ∙ not-true _ c.if-not-is_fine.true)
-    ∙ in_parts q (from-shape j)
+    ∙ in_parts q j
 
 pub returns-then-not-is_fine-2 : goal.returns-then-not-is_fine-2
 returns-then-not-is_fine-2 c q e =
-    let l = (goal.at.returns-then-not-is_fine-2 c).After-check_lent-slices in
+    let l = (goal.at.returns-then-not-is_fine-2 c).Start in
     pass_shape q l.before.before.before
-    (stops l.check_lent-slices.result l.check_lent-slices.ensures (contents q (from-lent l) ∷ [])
+    (stops l.check_lent-slices.result l.check_lent-slices.ensures (contents q l ∷ [])
     (sym c.is_fine-2.ensures ∙ not-true _ c.if-not-is_fine-2.true))
 
 pub judge_contents-requires : goal.judge_contents-requires
 judge_contents-requires c =
     let d = (goal.at.judge_contents-requires c).Else-not-is_fine in
-    let j = d.before.before in
-    let s = from-shape j in
+    let j = d in
+    let s = j.before.before.before.before.before.before.before in
     let a = s.args in
     shape_fits a.r a.c a.x a.ea.now a.eb.now a.ec.now a.z.now
     (fine_none j.judge_shape-shape.result {o = shape s} j.judge_shape-shape.ensures (shape_fine d))
@@ -88,7 +81,7 @@ unfolding circuit_of
 returns c q e =
     let d = c in
     let l = d.before.before.before.before.before.before in
-    let s = from-lent l in
+    let s = l.before.before.before.before.before.before.before in
     pass_shape q l
     (goes_on l.check_lent-slices.result l.check_lent-slices.ensures (contents q s ∷ []) (sym d.is_fine-2.ensures ∙ not-false _ d.if-not-is_fine-2.false)
     (last_answer_lem {o = contents q s} (c.judge_contents.ensures q e (circuit_of (circuit s)) refl refl refl refl)))

@@ -18,14 +18,7 @@ use Rattle.blinding.specs.Given.{Roomy}
 use Rattle.blinding.specs.Judgement.{contents_refusal}
 use Rattle.shared.proofs.EarlyReturns.{stops, goes_on, fails_first, passes, last_answer_lem}
 use Rattle.blinding.proofs.refusals.judge_contents.Goals as goal
-use Rattle.blinding.proofs.refusals.judge_contents.Goals.{After-check_call_words-in_words, After-check_three_entries-in_entries, Else-not-is_fine, Else-not-is_fine-2, Start}
-
--- the start, from the answers on the words and on the entries
-abbrev from-words : After-check_call_words-in_words → Start
-from-words c = c.before.before.before.before.before.before.before
-
-abbrev from_entries : After-check_three_entries-in_entries → Start
-from_entries c = from-words c.before.before.before
+use Rattle.blinding.proofs.refusals.judge_contents.Goals.{Else-not-is_fine, Else-not-is_fine-2, Start}
 
 -- what is to be answered, its row 6, and the rows after 7 and after 6
 module _ (q : Prime) (k : Circuit) (s : Start) where
@@ -51,19 +44,19 @@ record Given (q : Prime) (k : Circuit) (s : Start) : Type 0 where
 
 -- past the words and the entries
 module _ (q : Prime) (k : Circuit) {x : Option Refusal} where
-  pass_words : (c : Else-not-is_fine) → let s = from-words c.before.before.before.before.before in Given q k s → x ≡ first (after-words q k s) → x ≡ due q k s
+  pass_words : (c : Else-not-is_fine) → let s = c.before.before.before.before.before.before.before.before.before.before.before.before in Given q k s → x ≡ first (after-words q k s) → x ≡ due q k s
   unfolding contents_refusal
   pass_words c g y =
-      let w = c.before.before.before.before.before in
-      goes_on w.check_call_words-in_words.result {o = words q k (from-words w)} (w.check_call_words-in_words.ensures q g.prime k g.matrices)
-      (after-words q k (from-words w)) (sym c.is_fine.ensures ∙ not-false _ c.if-not-is_fine.false) y
+      let w = c.before.before.before.before.before.before.before.before.before.before.before.before in
+      goes_on w.check_call_words-in_words.result {o = words q k w} (w.check_call_words-in_words.ensures q g.prime k g.matrices)
+      (after-words q k w) (sym c.is_fine.ensures ∙ not-false _ c.if-not-is_fine.false) y
 
-  pass_entries : (c : Else-not-is_fine-2) → let s = from_entries c.before.before in Given q k s → x ≡ first (after-entries q k s) → x ≡ due q k s
+  pass_entries : (c : Else-not-is_fine-2) → let s = c.before.before.before.before.before.before.before.before.before.before.before.before in Given q k s → x ≡ first (after-entries q k s) → x ≡ due q k s
   pass_entries c g y =
-      let e = c.before.before in
+      let e = c.before.before.before.before.before.before.before.before.before.before.before.before in
       pass_words e.before g
       (goes_on e.check_three_entries-in_entries.result (e.check_three_entries-in_entries.ensures k g.rows g.columns g.matrices)
-      (after-entries q k (from_entries e)) (sym c.is_fine-2.ensures ∙ not-false _ c.if-not-is_fine-2.false) y)
+      (after-entries q k e) (sym c.is_fine-2.ensures ∙ not-false _ c.if-not-is_fine-2.false) y)
 
 -- a list with room for one more entry has not too many
 few : {l : List ℕ} → Roomy l → EntryWords l
@@ -79,30 +72,30 @@ check_call_words-in_words-requires c =
 pub returns-then-not-is_fine : goal.returns-then-not-is_fine
 unfolding contents_refusal
 returns-then-not-is_fine c q prime k rows columns publics matrices =
-    let w = (goal.at.returns-then-not-is_fine c).After-check_call_words-in_words in
-    stops w.check_call_words-in_words.result {o = words q k (from-words w)} (w.check_call_words-in_words.ensures q prime k matrices)
-    (after-words q k (from-words w)) (sym c.is_fine.ensures ∙ not-true _ c.if-not-is_fine.true)
+    let w = (goal.at.returns-then-not-is_fine c).Start in
+    stops w.check_call_words-in_words.result {o = words q k w} (w.check_call_words-in_words.ensures q prime k matrices)
+    (after-words q k w) (sym c.is_fine.ensures ∙ not-true _ c.if-not-is_fine.true)
 
 pub returns-then-not-is_fine-2 : goal.returns-then-not-is_fine-2
 returns-then-not-is_fine-2 c q prime k rows columns publics matrices =
-    let e = (goal.at.returns-then-not-is_fine-2 c).After-check_three_entries-in_entries in
+    let e = (goal.at.returns-then-not-is_fine-2 c).Start in
     pass_words q k e.before (record { prime = prime; rows = rows; columns = columns; publics = publics; matrices = matrices })
-    (stops e.check_three_entries-in_entries.result (e.check_three_entries-in_entries.ensures k rows columns matrices) (after-entries q k (from_entries e))
+    (stops e.check_three_entries-in_entries.result (e.check_three_entries-in_entries.ensures k rows columns matrices) (after-entries q k e)
     (sym c.is_fine-2.ensures ∙ not-true _ c.if-not-is_fine-2.true))
 
 pub returns-then-not-is_reservable : goal.returns-then-not-is_reservable
 unfolding blinding_refusal
 returns-then-not-is_reservable c q prime k rows columns publics matrices =
-    let r = (goal.at.returns-then-not-is_reservable c).After-check_three_entries-in_entries in
-    pass_entries q k r.before (record { prime = prime; rows = rows; columns = columns; publics = publics; matrices = matrices })
-    (fails_first 15 0 (constant_refusal (from_entries r).args.z.now ∷ [])
+    let r = (goal.at.returns-then-not-is_reservable c).Else-not-is_fine-2 in
+    pass_entries q k r (record { prime = prime; rows = rows; columns = columns; publics = publics; matrices = matrices })
+    (fails_first 15 0 (constant_refusal r.args.z.now ∷ [])
     (sym (r.is_reservable.ensures k rows columns publics matrices) ∙ not-true _ c.if-not-is_reservable.true))
 
 pub returns : goal.returns
 unfolding blinding_refusal
 returns c q prime k rows columns publics matrices =
-    let r = (goal.at.returns c).After-check_three_entries-in_entries in
-    pass_entries q k r.before (record { prime = prime; rows = rows; columns = columns; publics = publics; matrices = matrices })
-    (passes 15 0 (constant_refusal (from_entries r).args.z.now ∷ [])
+    let r = (goal.at.returns c).Else-not-is_fine-2 in
+    pass_entries q k r (record { prime = prime; rows = rows; columns = columns; publics = publics; matrices = matrices })
+    (passes 15 0 (constant_refusal r.args.z.now ∷ [])
     (sym (r.is_reservable.ensures k rows columns publics matrices) ∙ not-false _ c.if-not-is_reservable.false)
     (last_answer_lem c.judge_constant.ensures))

@@ -15,11 +15,7 @@ use Rattle.circuit.specs.Given.{entry_lists}
 use Rattle.shared.proofs.EarlyReturns.{stops, goes_on, last_answer_lem}
 use Rattle.circuit.proofs.Parts.{values_length, words_in_parts}
 use Rattle.circuit.proofs.checks.check_call_words.Goals as goal
-use Rattle.circuit.proofs.checks.check_call_words.Goals.{After-check_three_values-fault, Start}
-
--- the start, from the answer on the circuit's values
-abbrev start : After-check_three_values-fault → Start
-start c = c.before.before.before.before.before.before.before
+use Rattle.circuit.proofs.checks.check_call_words.Goals.{Start}
 
 -- the words after the circuit's values, the place of the first of them, and their part of the answer
 module _ (s : Start) where
@@ -42,10 +38,10 @@ is_fine-requires c = tt
 
 pub returns-then-not-is_fine : goal.returns-then-not-is_fine
 returns-then-not-is_fine c q e k matrices =
-    let v = (goal.at.returns-then-not-is_fine c).After-check_three_values-fault in
-    stops v.check_three_values-fault.result (v.check_three_values-fault.ensures k matrices) (part (start v) ∷ [])
+    let v = (goal.at.returns-then-not-is_fine c).Start in
+    stops v.check_three_values-fault.result (v.check_three_values-fault.ensures k matrices) (part v ∷ [])
     (sym c.is_fine.ensures ∙ not-true _ c.if-not-is_fine.true)
-    ∙ in_parts (start v) q k e matrices
+    ∙ in_parts v q k e matrices
 
 pub overflow_add-start : goal.overflow_add-start
 overflow_add-start c = omega arith
@@ -59,7 +55,7 @@ check_prover_words-requires c = omega arith
 pub returns : goal.returns
 returns c q e k matrices =
     let d = c in
-    let v = d.before.before.before in
-    goes_on v.check_three_values-fault.result (v.check_three_values-fault.ensures k matrices) (part (start v) ∷ [])
-    (sym d.is_fine.ensures ∙ not-false _ d.if-not-is_fine.false) (last_answer_lem {o = part (start v)} c.check_prover_words.ensures)
-    ∙ in_parts (start v) q k e matrices
+    let v = d.before.before.before.before.before.before.before.before.before.before in
+    goes_on v.check_three_values-fault.result (v.check_three_values-fault.ensures k matrices) (part v ∷ [])
+    (sym d.is_fine.ensures ∙ not-false _ d.if-not-is_fine.false) (last_answer_lem {o = part v} c.check_prover_words.ensures)
+    ∙ in_parts v q k e matrices

@@ -37,15 +37,12 @@ due q s = tests q (s.args.r ∷ s.args.c ∷ s.args.k ∷ []) s.args.points.now
 due-count : (q : Prime) (s : Start) → length (due q s) ≡ length s.args.points.now
 due-count q s = tests_count q (s.args.r ∷ s.args.c ∷ s.args.k ∷ []) s.args.points.now s.requires.points_len_bound
 
-abbrev start : After-is_inside → Start
-start c = c.before.before.before.before.before
-
-turn_test : (c : After-is_inside) (q : Prime) → Qualifies q → q.p ≡ (start c).args.p
-    → get_or (due q (start c)) c.loop-i.i true ≡ not c.is_inside.result
+turn_test : (c : After-is_inside) (q : Prime) → Qualifies q → q.p ≡ c.args.p
+    → get_or (due q c.before.before.before.before.before) c.loop-i.i true ≡ not c.is_inside.result
 turn_test c q Q e =
-    let s = start c in
+    let s = c in
     test_at q (s.args.r ∷ s.args.c ∷ s.args.k ∷ []) s.args.points.now c.loop-i.i c.is_inside.result
-    s.pre.1.1 (omega arith) (c.is_inside.ensures q Q e)
+    s.requires.points_len_bound (omega arith) (c.is_inside.ensures q Q e)
 
 pub loop-i-init : goal.loop-i-init
 loop-i-init c = (omega arith, λ q Q e. passed_none 10 0 _)
@@ -77,7 +74,7 @@ unfolding challenge_refusal
 returns-then-is_inside c q Q e =
     let t = (goal.at.returns-then-is_inside c).After-is_inside in
     let l = t.loop-i in
-    passed_stop 10 0 (due q (start t)) l.i (l.invariant.1 q Q e) (omega (arith, due-count q (start t))) true l.i (omega arith)
+    passed_stop 10 0 (due q t.before.before.before.before.before) l.i (l.invariant.1 q Q e) (omega (arith, due-count q t.before.before.before.before.before)) true l.i (omega arith)
     (turn_test t q Q e ∙ ap not c.if-is_inside.true)
 
 pub overflow_add-i : goal.overflow_add-i
@@ -92,7 +89,7 @@ loop-i-preserved c =
     let l = t.loop-i in (
       omega arith,
       λ q Q e.
-          passed_turn 10 0 (due q (start t)) l.i (l.invariant.1 q Q e) (omega (arith, due-count q (start t))) true
+          passed_turn 10 0 (due q t.before.before.before.before.before) l.i (l.invariant.1 q Q e) (omega (arith, due-count q t.before.before.before.before.before)) true
           (turn_test t q Q e ∙ ap not c.if-is_inside.false),
     )
 

@@ -12,11 +12,7 @@ use Rattle.protocol.specs.Refusals.{Refusal, first, refuse}
 use Rattle.shared.proofs.EarlyReturns.{stops, goes_on, passes, fails_first, last_answer_lem}
 use Rattle.circuit.proofs.Parts.{prover-words}
 use Rattle.circuit.proofs.checks.check_prover_words.Goals as goal
-use Rattle.circuit.proofs.checks.check_prover_words.Goals.{After-judge_words-fault, Else-mask-p, Else-not-is_fine, Start}
-
--- the start, from the answer on z
-abbrev start : After-judge_words-fault → Start
-start c = c.before.before.before.before
+use Rattle.circuit.proofs.checks.check_prover_words.Goals.{Else-mask-p, Else-not-is_fine, Start}
 
 -- what is to be answered, and its parts after m, after the mask word and after z
 module _ (s : Start) where
@@ -42,15 +38,15 @@ module _ (s : Start) where
   in_parts = sym (prover-words s.args.p s.args.start s.args.z.now s.args.mask s.args.m.now s.args.challenges.now)
 
 -- past z, and past the mask word
-pass_z : (c : Else-not-is_fine) {x : Option Refusal} → let s = start c.before.before in x ≡ first (after-z s) → x ≡ due s
+pass_z : (c : Else-not-is_fine) {x : Option Refusal} → let s = c.before.before.before.before.before.before in x ≡ first (after-z s) → x ≡ due s
 pass_z c y =
-    let j = c.before.before in
-    goes_on j.judge_words-fault.result j.judge_words-fault.ensures (after-z (start j)) (sym c.is_fine.ensures ∙ not-false _ c.if-not-is_fine.false) y
-    ∙ in_parts (start j)
+    let j = c.before.before.before.before.before.before in
+    goes_on j.judge_words-fault.result j.judge_words-fault.ensures (after-z j) (sym c.is_fine.ensures ∙ not-false _ c.if-not-is_fine.false) y
+    ∙ in_parts j
 
-pass_mask : (c : Else-mask-p) {x : Option Refusal} → let s = start c.before.before.before in x ≡ first (after-mask s) → x ≡ due s
+pass_mask : (c : Else-mask-p) {x : Option Refusal} → let s = c.before.before.before.before.before.before.before in x ≡ first (after-mask s) → x ≡ due s
 pass_mask c y =
-    let s = start c.before.before.before in
+    let s = c.before.before.before.before.before.before.before in
     pass_z c.before (passes 6 (place s) (after-mask s) (lt-ltb _ _ c.if-mask-p.false) y)
 
 pub judge_words-fault-requires : goal.judge_words-fault-requires
@@ -61,16 +57,16 @@ is_fine-requires c = tt
 
 pub returns-then-not-is_fine : goal.returns-then-not-is_fine
 returns-then-not-is_fine c =
-    let j = (goal.at.returns-then-not-is_fine c).After-judge_words-fault in
-    stops j.judge_words-fault.result j.judge_words-fault.ensures (after-z (start j)) (sym c.is_fine.ensures ∙ not-true _ c.if-not-is_fine.true)
-    ∙ in_parts (start j)
+    let j = (goal.at.returns-then-not-is_fine c).Start in
+    stops j.judge_words-fault.result j.judge_words-fault.ensures (after-z j) (sym c.is_fine.ensures ∙ not-true _ c.if-not-is_fine.true)
+    ∙ in_parts j
 
 pub overflow_add-place : goal.overflow_add-place
 overflow_add-place c = omega arith
 
 pub returns-then-mask-p : goal.returns-then-mask-p
 returns-then-mask-p c =
-    let s = start (goal.at.returns-then-mask-p c).After-judge_words-fault in
+    let s = (goal.at.returns-then-mask-p c).Start in
     pass_z (goal.at.returns-then-mask-p c).Else-not-is_fine (fails_first 6 (place s) (after-mask s) (le-ltb _ _ c.if-mask-p.true))
 
 pub overflow_add-place-2 : goal.overflow_add-place-2
@@ -85,7 +81,7 @@ is_fine-requires-2 c = tt
 pub returns-then-not-is_fine-2 : goal.returns-then-not-is_fine-2
 returns-then-not-is_fine-2 c =
     let j = (goal.at.returns-then-not-is_fine-2 c).Else-mask-p in
-    let s = start j.before.before.before in
+    let s = j.before.before.before.before.before.before.before in
     pass_mask j
     (stops j.judge_words-fault2.result j.judge_words-fault2.ensures (after-m s) (sym c.is_fine-2.ensures ∙ not-true _ c.if-not-is_fine-2.true))
 
@@ -102,7 +98,7 @@ pub returns : goal.returns
 returns c =
     let d = c in
     let j = d.before.before.before.before in
-    let s = start j.before.before.before in
+    let s = j.before.before.before.before.before.before.before in
     pass_mask j
     (goes_on j.judge_words-fault2.result j.judge_words-fault2.ensures (after-m s) (sym d.is_fine-2.ensures ∙ not-false _ d.if-not-is_fine-2.false)
     (last_answer_lem c.judge_words.ensures))

@@ -13,37 +13,30 @@ use Rattle.protocol.specs.Refusals.{refuse, assignment_refusal}
 use Rattle.protocol.specs.Calls.{entries_of}
 use Rattle.circuit.specs.Given.{Within}
 use Rattle.circuit.proofs.checks.check_sums.Goals as goal
-use Rattle.circuit.proofs.checks.check_sums.Goals.{After-check_rows, After-row_sums, After-row_sums-2, After-row_sums-3, Start}
-
--- the start, from the sums of A; the places of the three sums, from the last check
-abbrev start : After-row_sums → Start
-start c = c.before.before.before.before.before.before.before.before.before
-
-abbrev at_c : After-check_rows → After-row_sums-3
-at_c c = c.before.before.before
+use Rattle.circuit.proofs.checks.check_sums.Goals.{After-check_rows, After-row_sums, After-row_sums-2}
 
 abbrev at_b : After-check_rows → After-row_sums-2
-at_b c = (at_c c).before.before.before.before
+at_b c = c.before.before.before.before.before.before.before
 
 abbrev at_a : After-check_rows → After-row_sums
 at_a c = (at_b c).before.before.before.before
 
 pub row_sums-requires-2 : goal.row_sums-requires-2
 row_sums-requires-2 c =
-    let s = start (goal.at.row_sums-requires-2 c).After-row_sums in
+    let s = c in
     let within : ℕ → Type 0 = λ (n : ℕ). All (Within n (length s.args.z.now)) (entries_of s.args.eb.now) in
     record {
-      p_nonzero = s.pre.0;
-      all = subst⁻¹ within s.pre.1.0.0 s.pre.1.1.in_b;
+      p_nonzero = s.requires.p_nonzero;
+      all = subst⁻¹ within s.requires.right_len.0 s.requires.each_within.in_b;
     }
 
 pub row_sums-requires-3 : goal.row_sums-requires-3
 row_sums-requires-3 c =
-    let s = start (goal.at.row_sums-requires-3 c).After-row_sums in
+    let s = c in
     let within : ℕ → Type 0 = λ (n : ℕ). All (Within n (length s.args.z.now)) (entries_of s.args.ec.now) in
     record {
-      p_nonzero = s.pre.0;
-      all = subst⁻¹ within s.pre.1.0.1 s.pre.1.1.in_c;
+      p_nonzero = s.requires.p_nonzero;
+      all = subst⁻¹ within s.requires.right_len.1 s.requires.each_within.in_c;
     }
 
 pub check_rows-requires : goal.check_rows-requires
@@ -56,7 +49,7 @@ pub shape_of-right : goal.shape_of-right
 shape_of-right c = (at_b (goal.at.shape_of-right c).After-check_rows).row_sums-2.auto.out
 
 pub shape_of-product : goal.shape_of-product
-shape_of-product c = (at_c (goal.at.shape_of-product c).After-check_rows).row_sums-3.auto.out
+shape_of-product c = c.row_sums-3.auto.out
 
 pub returns : goal.returns
 unfolding assignment_refusal
@@ -66,5 +59,5 @@ returns c q e k rows matrices =
     c.check_rows.ensures q e (length s.args.left.now) (row_sum k A z) (row_sum k B z) (row_sum k C z)
     ((at_a (goal.at.returns c).After-check_rows).row_sums.ensures q e k A (ap (λ t. t.a) matrices))
     ((at_b (goal.at.returns c).After-check_rows).row_sums-2.ensures q e k B (ap (λ t. t.b) matrices) ∙ ap (λ (n : ℕ). words (tabulate n (row_sum k B z))) s.pre.1.0.0)
-    ((at_c (goal.at.returns c).After-check_rows).row_sums-3.ensures q e k C (ap (λ t. t.c) matrices) ∙ ap (λ (n : ℕ). words (tabulate n (row_sum k C z))) s.pre.1.0.1)
+    (c.row_sums-3.ensures q e k C (ap (λ t. t.c) matrices) ∙ ap (λ (n : ℕ). words (tabulate n (row_sum k C z))) s.pre.1.0.1)
     ∙ ap (λ (n : ℕ). refuse 9 0 (tabulate n (λ i. equal (row_sum k A z i ⊗ row_sum k B z i) (row_sum k C z i)))) (sym rows)

@@ -13,11 +13,7 @@ use Rattle.circuit.specs.Given.{entry_lists}
 use Rattle.shared.proofs.EarlyReturns.{stops, goes_on, last_answer_lem}
 use Rattle.circuit.proofs.Parts.{entries_in_parts}
 use Rattle.circuit.proofs.checks.check_three_entries.Goals as goal
-use Rattle.circuit.proofs.checks.check_three_entries.Goals.{After-check_entries-fault, Else-not-is_fine, Start}
-
--- the start, from the answer on A
-abbrev start : After-check_entries-fault → Start
-start c = c.before.before.before.before
+use Rattle.circuit.proofs.checks.check_three_entries.Goals.{Else-not-is_fine, Start}
 
 -- the parts after B and after A, all of them, and past A, for a circuit that the call is given
 module _ (k : Circuit) where
@@ -34,13 +30,13 @@ module _ (k : Circuit) where
     in_parts : Same → first (refuse 7 0 (entry_tests k (entries_of s.args.ea.now)) ∷ after-a) ≡ entry_refusal k
     in_parts matrices = sym (entries_in_parts k s.args.ea.now s.args.eb.now s.args.ec.now matrices _ _ refl refl)
 
-  pass_a : (c : Else-not-is_fine) {x : Option Refusal} → let s = start c.before.before in
+  pass_a : (c : Else-not-is_fine) {x : Option Refusal} → let s = c.before.before.before.before.before.before in
       k.|R| ≡ s.args.r → k.|C| ≡ s.args.c → Same s → x ≡ first (after-a s) → x ≡ entry_refusal k
   pass_a c er ec matrices y =
       let v = c.before.before in
-      goes_on v.check_entries-fault.result (v.check_entries-fault.ensures k er ec) (after-a (start v))
+      goes_on v.check_entries-fault.result (v.check_entries-fault.ensures k er ec) (after-a v.before.before.before.before)
       (sym c.is_fine.ensures ∙ not-false _ c.if-not-is_fine.false) y
-      ∙ in_parts (start v) matrices
+      ∙ in_parts v.before.before.before.before matrices
 
 pub check_entries-fault-requires : goal.check_entries-fault-requires
 check_entries-fault-requires c = omega arith
@@ -50,9 +46,9 @@ is_fine-requires c = tt
 
 pub returns-then-not-is_fine : goal.returns-then-not-is_fine
 returns-then-not-is_fine c k er ec matrices =
-    let v = (goal.at.returns-then-not-is_fine c).After-check_entries-fault in
-    stops v.check_entries-fault.result (v.check_entries-fault.ensures k er ec) (after-a k (start v)) (sym c.is_fine.ensures ∙ not-true _ c.if-not-is_fine.true)
-    ∙ in_parts k (start v) matrices
+    let v = c.before.before in
+    stops v.check_entries-fault.result (v.check_entries-fault.ensures k er ec) (after-a k v.before.before.before.before) (sym c.is_fine.ensures ∙ not-true _ c.if-not-is_fine.true)
+    ∙ in_parts k v.before.before.before.before matrices
 
 pub check_entries-fault2-requires : goal.check_entries-fault2-requires
 check_entries-fault2-requires c = omega arith
@@ -62,9 +58,9 @@ is_fine-requires-2 c = tt
 
 pub returns-then-not-is_fine-2 : goal.returns-then-not-is_fine-2
 returns-then-not-is_fine-2 c k er ec matrices =
-    let v = (goal.at.returns-then-not-is_fine-2 c).After-check_entries-fault in
-    pass_a k v.before er ec matrices
-    (stops v.check_entries-fault2.result (v.check_entries-fault2.ensures k er ec) (after-b k (start v))
+    let v = (goal.at.returns-then-not-is_fine-2 c).Else-not-is_fine in
+    pass_a k v er ec matrices
+    (stops v.check_entries-fault2.result (v.check_entries-fault2.ensures k er ec) (after-b k v.before.before.before.before.before.before.before)
     (sym c.is_fine-2.ensures ∙ not-true _ c.if-not-is_fine-2.true))
 
 pub overflow_add-second : goal.overflow_add-second
@@ -76,7 +72,7 @@ check_entries-requires c = omega arith
 pub returns : goal.returns
 returns c k er ec matrices =
     let d = c in
-    let v = d.before.before.before.before.before.before in
-    pass_a k v.before er ec matrices
-    (goes_on v.check_entries-fault2.result (v.check_entries-fault2.ensures k er ec) (after-b k (start v))
+    let v = d.before.before.before.before in
+    pass_a k v er ec matrices
+    (goes_on v.check_entries-fault2.result (v.check_entries-fault2.ensures k er ec) (after-b k v.before.before.before.before.before.before.before)
     (sym d.is_fine-2.ensures ∙ not-false _ d.if-not-is_fine-2.false) (last_answer_lem (c.check_entries.ensures k er ec)))

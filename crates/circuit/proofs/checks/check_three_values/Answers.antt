@@ -14,11 +14,7 @@ use Rattle.circuit.specs.Given.{entry_lists}
 use Rattle.shared.proofs.EarlyReturns.{stops, goes_on, last_answer_lem}
 use Rattle.circuit.proofs.Parts.{value_tests, values_in_parts}
 use Rattle.circuit.proofs.checks.check_three_values.Goals as goal
-use Rattle.circuit.proofs.checks.check_three_values.Goals.{After-check_values-fault, Else-not-is_fine, Start}
-
--- the start, from the answer on A
-abbrev start : After-check_values-fault → Start
-start c = c.before.before.before.before
+use Rattle.circuit.proofs.checks.check_three_values.Goals.{Else-not-is_fine, Start}
 
 -- the parts after B, and after A
 module _ (s : Start) where
@@ -39,11 +35,11 @@ module _ (k : Circuit) where
   in_parts : (s : Start) → Same s → first (refuse 6 0 (value_tests s.args.p s.args.ea.now) ∷ after-a s) ≡ due s
   in_parts s matrices = sym (values_in_parts k s.args.ea.now s.args.eb.now s.args.ec.now matrices s.args.p _ _ refl refl)
 
-  pass_a : (c : Else-not-is_fine) {x : Option Refusal} → let s = start c.before.before in Same s → x ≡ first (after-a s) → x ≡ due s
+  pass_a : (c : Else-not-is_fine) {x : Option Refusal} → let s = c.before.before.before.before.before.before in Same s → x ≡ first (after-a s) → x ≡ due s
   pass_a c matrices y =
-      let v = c.before.before in
-      goes_on v.check_values-fault.result v.check_values-fault.ensures (after-a (start v)) (sym c.is_fine.ensures ∙ not-false _ c.if-not-is_fine.false) y
-      ∙ in_parts (start v) matrices
+      let v = c.before.before.before.before.before.before in
+      goes_on v.check_values-fault.result v.check_values-fault.ensures (after-a v) (sym c.is_fine.ensures ∙ not-false _ c.if-not-is_fine.false) y
+      ∙ in_parts v.before.before.before.before matrices
 
 pub check_values-fault-requires : goal.check_values-fault-requires
 check_values-fault-requires c = omega arith
@@ -53,9 +49,9 @@ is_fine-requires c = tt
 
 pub returns-then-not-is_fine : goal.returns-then-not-is_fine
 returns-then-not-is_fine c k matrices =
-    let v = (goal.at.returns-then-not-is_fine c).After-check_values-fault in
-    stops v.check_values-fault.result v.check_values-fault.ensures (after-a (start v)) (sym c.is_fine.ensures ∙ not-true _ c.if-not-is_fine.true)
-    ∙ in_parts k (start v) matrices
+    let v = (goal.at.returns-then-not-is_fine c).Start in
+    stops v.check_values-fault.result v.check_values-fault.ensures (after-a v) (sym c.is_fine.ensures ∙ not-true _ c.if-not-is_fine.true)
+    ∙ in_parts k v matrices
 
 pub check_values-fault2-requires : goal.check_values-fault2-requires
 check_values-fault2-requires c = omega arith
@@ -65,9 +61,9 @@ is_fine-requires-2 c = tt
 
 pub returns-then-not-is_fine-2 : goal.returns-then-not-is_fine-2
 returns-then-not-is_fine-2 c k matrices =
-    let v = (goal.at.returns-then-not-is_fine-2 c).After-check_values-fault in
+    let v = (goal.at.returns-then-not-is_fine-2 c).Start in
     pass_a k v.before matrices
-    (stops v.check_values-fault2.result v.check_values-fault2.ensures (after-b (start v))
+    (stops v.check_values-fault2.result v.check_values-fault2.ensures (after-b v)
     (sym c.is_fine-2.ensures ∙ not-true _ c.if-not-is_fine-2.true))
 
 pub overflow_add-second : goal.overflow_add-second
@@ -79,7 +75,7 @@ check_values-requires c = omega arith
 pub returns : goal.returns
 returns c k matrices =
     let d = c in
-    let v = d.before.before.before.before.before.before in
+    let v = d.before.before.before.before.before.before.before.before.before.before in
     pass_a k v.before matrices
-    (goes_on v.check_values-fault2.result v.check_values-fault2.ensures (after-b (start v))
+    (goes_on v.check_values-fault2.result v.check_values-fault2.ensures (after-b v)
     (sym d.is_fine-2.ensures ∙ not-false _ d.if-not-is_fine-2.false) (last_answer_lem c.check_values.ensures))

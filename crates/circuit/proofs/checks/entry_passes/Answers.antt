@@ -15,13 +15,9 @@ use Rattle.circuit.proofs.checks.entry_passes.Goals.{After-entry_fits, Start}
 words-within : (s : Start) → 3 * s.args.i + 2 < length s.args.entries.now
 words-within s = entry-words-within s.args.entries.now s.args.i s.requires
 
--- the start, from the answer on the entry by itself, and what this answer says
-abbrev start : After-entry_fits → Start
-start c = c.before.before.before.before.before
-
-entry-answer : (c : After-entry_fits) (k : Circuit) → k.|R| ≡ (start c).args.r → k.|C| ≡ (start c).args.c
-    → fits k (entry_words (start c).args.entries.now (start c).args.i) ≡ c.entry_fits.result
-entry-answer c k er ec = fits_by k (entry_words (start c).args.entries.now (start c).args.i) er ec ∙ sym c.entry_fits.ensures
+entry-answer : (c : After-entry_fits) (k : Circuit) → k.|R| ≡ c.args.r → k.|C| ≡ c.args.c
+    → fits k (entry_words c.args.entries.now c.args.i) ≡ c.entry_fits.result
+entry-answer c k er ec = fits_by k (entry_words c.args.entries.now c.args.i) er ec ∙ sym c.entry_fits.ensures
 
 pub overflow_mul-at : goal.overflow_mul-at
 overflow_mul-at c = omega (arith, words-within (goal.at.overflow_mul-at c).Start)
@@ -56,14 +52,14 @@ entry_fits-requires c = tt
 pub returns-then-not-entry_fits : goal.returns-then-not-entry_fits
 returns-then-not-entry_fits c k er ec =
     let f = (goal.at.returns-then-not-entry_fits c).After-entry_fits in
-    let s = start f in
-    sym (entry_misfits k s.args.entries.now s.args.i s.pre (entry-answer f k er ec ∙ not-true _ c.if-not-entry_fits.true))
+    let s = f in
+    sym (entry_misfits k s.args.entries.now s.args.i s.requires (entry-answer f k er ec ∙ not-true _ c.if-not-entry_fits.true))
 
 pub returns-then-i-eq0 : goal.returns-then-i-eq0
 returns-then-i-eq0 c k er ec =
     let d = (goal.at.returns-then-i-eq0 c).After-entry_fits in
-    let s = start d in
-    sym (entry_first k s.args.entries.now s.args.i s.pre (entry-answer d k er ec ∙ not-false _ d.if-not-entry_fits.false) c.if-i-eq0.true)
+    let s = d in
+    sym (entry_first k s.args.entries.now s.args.i s.requires (entry-answer d k er ec ∙ not-false _ d.if-not-entry_fits.false) c.if-i-eq0.true)
 
 pub overflow_sub-at : goal.overflow_sub-at
 overflow_sub-at c = omega arith
@@ -90,7 +86,7 @@ pub returns : goal.returns
 returns c k er ec =
     let later = c in
     let d = later.before.before.before.before.before in
-    let s = start d in
+    let s = d in
     c.stands_before.ensures
     ∙ sym
-    (entry_later k s.args.entries.now s.args.i s.pre (entry-answer d k er ec ∙ not-false _ d.if-not-entry_fits.false) later.if-i-eq0.false)
+    (entry_later k s.args.entries.now s.args.i s.requires (entry-answer d k er ec ∙ not-false _ d.if-not-entry_fits.false) later.if-i-eq0.false)

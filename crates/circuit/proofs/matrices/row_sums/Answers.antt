@@ -15,17 +15,13 @@ use Rattle.circuit.specs.Given.{entry_words, Within}
 use Rattle.circuit.proofs.Entries.{entry_at, entry-within}
 use Rattle.circuit.proofs.Sums.{sum_at, summed_none, summed_turn, summed_end}
 use Rattle.circuit.proofs.matrices.row_sums.Goals as goal
-use Rattle.circuit.proofs.matrices.row_sums.Goals.{In-loop-i, Start}
-
--- the start, from a turn; the entry that the turn takes is within the matrix
-abbrev start : In-loop-i → Start
-start c = c.before.before.before.before.before.before.before.before.before
+use Rattle.circuit.proofs.matrices.row_sums.Goals.{In-loop-i}
 
 place : (c : In-loop-i)
-    → let a = (start c).args in Within (length a.out.now) (length a.z.now) (entry_words a.entries.now c.loop-i.i)
+    → let a = c.args in Within (length a.out.now) (length a.z.now) (entry_words a.entries.now c.loop-i.i)
 place c =
-    let s = start c in
-    entry-within (length s.args.out.now) (length s.args.z.now) s.args.entries.now s.pre.1 c.loop-i.i (omega arith)
+    let s = c in
+    entry-within (length s.args.out.now) (length s.args.z.now) s.args.entries.now s.requires.all c.loop-i.i (omega arith)
 
 pub clear-requires : goal.clear-requires
 clear-requires c = tt
@@ -109,7 +105,7 @@ loop-i-smaller c = omega arith
 pub loop-i-preserved : goal.loop-i-preserved
 loop-i-preserved c =
     let turn = (goal.at.loop-i-preserved c).In-loop-i in
-    let a = (start turn).args in
+    let a = turn.args in
     let l = turn.loop-i in
     let es : List Entry = entries_of a.entries.now in
     let e : Entry = entry_words a.entries.now l.i in

@@ -14,14 +14,10 @@ use Rattle.protocol.proofs.EntryLists.{length-entries_of}
 use Rattle.circuit.proofs.Entries.{entry_at}
 use Rattle.grown.proofs.BeginningLaws.{counts_after, counts-none, count-within, counts_turn, counts_end}
 use Rattle.grown.proofs.beginnings.count_rows.Goals as goal
-use Rattle.grown.proofs.beginnings.count_rows.Goals.{After-clear, In-loop-i, Start}
-
--- the slice as it was cleared and the start, from a turn; the row of the entry that the turn takes
-abbrev cleared : In-loop-i → After-clear
-cleared c = c.before.before.before.before
+use Rattle.grown.proofs.beginnings.count_rows.Goals.{In-loop-i, Start}
 
 abbrev start : In-loop-i → Start
-start c = (cleared c).before.before.before.before
+start c = c.before.before.before.before.before.before.before.before
 
 row_below : (c : In-loop-i)
     → let a = (start c).args in get_or a.entries.now (3 * c.loop-i.i) 0 < length a.out.now
@@ -35,19 +31,19 @@ row_below c =
     (all-at (λ (e : Entry). e.row < n) (entries_of l) s.pre.1 i (entry_words l i) below)
 
 row_within : (c : In-loop-i)
-    → get_or (start c).args.entries.now (3 * c.loop-i.i) 0 < length (cleared c).clear.new.out
-row_within c = omega (arith, row_below c, (cleared c).clear.auto.out)
+    → get_or (start c).args.entries.now (3 * c.loop-i.i) 0 < length c.clear.new.out
+row_within c = omega (arith, row_below c, c.clear.auto.out)
 
 pub loop-i-init : goal.loop-i-init
 loop-i-init c =
-    let cleared = c in
+    let =.before.before.before.before c.before.before in
     let a = cleared.args in
     let n : ℕ = length a.out.now in
     let zeros = cleared.clear.ensures in (
       omega arith,
       refl,
       zeros ∙ counts-none (entries_of a.entries.now) n
-          ∙ ap (λ (n : ℕ). counts_after (entries_of a.entries.now) n 0) (sym cleared.clear.auto.out),
+          ∙ ap (λ (n : ℕ). counts_after (entries_of a.entries.now) n 0) (sym cleared.clear.auto.0),
     )
 
 pub overflow_mul-row : goal.overflow_mul-row
@@ -74,7 +70,7 @@ overflow_add-out c =
     let l = turn.loop-i in
     let words : List ℕ = (start turn).args.entries.now in
     let row : ℕ = get_or words (3 * l.i) 0 in
-    let n : ℕ = length (cleared turn).clear.new.out in
+    let n : ℕ = length turn.clear.new.out in
     omega (
       arith,
       ap (λ (out : List ℕ). get_or out row 0) l.invariant.2,
@@ -98,7 +94,7 @@ loop-i-preserved c =
     let words : List ℕ = (start turn).args.entries.now in
     let es : List Entry = entries_of words in
     let e : Entry = entry_words words l.i in
-    let n : ℕ = length (cleared turn).clear.new.out in
+    let n : ℕ = length turn.clear.new.out in
     let below : l.i < length es = omega (arith, length-entries_of words) in (
       omega arith,
       length-set l.out e.row (get_or l.out e.row 0 + 1) ∙ l.invariant.1,

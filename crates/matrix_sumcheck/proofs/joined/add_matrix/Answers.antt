@@ -15,23 +15,16 @@ use Rattle.poly.proofs.LentParts.{array, returned, lent_length, back_holds, back
 use Rattle.matrix_sumcheck.specs.MatrixGiven.{size_of}
 use Rattle.matrix_sumcheck.proofs.MatrixQuotients.{minus_multiple, quotient_made}
 use Rattle.matrix_sumcheck.proofs.joined.add_matrix.Goals as goal
-use Rattle.matrix_sumcheck.proofs.joined.add_matrix.Goals.{After-product_quotient_into, After-size_of-size, Start}
+use Rattle.matrix_sumcheck.proofs.joined.add_matrix.Goals.{After-product_quotient_into, After-size_of-size}
 
 shorter : {n l z : ℕ} (m : ℕ) → n - 1 ≡ l → n ≡ size_for m → size_for m ≤ z + 1 → l ≤ z
 shorter m long e le = omega arith
-
--- the start, from |K_M|, and that from the quotient
-abbrev start : After-size_of-size → Start
-start c = c.before.before.before.before.before.before.before
-
-abbrev at_size : After-product_quotient_into → After-size_of-size
-at_size c = c.before.before.before.before
 
 -- |K_M| - 1 words fit into an array; as they are lent they give |K_M|
 fits : (c : After-size_of-size) → c.size_of-size.result - 1 ≤ 1024
 fits c = sized-fits _ c.size_of-size.ensures
 
-lent_size : (c : After-size_of-size) → length (take (c.size_of-size.result - 1) (array 1024)) + 1 ≡ size_of (start c).args.entries.now
+lent_size : (c : After-size_of-size) → length (take (c.size_of-size.result - 1) (array 1024)) + 1 ≡ size_of c.args.entries.now
 lent_size c = ap (λ (n : ℕ). n + 1) (sym (lent_length 1024 (fits c))) ∙ sized-next _ c.size_of-size.ensures
 
 -- the quotient's words, and their length as they are lent the second time
@@ -40,11 +33,11 @@ made c = c.product_quotient_into.new.out
 
 made_length :
     (c : After-product_quotient_into)
-    → let n : ℕ = (at_size c).size_of-size.result - 1 in n ≡ length (take n (returned 1024 n (made c)))
-made_length c = back_length 1024 (fits (at_size c)) (made c) c.product_quotient_into.auto.out
+    → let n : ℕ = c.size_of-size.result - 1 in n ≡ length (take n (returned 1024 n (made c)))
+made_length c = back_length 1024 (fits c.before.before.before.before) (made c) c.product_quotient_into.auto.out
 
 pub overflow_cast-out : goal.overflow_cast-out
-overflow_cast-out c = omega (arith, size_bound (length (start (goal.at.overflow_cast-out c).After-size_of-size).args.out.now + 1) (start (goal.at.overflow_cast-out c).After-size_of-size).requires.entries_in_bounds.1)
+overflow_cast-out c = omega (arith, size_bound (length c.args.out.now + 1) c.requires.entries_in_bounds.1)
 
 pub overflow_sub-n : goal.overflow_sub-n
 overflow_sub-n c = sized_positive _ c.size_of-size.ensures
@@ -55,7 +48,7 @@ slice_bounds-quotient-end c = fits (goal.at.slice_bounds-quotient-end c).After-s
 pub product_quotient_into-requires : goal.product_quotient_into-requires
 product_quotient_into-requires c =
     let size = (goal.at.product_quotient_into-requires c).After-size_of-size in
-    let pre = (start size).requires in
+    let pre = size.requires in
     record {
       modulus = pre.0;
       entries_within = pre.1.0;
@@ -66,16 +59,16 @@ product_quotient_into-requires c =
 pub slice_bounds-quotient-end-2 : goal.slice_bounds-quotient-end-2
 slice_bounds-quotient-end-2 c =
     let h = (goal.at.slice_bounds-quotient-end-2 c).After-product_quotient_into in
-    back_holds 1024 (fits (at_size h)) (made h) h.product_quotient_into.auto.out
+    back_holds 1024 (fits h.before.before.before.before) (made h) h.product_quotient_into.auto.out
 
 pub add_scaled-requires : goal.add_scaled-requires
 add_scaled-requires c =
     let h = (goal.at.add_scaled-requires c).After-product_quotient_into in
-    let size = at_size h in
-    let pre = (start size).pre in
+    let size = h in
+    let pre = size.requires in
     record {
       p_nonzero = omega (arith, pre.0.0);
-      g_in_bounds = shorter _ (made_length h) size.type_size.ensures pre.1.1.1.0;
+      g_in_bounds = shorter _ (made_length h) size.size_of-size.ensures pre.1.1.1.0;
     }
 
 pub returns : goal.returns
@@ -85,18 +78,18 @@ returns c q k M r n alpha beta G H L D =
     let product = minus in
     let h = product.before.before.before.before.before.before.before.before in
     let share = h in
-    let size = at_size h in
-    let a = (start size).args in
+    let size = h.before.before.before.before in
+    let a = size.args in
     let e = G.known.value in
     let α : Elem q = of alpha in
     let β : Elem q = of beta in
     let z : ℕ = length a.out.now + 1 in
-    let m : ℕ = length (take (size.type_size.result - 1) (array 1024)) + 1 in
+    let m : ℕ = length (take (size.size_of-size.result - 1) (array 1024)) + 1 in
     let f : Poly q = quotient m (denominator k α β M ⊠ ratio k α β M) in
     let x : Elem q = of a.delta ⊗ (of (size_of a.entries.now) ⊘ of z) in
     let shared : of share.multiply-share.result ≡ of {q = q} (size_of a.entries.now) ⊘ of z =
     of-result _ (share.multiply-share.ensures q e)
-    ∙ ap₂ (λ (s t : Elem q). s ⊗ t) (ap of size.type_size.ensures)
+    ∙ ap₂ (λ (s t : Elem q). s ⊗ t) (ap of size.size_of-size.ensures)
     (of-result _ (share.size_inverse-inverse.ensures q G.qualifies e)) in
     let factor : of minus.subtract.result ≡ 𝟘 ⊖ x =
     of-result _ (minus.subtract.ensures q e)

@@ -15,21 +15,8 @@ use Rattle.matrix_sumcheck.proofs.GivenLaws.{three-within, lent-list}
 use Rattle.matrix_sumcheck.proofs.joined.joined_quotient_into.Goals as goal
 use Rattle.matrix_sumcheck.proofs.joined.joined_quotient_into.Goals.{After-distances_into, After-distances_into-2, After-lagrange_values_into, After-lagrange_values_into-2, Start}
 
--- the start, from the rows' values, and each list from the next
-abbrev start : After-lagrange_values_into → Start
-start c = c.before.before.before.before.before.before
-
-abbrev at_rows : After-lagrange_values_into-2 → After-lagrange_values_into
-at_rows c = c.before.before.before
-
-abbrev at-columns : After-distances_into → After-lagrange_values_into-2
-at-columns c = c.before.before.before
-
-abbrev at-row-distances : After-distances_into-2 → After-distances_into
-at-row-distances c = c.before.before.before
-
 abbrev outset : After-distances_into-2 → Start
-outset c = start (at_rows (at-columns (at-row-distances c)))
+outset c = start (at_rows (c.before.before.before.before.before.before))
 
 -- |R| and |C| words fit into an array, and as they are lent they are sizes
 rows_fit : (s : Start) → s.args.r ≤ 1024
@@ -57,19 +44,19 @@ row-distances c = c.distances_into.new.out
 abbrev column-distances : After-distances_into-2 → List ℕ
 column-distances c = c.distances_into-2.new.out
 
-rows-length : (c : After-lagrange_values_into) → let n : ℕ = (start c).args.r in n ≡ length (take n (returned 1024 n (rows c)))
-rows-length c = back_length 1024 (rows_fit (start c)) (rows c) c.lagrange_values_into.auto.out
+rows-length : (c : After-lagrange_values_into) → let n : ℕ = c.args.r in n ≡ length (take n (returned 1024 n (rows c)))
+rows-length c = back_length 1024 (rows_fit c.before.before.before.before.before.before) (rows c) c.lagrange_values_into.auto.out
 
 columns-length :
     (c : After-lagrange_values_into-2)
-    → let n : ℕ = (start (at_rows c)).args.c in n ≡ length (take n (returned 1024 n (columns c)))
-columns-length c = back_length 1024 (columns_fit (start (at_rows c))) (columns c) c.lagrange_values_into-2.auto.out
+    → let n : ℕ = (c.before.before.before.before.before.before.before.before.before).args.c in n ≡ length (take n (returned 1024 n (columns c)))
+columns-length c = back_length 1024 (columns_fit (c.before.before.before.before.before.before.before.before.before)) (columns c) c.lagrange_values_into-2.auto.out
 
 row-distances-length :
     (c : After-distances_into)
-    → let n : ℕ = (start (at_rows (at-columns c))).args.r in n ≡ length (take n (returned 1024 n (row-distances c)))
+    → let n : ℕ = (start (c.before.before.before.before.before.before)).args.r in n ≡ length (take n (returned 1024 n (row-distances c)))
 row-distances-length c =
-    back_length 1024 (rows_fit (start (at_rows (at-columns c)))) (row-distances c) c.distances_into.auto.out
+    back_length 1024 (rows_fit (start (c.before.before.before.before.before.before))) (row-distances c) c.distances_into.auto.out
 
 column-distances-length :
     (c : After-distances_into-2) → let n : ℕ = (outset c).args.c in n ≡ length (take n (returned 1024 n (column-distances c)))
@@ -85,46 +72,46 @@ lagrange_values_into-requires c = let s = (goal.at.lagrange_values_into-requires
 }
 
 pub slice_bounds-columns-end : goal.slice_bounds-columns-end
-slice_bounds-columns-end c = columns_fit (start (goal.at.slice_bounds-columns-end c).After-lagrange_values_into)
+slice_bounds-columns-end c = columns_fit (goal.at.slice_bounds-columns-end c).Start
 
 pub lagrange_values_into-requires-2 : goal.lagrange_values_into-requires-2
-lagrange_values_into-requires-2 c = let s = start (goal.at.lagrange_values_into-requires-2 c).After-lagrange_values_into in record {
-  lt_p = s.pre.0.0;
+lagrange_values_into-requires-2 c = let s = (goal.at.lagrange_values_into-requires-2 c).Start in record {
+  lt_p = s.requires.modulus.0;
   out_value = columns_size s;
 }
 
 pub slice_bounds-rowDistances-end : goal.slice_bounds-rowDistances-end
-slice_bounds-rowDistances-end c = rows_fit (start (at_rows (goal.at.slice_bounds-rowDistances-end c).After-lagrange_values_into-2))
+slice_bounds-rowDistances-end c = rows_fit (c.before.before.before.before.before.before.before.before.before.before)
 
 pub distances_into-requires : goal.distances_into-requires
-distances_into-requires c = let s = start (at_rows (goal.at.distances_into-requires c).After-lagrange_values_into-2) in record {
-  modulus = s.pre.0;
+distances_into-requires c = let s = (goal.at.distances_into-requires c).Start in record {
+  modulus = s.requires.modulus;
   out_value = rows_size s;
 }
 
 pub slice_bounds-columnDistances-end : goal.slice_bounds-columnDistances-end
-slice_bounds-columnDistances-end c = columns_fit (start (at_rows (at-columns (goal.at.slice_bounds-columnDistances-end c).After-distances_into)))
+slice_bounds-columnDistances-end c = columns_fit (start (c.before.before.before.before.before.before.before))
 
 pub distances_into-requires-2 : goal.distances_into-requires-2
-distances_into-requires-2 c = let s = start (at_rows (at-columns (goal.at.distances_into-requires-2 c).After-distances_into)) in record {
+distances_into-requires-2 c = let s = start (c.before.before.before.before.before.before.before.before) in record {
   modulus = s.pre.0;
   out_value = columns_size s;
 }
 
 pub slice_bounds-rows-end-2 : goal.slice_bounds-rows-end-2
 slice_bounds-rows-end-2 c =
-    let r = at_rows (at-columns (at-row-distances (goal.at.slice_bounds-rows-end-2 c).After-distances_into-2)) in
-    back_holds 1024 (rows_fit (start r)) (rows r) r.lagrange-values-into.kept.1.1.0
+    let r = at_rows (c.before.before.before.before.before.before.before) in
+    back_holds 1024 (rows_fit r.before.before.before.before.before.before) (rows r) r.lagrange-values-into.kept.1.1.0
 
 pub slice_bounds-columns-end-2 : goal.slice_bounds-columns-end-2
 slice_bounds-columns-end-2 c =
-    let l = at-columns (at-row-distances (goal.at.slice_bounds-columns-end-2 c).After-distances_into-2) in
-    back_holds 1024 (columns_fit (start (at_rows l))) (columns l) l.lagrange-values-into2.kept.1.1.0
+    let l = (goal.at.slice_bounds-columns-end-2 c).After-lagrange_values_into-2 in
+    back_holds 1024 (columns_fit (l.before.before.before.before.before.before.before.before.before)) (columns l) l.lagrange_values_into-2.kept.1.1.0
 
 pub slice_bounds-rowDistances-end-2 : goal.slice_bounds-rowDistances-end-2
 slice_bounds-rowDistances-end-2 c =
-    let d = at-row-distances (goal.at.slice_bounds-rowDistances-end-2 c).After-distances_into-2 in
-    back_holds 1024 (rows_fit (start (at_rows (at-columns d)))) (row-distances d) d.distances-into.kept.1.1.0
+    let d = (goal.at.slice_bounds-rowDistances-end-2 c).After-distances_into in
+    back_holds 1024 (rows_fit (start (d.before.before.before.before.before.before))) (row-distances d) d.distances_into.kept.1.1.0
 
 pub slice_bounds-columnDistances-end-2 : goal.slice_bounds-columnDistances-end-2
 slice_bounds-columnDistances-end-2 c =
@@ -134,11 +121,11 @@ slice_bounds-columnDistances-end-2 c =
 pub joined_by_lists-requires : goal.joined_by_lists-requires
 joined_by_lists-requires c =
     let d = (goal.at.joined_by_lists-requires c).After-distances_into-2 in
-    let e = at-row-distances d in
-    let l = at-columns e in
+    let e = d.before.before.before in
+    let l = e.before.before.before in
     let pre = (outset d).requires in record {
       modulus = pre.0;
-      three_within = three-within pre.1.0 pre.1.1.0 (rows-length (at_rows l)) (columns-length l);
+      three_within = three-within pre.1.0 pre.1.1.0 (rows-length l.before.before.before) (columns-length l);
       three_within_2 = three-within pre.1.0 pre.1.1.0 (row-distances-length e) (column-distances-length d);
       out_len = pre.1.1.1;
     }
@@ -147,25 +134,25 @@ pub returns : goal.returns
 returns c q k G H =
     let j = c in
     let d = j.before.before.before.before.before.before.before.before.before in
-    let e = at-row-distances d in
-    let l = at-columns e in
-    let r = at_rows l in
-    let s = start r in
+    let e = d.before.before.before in
+    let l = e.before.before.before in
+    let r = l.before.before.before in
+    let s = r.before.before.before.before.before.before in
     let a = s.args in
     let known = (G A).known in
     j.joined_by_lists.ensures q k a.r a.c a.alpha a.beta G H
     (record {
       by_row =
-          lent-list (λ (n : ℕ). lagrange_values {q = q} n (of a.alpha)) (rows_fit s) (rows r) r.lagrange-values-into.kept.1.1.0
-          (r.lagrange-values-into.ensures q known);
+          lent-list (λ (n : ℕ). lagrange_values {q = q} n (of a.alpha)) (rows_fit s) (rows r) r.lagrange_values_into.kept.1.1.0
+          (r.lagrange_values_into.ensures q known);
       by_column =
           lent-list (λ (n : ℕ). lagrange_values {q = q} n (of a.beta)) (columns_fit s) (columns l)
-          l.lagrange-values-into2.kept.1.1.0 (l.lagrange-values-into2.ensures q known);
+          l.lagrange_values_into-2.kept.1.1.0 (l.lagrange_values_into-2.ensures q known);
     })
     (record {
       by_row =
-          lent-list (λ (n : ℕ). distances {q = q} n (of a.alpha)) (rows_fit s) (row-distances e) e.distances-into.kept.1.1.0
-          (e.distances-into.ensures q known);
+          lent-list (λ (n : ℕ). distances {q = q} n (of a.alpha)) (rows_fit s) (row-distances e) e.distances_into.kept.1.1.0
+          (e.distances_into.ensures q known);
       by_column =
           lent-list (λ (n : ℕ). distances {q = q} n (of a.beta)) (columns_fit s) (column-distances d)
           d.distances_into-2.auto.out (d.distances_into-2.ensures q known);

@@ -31,13 +31,6 @@ divided {q} left right f g {n} long left_is right_is =
 fits : (s : Start) → length s.args.out.now + 1 ≤ 1024
 fits s = size_fits _ s.requires.out_len
 
--- the start, from the values of b_M, and those from the terms
-abbrev start : After-products_into → Start
-start c = c.before.before.before.before.before.before.before.before
-
-abbrev at-below : After-terms_into → After-products_into
-at-below c = c.before.before.before
-
 -- the words of the two lists, and their lengths as they are lent the second time
 abbrev below : After-products_into → List ℕ
 below c = c.products_into.new.out
@@ -47,13 +40,13 @@ made c = c.terms_into.new.out
 
 below_length :
     (c : After-products_into)
-    → let n : ℕ = length (start c).args.out.now + 1 in n ≡ length (take n (returned 1024 n (below c)))
-below_length c = back_length 1024 (fits (start c)) (below c) c.products_into.auto.out
+    → let n : ℕ = length c.args.out.now + 1 in n ≡ length (take n (returned 1024 n (below c)))
+below_length c = back_length 1024 (fits c.before.before.before.before.before.before.before.before) (below c) c.products_into.auto.out
 
 made_length :
     (c : After-terms_into)
-    → let n : ℕ = length (start (at-below c)).args.out.now + 1 in n ≡ length (take n (returned 1024 n (made c)))
-made_length c = back_length 1024 (fits (start (at-below c))) (made c) c.terms_into.auto.out
+    → let n : ℕ = length (c.before.before.before.before.before.before.before.before.before.before.before).args.out.now + 1 in n ≡ length (take n (returned 1024 n (made c)))
+made_length c = back_length 1024 (fits (c.before.before.before.before.before.before.before.before.before.before.before)) (made c) c.terms_into.auto.out
 
 pub slice_bounds-below-end : goal.slice_bounds-below-end
 slice_bounds-below-end c = fits (goal.at.slice_bounds-below-end c).Start
@@ -68,42 +61,42 @@ products_into-requires c =
     }
 
 pub slice_bounds-terms-end : goal.slice_bounds-terms-end
-slice_bounds-terms-end c = fits (start (goal.at.slice_bounds-terms-end c).After-products_into)
+slice_bounds-terms-end c = fits (goal.at.slice_bounds-terms-end c).Start
 
 pub terms_into-requires : goal.terms_into-requires
 terms_into-requires c =
-    let s = start (goal.at.terms_into-requires c).After-products_into in
+    let s = (goal.at.terms_into-requires c).Start in
     record {
-      p_nonzero = omega (arith, s.pre.0.0);
-      entries_within = s.pre.1.0;
-      out_len = sym (lent_length 1024 (fits s)) ∙ s.pre.1.1.1;
+      p_nonzero = omega (arith, s.requires.modulus.0);
+      entries_within = s.requires.entries_within;
+      out_len = sym (lent_length 1024 (fits s)) ∙ s.requires.out_len;
     }
 
 pub slice_bounds-below-end-2 : goal.slice_bounds-below-end-2
 slice_bounds-below-end-2 c =
-    let b = at-below (goal.at.slice_bounds-below-end-2 c).After-terms_into in
-    back_holds 1024 (fits (start b)) (below b) b.products-into.kept.1.1.1.1.0
+    let b = (goal.at.slice_bounds-below-end-2 c).After-products_into in
+    back_holds 1024 (fits b.before.before.before.before.before.before.before.before) (below b) b.products_into.kept.1.1.1.1.0
 
 pub slice_bounds-terms-end-2 : goal.slice_bounds-terms-end-2
 slice_bounds-terms-end-2 c =
     let t = (goal.at.slice_bounds-terms-end-2 c).After-terms_into in
-    back_holds 1024 (fits (start (at-below t))) (made t) t.terms_into.auto.out
+    back_holds 1024 (fits (t.before.before.before.before.before.before.before.before.before.before.before)) (made t) t.terms_into.auto.out
 
 pub slice_bounds-factor-end : goal.slice_bounds-factor-end
-slice_bounds-factor-end c = fits (start (at-below (goal.at.slice_bounds-factor-end c).After-terms_into))
+slice_bounds-factor-end c = fits (c.before.before.before.before.before.before.before.before.before.before.before.before.before.before)
 
 pub slice_bounds-rest-end : goal.slice_bounds-rest-end
-slice_bounds-rest-end c = fits (start (at-below (goal.at.slice_bounds-rest-end c).After-terms_into))
+slice_bounds-rest-end c = fits (c.before.before.before.before.before.before.before.before.before.before.before.before.before.before.before)
 
 pub divide_product_into-requires : goal.divide_product_into-requires
 divide_product_into-requires c =
     let t = (goal.at.divide_product_into-requires c).After-terms_into in
-    let b = at-below t in
-    let s = start b in
+    let b = t.before.before.before in
+    let s = b.before.before.before.before.before.before.before.before in
     let long = below_length b in
     let lent = sym (lent_length 1024 (fits s)) ∙ long in record {
-      modulus = s.pre.0;
-      left_value = ap is_size (sym long) ∙ size_is _ s.pre.1.1.1;
+      modulus = s.requires.modulus;
+      left_value = ap is_size (sym long) ∙ size_is _ s.requires.out_len;
       right_len = (sym (made_length t) ∙ long, lent);
       rest_len = (lent, long);
     }
@@ -112,21 +105,21 @@ pub returns : goal.returns
 returns c q k M r m alpha beta G H L D =
     let d = c in
     let t = d.before.before.before.before.before.before.before.before.before.before.before in
-    let b = at-below t in
-    let s = start b in
+    let b = t.before.before.before in
+    let s = b.before.before.before.before.before.before.before.before in
     let a = s.args in
     let n : ℕ = length a.out.now + 1 in
-    let size = s.pre.1.1.1 in
+    let size = s.requires.out_len in
     let place : ℕ → Elem q = λ i. product_of a.rowDistances.now a.columnDistances.now (entry_words a.entries.now i) in
     let ts : List (Elem q) = terms r m (of alpha) (of beta) a.entries.now in
     let lent = sym (lent_length 1024 (fits s)) in
     let left =
-    back_list 1024 (fits s) (below b) b.products-into.kept.1.1.1.1.0 (tabulate n place)
-    (b.products-into.ensures q G.known.value ∙ ap (λ (j : ℕ). words (tabulate j place)) lent) in
+    back_list 1024 (fits s) (below b) b.products_into.kept.1.1.1.1.0 (tabulate n place)
+    (b.products_into.ensures q G.known.value ∙ ap (λ (j : ℕ). words (tabulate j place)) lent) in
     let right =
     back_list 1024 (fits s) (made t) t.terms_into.auto.out (padded n ts)
     (t.terms_into.ensures q G.known.value r m alpha beta L ∙ ap (λ (j : ℕ). words (padded j ts)) lent) in
     (d.divide_product_into.ensures q G.known).is-quotient
     ∙ divided (take n (returned 1024 n (below b))) (take n (returned 1024 n (made t))) (tabulate n place) (padded n ts)
     (below_length b) left right
-    ∙ ap₂ (λ (f g : Poly q). words (quotient n (f ⊠ g))) (denominator_made G H s.pre.1.1.0 D n size) (ratio_by_terms G H n size)
+    ∙ ap₂ (λ (f g : Poly q). words (quotient n (f ⊠ g))) (denominator_made G H s.requires.entries_within_2 D n size) (ratio_by_terms G H n size)

@@ -29,16 +29,12 @@ interpolated q l t long read at-root call =
 fits : (s : Start) → length s.args.out.now ≤ 1024
 fits s = size_fits _ s.requires.out_len
 
--- the start, from the terms, and the terms' words
-abbrev start : After-terms_into → Start
-start c = c.before.before.before.before.before.before
-
 abbrev made : After-terms_into → List ℕ
 made c = c.terms_into.new.out
 
 -- the terms as they are lent the second time
-made_length : (c : After-terms_into) → let n : ℕ = length (start c).args.out.now in n ≡ length (take n (returned 1024 n (made c)))
-made_length c = back_length 1024 (fits (start c)) (made c) c.terms_into.auto.out
+made_length : (c : After-terms_into) → let n : ℕ = length c.args.out.now in n ≡ length (take n (returned 1024 n (made c)))
+made_length c = back_length 1024 (fits c.before.before.before.before.before.before) (made c) c.terms_into.auto.out
 
 pub slice_bounds-values-end : goal.slice_bounds-values-end
 slice_bounds-values-end c = fits (goal.at.slice_bounds-values-end c).Start
@@ -53,23 +49,23 @@ terms_into-requires c =
     }
 
 pub overflow_cast-n : goal.overflow_cast-n
-overflow_cast-n c = omega (arith, fits (start (goal.at.overflow_cast-n c).After-terms_into))
+overflow_cast-n c = omega (arith, fits (goal.at.overflow_cast-n c).Start)
 
 pub root_of-root-requires : goal.root_of-root-requires
-root_of-root-requires c = size_is _ (start (goal.at.root_of-root-requires c).After-terms_into).requires.out_len
+root_of-root-requires c = size_is _ c.requires.out_len
 
 pub slice_bounds-values-end-2 : goal.slice_bounds-values-end-2
 slice_bounds-values-end-2 c =
     let t = (goal.at.slice_bounds-values-end-2 c).After-terms_into in
-    back_holds 1024 (fits (start t)) (made t) t.terms_into.auto.out
+    back_holds 1024 (fits t.before.before.before.before.before.before) (made t) t.terms_into.auto.out
 
 pub interpolate_into-requires : goal.interpolate_into-requires
 interpolate_into-requires c =
     let t = (goal.at.interpolate_into-requires c).After-terms_into in
-    let s = start t in
+    let s = t in
     record {
-      lt_p = s.pre.0;
-      out_len = (made_length t, ap is_size (sym (made_length t)) ∙ size_is _ s.pre.1.1);
+      lt_p = s.requires.lt_p;
+      out_len = (made_length t, ap is_size (sym (made_length t)) ∙ size_is _ s.requires.out_len);
     }
 
 pub returns : goal.returns
@@ -77,7 +73,7 @@ returns c q k M m n alpha beta G H L =
     let i = c in
     let root = i in
     let t = root.before.before.before.before.before.before.before in
-    let s = start t in
+    let s = t.before.before.before.before.before.before in
     let a = s.args in
     let l : ℕ = length a.out.now in
     let target : List (Elem q) = padded l (terms m n (of alpha) (of beta) a.entries.now) in
@@ -87,4 +83,4 @@ returns c q k M m n alpha beta G H L =
     interpolated q (take l (returned 1024 l (made t))) target (made_length t)
     (back_list 1024 (fits s) (made t) t.terms_into.auto.out target filled)
     (root.root_of-root.ensures q G.known) (i.interpolate_into.ensures q G.qualifies G.known.value)
-    ∙ ap words (ratio_by_terms G H l s.pre.1.1)
+    ∙ ap words (ratio_by_terms G H l s.requires.out_len)

@@ -15,24 +15,20 @@ use Rattle.matrix_sumcheck.proofs.matrix.value_into.Goals.{After-ratio_into, Sta
 fits : (s : Start) → length s.args.out.now + 1 ≤ 1024
 fits s = size_fits _ s.requires.out_len
 
--- the start, from the ratio, and the ratio's words
-abbrev start : After-ratio_into → Start
-start c = c.before.before.before.before.before.before
-
 abbrev made : After-ratio_into → List ℕ
 made c = c.ratio_into.new.out
 
 -- the ratio as it is lent the second time
 made_length :
     (c : After-ratio_into)
-    → let n : ℕ = length (start c).args.out.now + 1 in n ≡ length (take n (returned 1024 n (made c)))
-made_length c = back_length 1024 (fits (start c)) (made c) c.ratio_into.auto.out
+    → let n : ℕ = length c.args.out.now + 1 in n ≡ length (take n (returned 1024 n (made c)))
+made_length c = back_length 1024 (fits c.before.before.before.before.before.before) (made c) c.ratio_into.auto.out
 
 -- its first word
-made_first : (c : After-ratio_into) → get_or (returned 1024 (length (start c).args.out.now + 1) (made c)) 0 0 ≡ get_or (made c) 0 0
+made_first : (c : After-ratio_into) → get_or (returned 1024 (length c.args.out.now + 1) (made c)) 0 0 ≡ get_or (made c) 0 0
 made_first c =
-    get_or-append (made c) (drop (length (start c).args.out.now + 1) (array 1024)) 0 0
-    (omega (arith, lent_length 1024 (fits (start c)), c.ratio_into.auto.out))
+    get_or-append (made c) (drop (length c.args.out.now + 1) (array 1024)) 0 0
+    (omega (arith, lent_length 1024 (fits c.before.before.before.before.before.before), c.ratio_into.auto.out))
 
 pub slice_bounds-ratio-end : goal.slice_bounds-ratio-end
 slice_bounds-ratio-end c = fits (goal.at.slice_bounds-ratio-end c).Start
@@ -49,19 +45,19 @@ ratio_into-requires c =
 pub slice_bounds-ratio-end-2 : goal.slice_bounds-ratio-end-2
 slice_bounds-ratio-end-2 c =
     let t = (goal.at.slice_bounds-ratio-end-2 c).After-ratio_into in
-    back_holds 1024 (fits (start t)) (made t) t.ratio_into.auto.out
+    back_holds 1024 (fits t.before.before.before.before.before.before) (made t) t.ratio_into.auto.out
 
 pub copy_tail-requires : goal.copy_tail-requires
 copy_tail-requires c = sym (made_length (goal.at.copy_tail-requires c).After-ratio_into)
 
 pub overflow_cast-size : goal.overflow_cast-size
-overflow_cast-size c = omega (arith, fits (start (goal.at.overflow_cast-size c).After-ratio_into))
+overflow_cast-size c = omega (arith, fits (goal.at.overflow_cast-size c).Start)
 
 pub returns : goal.returns
 returns c q k M m n alpha beta G H L =
     let copied = c in
     let t = copied.before.before.before.before.before.before.before in
-    let s = start t in
+    let s = t.before.before.before.before.before.before in
     let ratio = t.ratio_into.ensures q k M m n alpha beta G H L in
     record {
       is-remainder =
@@ -71,5 +67,5 @@ returns c q k M m n alpha beta G H L =
           c.multiply.ensures q G.known.value
           ∙ ap (λ (w : ℕ). (of {q = q} (length s.args.out.now + 1) ⊗ of w).word)
           (made_first t ∙ ap (λ (l : List ℕ). get_or l 0 0) ratio)
-          ∙ value_made G H s.pre.1.1;
+          ∙ value_made G H s.requires.out_len;
     }

@@ -14,13 +14,6 @@ use Rattle.matrix_sumcheck.proofs.GivenLaws.{three-within, lent-list}
 use Rattle.matrix_sumcheck.proofs.values.values_into.Goals as goal
 use Rattle.matrix_sumcheck.proofs.values.values_into.Goals.{After-lagrange_values_into, After-lagrange_values_into-2, Start}
 
--- the start, from the rows' list, and that from the columns'
-abbrev start : After-lagrange_values_into → Start
-start c = c.before.before.before.before.before.before.before.before
-
-abbrev at_rows : After-lagrange_values_into-2 → After-lagrange_values_into
-at_rows c = c.before.before.before
-
 -- |R| and |C| words fit into an array
 rows_fit : (s : Start) → s.args.r ≤ 1024
 rows_fit s = size_bound _ s.requires.circuit_shaped.R-size
@@ -35,13 +28,13 @@ rows c = c.lagrange_values_into.new.out
 abbrev columns : After-lagrange_values_into-2 → List ℕ
 columns c = c.lagrange_values_into-2.new.out
 
-rows-length : (c : After-lagrange_values_into) → let n : ℕ = (start c).args.r in n ≡ length (take n (returned 1024 n (rows c)))
-rows-length c = back_length 1024 (rows_fit (start c)) (rows c) c.lagrange_values_into.auto.out
+rows-length : (c : After-lagrange_values_into) → let n : ℕ = c.args.r in n ≡ length (take n (returned 1024 n (rows c)))
+rows-length c = back_length 1024 (rows_fit c.before.before.before.before.before.before.before.before) (rows c) c.lagrange_values_into.auto.out
 
 columns-length :
     (c : After-lagrange_values_into-2)
-    → let n : ℕ = (start (at_rows c)).args.c in n ≡ length (take n (returned 1024 n (columns c)))
-columns-length c = back_length 1024 (columns_fit (start (at_rows c))) (columns c) c.lagrange_values_into-2.auto.out
+    → let n : ℕ = (c.before.before.before.before.before.before.before.before.before.before.before).args.c in n ≡ length (take n (returned 1024 n (columns c)))
+columns-length c = back_length 1024 (columns_fit (c.before.before.before.before.before.before.before.before.before.before.before)) (columns c) c.lagrange_values_into-2.auto.out
 
 pub slice_bounds-rows-end : goal.slice_bounds-rows-end
 slice_bounds-rows-end c = rows_fit (goal.at.slice_bounds-rows-end c).Start
@@ -55,45 +48,45 @@ lagrange_values_into-requires c =
     }
 
 pub slice_bounds-columns-end : goal.slice_bounds-columns-end
-slice_bounds-columns-end c = columns_fit (start (goal.at.slice_bounds-columns-end c).After-lagrange_values_into)
+slice_bounds-columns-end c = columns_fit (goal.at.slice_bounds-columns-end c).Start
 
 pub lagrange_values_into-requires-2 : goal.lagrange_values_into-requires-2
 lagrange_values_into-requires-2 c =
-    let s = start (goal.at.lagrange_values_into-requires-2 c).After-lagrange_values_into in
+    let s = (goal.at.lagrange_values_into-requires-2 c).Start in
     record {
-      lt_p = s.pre.0;
-      out_value = ap is_size (sym (lent_length 1024 (columns_fit s))) ∙ s.pre.1.0.C-size;
+      lt_p = s.requires.lt_p;
+      out_value = ap is_size (sym (lent_length 1024 (columns_fit s))) ∙ s.requires.circuit_shaped.C-size;
     }
 
 pub slice_bounds-rows-end-2 : goal.slice_bounds-rows-end-2
 slice_bounds-rows-end-2 c =
-    let r = at_rows (goal.at.slice_bounds-rows-end-2 c).After-lagrange_values_into-2 in
-    back_holds 1024 (rows_fit (start r)) (rows r) r.lagrange-values-into.kept.1.1.0
+    let r = (goal.at.slice_bounds-rows-end-2 c).After-lagrange_values_into in
+    back_holds 1024 (rows_fit r.before.before.before.before.before.before.before.before) (rows r) r.lagrange_values_into.kept.1.1.0
 
 pub slice_bounds-columns-end-2 : goal.slice_bounds-columns-end-2
 slice_bounds-columns-end-2 c =
     let l = (goal.at.slice_bounds-columns-end-2 c).After-lagrange_values_into-2 in
-    back_holds 1024 (columns_fit (start (at_rows l))) (columns l) l.lagrange_values_into-2.auto.out
+    back_holds 1024 (columns_fit (l.before.before.before.before.before.before.before.before.before.before.before)) (columns l) l.lagrange_values_into-2.auto.out
 
 pub values_by_lists-requires : goal.values_by_lists-requires
 values_by_lists-requires c =
     let l = (goal.at.values_by_lists-requires c).After-lagrange_values_into-2 in
-    let pre = (start (at_rows l)).requires in
-    (pre.0, (three-within pre.1.0 pre.1.1.0 (rows-length (at_rows l)) (columns-length l), pre.1.1.1))
+    let pre = (l.before.before.before.before.before.before.before.before.before.before.before).requires in
+    (pre.0, (three-within pre.1.0 pre.1.1.0 (rows-length l.before.before.before) (columns-length l), pre.1.1.1))
 
 pub returns : goal.returns
 returns c q k G H =
     let v = c in
     let l = v.before.before.before.before.before.before.before.before.before.before.before.before.before in
-    let r = at_rows l in
-    let a = (start r).args in
+    let r = l.before.before.before.before.before.before.before.before.before.before.before in
+    let a = r.args in
     let known = (G A).known in
     v.values_by_lists.ensures q k a.r a.c a.alpha a.beta G H
     (record {
       by_row =
-          lent-list (λ (n : ℕ). lagrange_values {q = q} n (of a.alpha)) (rows_fit (start r)) (rows r)
-          r.lagrange-values-into.kept.1.1.0 (r.lagrange-values-into.ensures q known);
+          lent-list (λ (n : ℕ). lagrange_values {q = q} n (of a.alpha)) (rows_fit r) (rows r)
+          r.lagrange_values_into.kept.1.1.0 (r.lagrange_values_into.ensures q known);
       by_column =
-          lent-list (λ (n : ℕ). lagrange_values {q = q} n (of a.beta)) (columns_fit (start r)) (columns l)
+          lent-list (λ (n : ℕ). lagrange_values {q = q} n (of a.beta)) (columns_fit r) (columns l)
           l.lagrange_values_into-2.auto.out (l.lagrange_values_into-2.ensures q known);
     })

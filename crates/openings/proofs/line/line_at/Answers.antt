@@ -18,19 +18,15 @@ use Rattle.openings.proofs.WordValues.{products_of, line-rest_made, line-quotien
 use Rattle.openings.proofs.line.line_at.Goals as goal
 use Rattle.openings.proofs.line.line_at.Goals.{After-rest_into, Start}
 
--- the start, from the remainder
-abbrev start : After-rest_into → Start
-start c = c.before.before.before.before.before.before
-
 room : (s : Start) → s.args.c ≤ 1024
 room s = size_bound s.args.c s.requires.c_value.0
 
 -- the remainder as it was made, and as it is read
-made : (c : After-rest_into) → MadeIn 1024 (start c).args.c c.rest_into.new.out
-made c = record { fits = room (start c); kept = c.rest_into.auto.out }
+made : (c : After-rest_into) → MadeIn 1024 c.args.c c.rest_into.new.out
+made c = record { fits = room c.before.before.before.before.before.before; kept = c.rest_into.auto.out }
 
 abbrev left : After-rest_into → List ℕ
-left c = take (start c).args.c (returned 1024 (start c).args.c c.rest_into.new.out)
+left c = take c.args.c (returned 1024 c.args.c c.rest_into.new.out)
 
 pub slice_bounds-rest-end : goal.slice_bounds-rest-end
 slice_bounds-rest-end c = room (goal.at.slice_bounds-rest-end c).Start
@@ -52,8 +48,8 @@ pub parted_at-parts-requires : goal.parted_at-parts-requires
 parted_at-parts-requires c =
     let m = (goal.at.parted_at-parts-requires c).After-rest_into in
     record {
-      p_nonzero = omega (arith, (start m).requires.lt_p);
-      f_nonzero = omega (arith, made_length (made m), size_positive _ (start m).requires.c_value.0);
+      p_nonzero = omega (arith, m.requires.lt_p);
+      f_nonzero = omega (arith, made_length (made m), size_positive _ m.requires.c_value.0);
     }
 
 pub returns : goal.returns
@@ -63,7 +59,7 @@ returns c q K lagrange k W eC α η weighed ẑ assigned =
     let e = w in
     let parts = e in
     let m = parts.before.before.before.before.before.before.before.before in
-    let s = start m in
+    let s = m in
     let a = s.args in
     let v = K.value in
     let Q = known-qualifies K in
@@ -75,7 +71,7 @@ returns c q K lagrange k W eC α η weighed ẑ assigned =
     ∙ line-rest_made Q k (known_formed K W) eC mask ẑ a.z.now assigned.on_columns α η a.weights.now weighed in
     let masked = e.evaluate-mask.ensures q v in
     let weight = of-result (eval (interpolate a.c (map of a.weights.now)) β)
-    (w.interpolated_at.ensures q Q v a.c s.pre.1.0.0 β lagrange) in
+    (w.interpolated_at.ensures q Q v a.c s.requires.c_value.0 β lagrange) in
     let whole = of-result (of {q = q} _ ⊗ of _ ⊕ of _) (c.multiply_add-line.ensures q v)
     ∙ ap₂ ◌⊕◌ (ap₂ ◌⊗◌ weight (of-result (eval ẑ β) assigned.at_point)) (of-result (eval mask β) masked) in
     let below = of-result (eval (map of (left m)) β) (parts.parted_at-parts.ensures q v).whole ∙ ap (λ (g : Poly q). eval g β) read in

@@ -18,28 +18,18 @@ use Rattle.poly.proofs.LentParts.{lent_length, parts_order}
 use Rattle.openings.proofs.OpeningLaws.{MadeIn, made_holds, made_length, made_list, made_by_length}
 use Rattle.openings.proofs.WordValues.{products_of}
 use Rattle.openings.proofs.line.rest_into.Goals as goal
-use Rattle.openings.proofs.line.rest_into.Goals.{After-interpolate_into, After-products_into, After-remainder_into, Start}
-
--- the start, from the products; these, from their polynomial; and this, from the remainder of m
-abbrev start : After-products_into → Start
-start c = c.before.before.before.before.before.before
-
-abbrev at-products : After-interpolate_into → After-products_into
-at-products c = c.before.before.before.before.before
-
-abbrev at-product : After-remainder_into → After-interpolate_into
-at-product c = c.before.before.before
+use Rattle.openings.proofs.line.rest_into.Goals.{After-interpolate_into, After-products_into, Start}
 
 room : (s : Start) → length s.args.out.now ≤ 1024
 room s = size_bound (length s.args.out.now) s.requires.out_value
 
 -- the products and their polynomial as they were made
-products_made : (c : After-products_into) → MadeIn 1024 (length (start c).args.out.now) c.products_into.new.out
-products_made c = record { fits = room (start c); kept = c.products_into.auto.out }
+products_made : (c : After-products_into) → MadeIn 1024 (length c.args.out.now) c.products_into.new.out
+products_made c = record { fits = room c.before.before.before.before.before.before; kept = c.products_into.auto.out }
 
 product_made : (c : After-interpolate_into)
-    → MadeIn 1024 (length (start (at-products c)).args.out.now) c.interpolate_into.new.out
-product_made c = record { fits = room (start (at-products c)); kept = c.interpolate_into.auto.out }
+    → MadeIn 1024 (length (c.before.before.before.before.before.before.before.before.before.before.before).args.out.now) c.interpolate_into.new.out
+product_made c = record { fits = room (c.before.before.before.before.before.before.before.before.before.before.before); kept = c.interpolate_into.auto.out }
 
 pub slice_bounds-products-end : goal.slice_bounds-products-end
 slice_bounds-products-end c = room (goal.at.slice_bounds-products-end c).Start
@@ -54,59 +44,59 @@ products_into-requires c =
     }
 
 pub overflow_cast-n : goal.overflow_cast-n
-overflow_cast-n c = omega (arith, room (start (goal.at.overflow_cast-n c).After-products_into))
+overflow_cast-n c = omega (arith, room (goal.at.overflow_cast-n c).Start)
 
 pub slice_bounds-products-end-2 : goal.slice_bounds-products-end-2
 slice_bounds-products-end-2 c = made_holds (products_made (goal.at.slice_bounds-products-end-2 c).After-products_into)
 
 pub slice_bounds-product-end : goal.slice_bounds-product-end
-slice_bounds-product-end c = room (start (goal.at.slice_bounds-product-end c).After-products_into)
+slice_bounds-product-end c = room (goal.at.slice_bounds-product-end c).Start
 
 pub interpolate_into-requires : goal.interpolate_into-requires
 interpolate_into-requires c =
     let m = (goal.at.interpolate_into-requires c).After-products_into in
-    let s = start m in
+    let s = m.before.before.before.before.before.before in
     let long = made_length (products_made m) in
     record {
-      lt_p = s.pre.0;
-      out_len = (sym (lent_length 1024 (room s)) ∙ long, ap is_size (sym long) ∙ s.pre.1.0);
+      lt_p = s.requires.lt_p;
+      out_len = (sym (lent_length 1024 (room s)) ∙ long, ap is_size (sym long) ∙ s.requires.out_value);
     }
 
 pub remainder_into-requires : goal.remainder_into-requires
 remainder_into-requires c =
-    let s = start (at-products (goal.at.remainder_into-requires c).After-interpolate_into) in
+    let s = c in
     record {
       p_nonzero = omega arith;
-      out_nonzero = size_positive _ s.pre.1.0;
+      out_nonzero = size_positive _ s.requires.out_value;
     }
 
 pub slice_bounds-product-end-2 : goal.slice_bounds-product-end-2
-slice_bounds-product-end-2 c = made_holds (product_made (at-product (goal.at.slice_bounds-product-end-2 c).After-remainder_into))
+slice_bounds-product-end-2 c = made_holds (product_made (goal.at.slice_bounds-product-end-2 c).After-interpolate_into)
 
 pub add_scaled-requires : goal.add_scaled-requires
 add_scaled-requires c =
-    let r = (goal.at.add_scaled-requires c).After-remainder_into in
-    let s = start (at-products (at-product r)) in record {
+    let r = (goal.at.add_scaled-requires c).After-interpolate_into in
+    let s = start (r.before.before.before.before.before.before.before.before) in record {
       p_nonzero = omega (arith, s.pre.0);
-      g_in_bounds = parts_order (made_length (product_made (at-product r))) (sym r.remainder_into.auto.out) (le_refl _);
+      g_in_bounds = parts_order (made_length (product_made r)) (sym r.remainder_into.auto.out) (le_refl _);
     }
 
 pub returns : goal.returns
 returns c q K =
     let d = c in
-    let r = d.before.before.before.before.before.before.before in
-    let i = at-product r in
-    let m = at-products i in
-    let s = start m in
+    let r = d in
+    let i = r.before.before.before.before.before.before.before.before.before.before in
+    let m = i.before.before.before.before.before in
+    let s = m in
     let a = s.args in
     let n : ℕ = length a.out.now in
     let v = K.value in
     let products : ℕ → List (Elem q) = λ n. products_of n a.weights.now a.z.now in
     let long = made_length (products_made m) in
-    let listed = made_list (products_made m) (products n) (made_by_length (products_made m) products (m.products-into.ensures q v)) in
+    let listed = made_list (products_made m) (products n) (made_by_length (products_made m) products (m.products_into.ensures q v)) in
     let product = made_list (product_made i) (interpolate n (products n))
-    (i.interpolate-into.ensures q (known-qualifies K) v
-    (i.before.before.before.root-of.ensures q K ∙ ap (λ (n : ℕ). (root {q = q} n).word) long)
+    (i.interpolate_into.ensures q (known-qualifies K) v
+    (i.root_of.ensures q K ∙ ap (λ (n : ℕ). (root {q = q} n).word) long)
     ∙ ap₂ (λ (n : ℕ) (l : List (Elem q)). words (interpolate n l)) (sym long) listed) in
     d.add_scaled.ensures q v
     ∙ ap₂ (λ (f g : Poly q). words (f ⊞ g)) (of_results (remainder n (map of a.m.now)) (r.remainder_into.ensures q v))

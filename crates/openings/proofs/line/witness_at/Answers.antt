@@ -24,22 +24,15 @@ use Rattle.openings.proofs.ValueLaws.{witness-value}
 use Rattle.openings.proofs.line.witness_at.Goals as goal
 use Rattle.openings.proofs.line.witness_at.Goals.{After-lagrange_values_into, After-public_words_into, Start}
 
--- the start, from the Lagrange values; and these, from the public words
-abbrev start : After-lagrange_values_into → Start
-start c = c.before.before.before
-
-abbrev at-lagrange : After-public_words_into → After-lagrange_values_into
-at-lagrange c = c.before.before.before
-
 room : (s : Start) → s.args.x ≤ 1024
 room s = size_bound s.args.x s.requires.c_value.1
 
 -- the Lagrange values and the public words as they were made
-lagrange_made : (c : After-lagrange_values_into) → MadeIn 1024 (start c).args.x c.lagrange_values_into.new.out
-lagrange_made c = record { fits = room (start c); kept = c.lagrange_values_into.auto.out }
+lagrange_made : (c : After-lagrange_values_into) → MadeIn 1024 c.args.x c.lagrange_values_into.new.out
+lagrange_made c = record { fits = room c.before.before.before; kept = c.lagrange_values_into.auto.out }
 
-public_made : (c : After-public_words_into) → MadeIn 1024 (start (at-lagrange c)).args.x c.public_words_into.new.out
-public_made c = record { fits = room (start (at-lagrange c)); kept = c.public_words_into.auto.out }
+public_made : (c : After-public_words_into) → MadeIn 1024 (c.before.before.before.before.before.before).args.x c.public_words_into.new.out
+public_made c = record { fits = room (c.before.before.before.before.before.before); kept = c.public_words_into.auto.out }
 
 pub slice_bounds-lagrange-end : goal.slice_bounds-lagrange-end
 slice_bounds-lagrange-end c = room (goal.at.slice_bounds-lagrange-end c).Start
@@ -53,44 +46,44 @@ lagrange_values_into-requires c =
     }
 
 pub nonzero_div-c : goal.nonzero_div-c
-nonzero_div-c c = size_positive _ (start (goal.at.nonzero_div-c c).After-lagrange_values_into).requires.c_value.1
+nonzero_div-c c = size_positive _ c.requires.c_value.1
 
 pub overflow_cast-c : goal.overflow_cast-c
 overflow_cast-c c =
-    let s = start (goal.at.overflow_cast-c c).After-lagrange_values_into in
-    omega (arith, div-le_self s.args.c s.args.x, size_bound s.args.c s.pre.1.0.0)
+    let s = c in
+    omega (arith, div-le_self s.args.c s.args.x, size_bound s.args.c s.requires.c_value.0)
 
 pub slice_bounds-public-end : goal.slice_bounds-public-end
-slice_bounds-public-end c = room (start (goal.at.slice_bounds-public-end c).After-lagrange_values_into)
+slice_bounds-public-end c = room (goal.at.slice_bounds-public-end c).Start
 
 pub public_words_into-requires : goal.public_words_into-requires
 public_words_into-requires c =
-    let s = start (goal.at.public_words_into-requires c).After-lagrange_values_into in
-    let sizes = s.pre.1.0 in (
+    let s = (goal.at.public_words_into-requires c).Start in
+    let sizes = s.requires.c_value in (
       size_quotient_positive _ _ sizes.1 sizes.0 sizes.2,
-      public_within s.args.z.now _ sizes.0 sizes.1 sizes.2 s.pre.1.1.0 (room s),
+      public_within s.args.z.now _ sizes.0 sizes.1 sizes.2 s.requires.z_len (room s),
     )
 
 pub slice_bounds-lagrange-end-2 : goal.slice_bounds-lagrange-end-2
-slice_bounds-lagrange-end-2 c = made_holds (lagrange_made (at-lagrange (goal.at.slice_bounds-lagrange-end-2 c).After-public_words_into))
+slice_bounds-lagrange-end-2 c = made_holds (lagrange_made (goal.at.slice_bounds-lagrange-end-2 c).After-lagrange_values_into)
 
 pub slice_bounds-public-end-2 : goal.slice_bounds-public-end-2
 slice_bounds-public-end-2 c = made_holds (public_made (goal.at.slice_bounds-public-end-2 c).After-public_words_into)
 
 pub interpolated_at-known-requires : goal.interpolated_at-known-requires
 interpolated_at-known-requires c =
-    let w = (goal.at.interpolated_at-known-requires c).After-public_words_into in
+    let w = (goal.at.interpolated_at-known-requires c).After-lagrange_values_into in
     record {
-      p_nonzero = omega (arith, (start (at-lagrange w)).requires.lt_p);
-      values_len = sym (made_length (public_made w)) ∙ made_length (lagrange_made (at-lagrange w));
+      p_nonzero = omega (arith, (w.before.before.before.before.before.before).requires.lt_p);
+      values_len = sym (made_length (public_made w)) ∙ made_length (lagrange_made w);
     }
 
 pub returns : goal.returns
 returns c q K k W eC eX r assigned =
     let i = c.before.before in
     let w = i.before.before.before.before in
-    let l = at-lagrange w in
-    let s = start l in
+    let l = w.before.before.before in
+    let s = l.before.before.before in
     let a = s.args in
     let v = K.value in
     let Q = known-qualifies K in
@@ -98,12 +91,12 @@ returns c q K k W eC eX r assigned =
     let z : List (Elem q) = map of a.z.now in
     let x = public_part k z in
     let read = made_is (lagrange_made l)
-    ∙ made_by_length (lagrange_made l) (λ (n : ℕ). lagrange_values n β) (l.lagrange-values-into.ensures q K) in
+    ∙ made_by_length (lagrange_made l) (λ (n : ℕ). lagrange_values n β) (l.lagrange_values_into.ensures q K) in
     let public = ap (map (of {q = q}))
     (made_is (public_made w) ∙ w.public_words_into.ensures
     ∙ ap (λ (n : ℕ). tabulate n (λ i. get_or a.z.now (i * (a.c / a.x)) 0)) (sym (lent_length 1024 (room s))))
     ∙ public_words_lem k a.z.now eC eX in
-    let known = of-result (eval (interpolate a.x _) β) (i.interpolated_at-known.ensures q Q v a.x s.pre.1.0.1 β read)
+    let known = of-result (eval (interpolate a.x _) β) (i.interpolated_at-known.ensures q Q v a.x s.requires.c_value.1 β read)
     ∙ ap (λ (f : List (Elem q)). eval (interpolate a.x f) β) public ∙ ap (λ (n : ℕ). eval (interpolate n x) β) (sym eX) in
     c.over_vanishing.ensures q K (eval (witness k z r) β)
     (of-result (of {q = q} _ ⊖ of _) (c.subtract.ensures q v)

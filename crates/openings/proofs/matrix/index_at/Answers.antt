@@ -16,14 +16,7 @@ use Rattle.index.specs.IndexValues.{index_values}
 use Rattle.index.proofs.IndexValues.{index_by_words}
 use Rattle.openings.proofs.OpeningLaws.{MadeIn, made_holds, made_length, made_list, four_same}
 use Rattle.openings.proofs.matrix.index_at.Goals as goal
-use Rattle.openings.proofs.matrix.index_at.Goals.{After-index_values_into, After-interpolated_at, Start}
-
--- the start, from the values; these, from the first opening
-abbrev start : After-index_values_into → Start
-start c = c.before.before.before.before.before.before.before
-
-abbrev at-values : After-interpolated_at → After-index_values_into
-at-values c = c.before.before.before.before.before.before
+use Rattle.openings.proofs.matrix.index_at.Goals.{After-index_values_into, Start}
 
 abbrev count : Start → ℕ
 count s = length s.args.places.now
@@ -32,17 +25,17 @@ room : (s : Start) → count s ≤ 1024
 room s = size_fits _ s.requires.places_len
 
 -- the four lists of values as they were made
-row_made : (c : After-index_values_into) → MadeIn 1024 (count (start c)) c.index_values_into.new.row
-row_made c = record { fits = room (start c); kept = c.index_values_into.auto.row }
+row_made : (c : After-index_values_into) → MadeIn 1024 (count c.before.before.before.before.before.before.before) c.index_values_into.new.row
+row_made c = record { fits = room c.before.before.before.before.before.before.before; kept = c.index_values_into.auto.row }
 
-col_made : (c : After-index_values_into) → MadeIn 1024 (count (start c)) c.index_values_into.new.col
-col_made c = record { fits = room (start c); kept = c.index_values_into.auto.col }
+col_made : (c : After-index_values_into) → MadeIn 1024 (count c.before.before.before.before.before.before.before) c.index_values_into.new.col
+col_made c = record { fits = room c.before.before.before.before.before.before.before; kept = c.index_values_into.auto.col }
 
-rowcol_made : (c : After-index_values_into) → MadeIn 1024 (count (start c)) c.index_values_into.new.rowcol
-rowcol_made c = record { fits = room (start c); kept = c.index_values_into.auto.rowcol }
+rowcol_made : (c : After-index_values_into) → MadeIn 1024 (count c.before.before.before.before.before.before.before) c.index_values_into.new.rowcol
+rowcol_made c = record { fits = room c.before.before.before.before.before.before.before; kept = c.index_values_into.auto.rowcol }
 
-rowcolval_made : (c : After-index_values_into) → MadeIn 1024 (count (start c)) c.index_values_into.new.rowcolval
-rowcolval_made c = record { fits = room (start c); kept = c.index_values_into.auto.rowcolval }
+rowcolval_made : (c : After-index_values_into) → MadeIn 1024 (count c.before.before.before.before.before.before.before) c.index_values_into.new.rowcolval
+rowcolval_made c = record { fits = room c.before.before.before.before.before.before.before; kept = c.index_values_into.auto.rowcolval }
 
 -- an opening asks that its two lists are as long as each other
 lengths_same : (s : Start) {m : ℕ} → count s ≡ m → (0 < s.args.p) × (m ≡ count s)
@@ -75,47 +68,47 @@ slice_bounds-row-end-2 c = made_holds (row_made (goal.at.slice_bounds-row-end-2 
 pub interpolated_at-requires : goal.interpolated_at-requires
 interpolated_at-requires c =
     let v = (goal.at.interpolated_at-requires c).After-index_values_into in
-    lengths_same (start v) (made_length (row_made v))
+    lengths_same v.before.before.before.before.before.before.before (made_length (row_made v))
 
 pub slice_bounds-col-end-2 : goal.slice_bounds-col-end-2
-slice_bounds-col-end-2 c = made_holds (col_made (at-values (goal.at.slice_bounds-col-end-2 c).After-interpolated_at))
+slice_bounds-col-end-2 c = made_holds (col_made (goal.at.slice_bounds-col-end-2 c).After-index_values_into)
 
 pub interpolated_at-requires-2 : goal.interpolated_at-requires-2
 interpolated_at-requires-2 c =
-    let v = at-values (goal.at.interpolated_at-requires-2 c).After-interpolated_at in
-    lengths_same (start v) (made_length (col_made v))
+    let v = (goal.at.interpolated_at-requires-2 c).After-index_values_into in
+    lengths_same v.before.before.before.before.before.before.before (made_length (col_made v))
 
 pub slice_bounds-rowcol-end-2 : goal.slice_bounds-rowcol-end-2
-slice_bounds-rowcol-end-2 c = made_holds (rowcol_made (at-values (goal.at.slice_bounds-rowcol-end-2 c).After-interpolated_at))
+slice_bounds-rowcol-end-2 c = made_holds (rowcol_made (goal.at.slice_bounds-rowcol-end-2 c).After-index_values_into)
 
 pub interpolated_at-requires-3 : goal.interpolated_at-requires-3
 interpolated_at-requires-3 c =
-    let v = at-values (goal.at.interpolated_at-requires-3 c).After-interpolated_at in
-    lengths_same (start v) (made_length (rowcol_made v))
+    let v = (goal.at.interpolated_at-requires-3 c).After-index_values_into in
+    lengths_same v.before.before.before.before.before.before.before (made_length (rowcol_made v))
 
 pub slice_bounds-rowcolval-end-2 : goal.slice_bounds-rowcolval-end-2
-slice_bounds-rowcolval-end-2 c = made_holds (rowcolval_made (at-values (goal.at.slice_bounds-rowcolval-end-2 c).After-interpolated_at))
+slice_bounds-rowcolval-end-2 c = made_holds (rowcolval_made (goal.at.slice_bounds-rowcolval-end-2 c).After-index_values_into)
 
 pub interpolated_at-requires-4 : goal.interpolated_at-requires-4
 interpolated_at-requires-4 c =
-    let v = at-values (goal.at.interpolated_at-requires-4 c).After-interpolated_at in
-    lengths_same (start v) (made_length (rowcolval_made v))
+    let v = (goal.at.interpolated_at-requires-4 c).After-index_values_into in
+    lengths_same v.before.before.before.before.before.before.before (made_length (rowcolval_made v))
 
 pub returns : goal.returns
 returns c q K k M eR eC matrix y lagrange =
-    let r = (goal.at.returns c).After-interpolated_at in
-    let v = at-values r in
-    let s = start v in
+    let r = c in
+    let v = r.before.before.before.before.before.before.before.before.before.before.before.before in
+    let s = v.before.before.before.before.before.before.before in
     let a = s.args in
     let n : ℕ = count s in
     let e = K.value in
     let Q = known-qualifies K in
-    let sized : is_size n ≡ true = ap is_size s.pre.1.1.1 ∙ size_for_is_size _ in
+    let sized : is_size n ≡ true = ap is_size s.requires.places_len ∙ size_for_is_size _ in
     let f : Index (List (Elem q)) = index_values k a.entries.now n in
     let same : map_index (interpolate n) f ≡ index k M =
-    ap (λ (m : ℕ). map_index (interpolate m) (index_values k a.entries.now m)) s.pre.1.1.1
-    ∙ sym (index_by_words q k M a.entries.now s.pre.1.1.0 matrix) in
-    let made = v.index-values-into.ensures q K k eR eC
+    ap (λ (m : ℕ). map_index (interpolate m) (index_values k a.entries.now m)) s.requires.places_len
+    ∙ sym (index_by_words q k M a.entries.now s.requires.entry_words matrix) in
+    let made = v.index_values_into.ensures q K k eR eC
     ∙ ap (λ (m : ℕ). map_index words (index_values {q = q} k a.entries.now m)) (sym (lent_length 1024 (room s))) in
     let value : List (Elem q) → ℕ = λ l. (eval (interpolate n l) y).word in
     four_same

@@ -23,17 +23,7 @@ use Rattle.openings.specs.OpeningsGiven.{index_meaning}
 use Rattle.openings.proofs.OpeningLaws.{MadeIn, made_holds, made_length, made_is, made_list, index_back}
 use Rattle.openings.proofs.ValueLaws.{matrix-quotient-value}
 use Rattle.openings.proofs.matrix.matrix_at.Goals as goal
-use Rattle.openings.proofs.matrix.matrix_at.Goals.{After-lagrange_values_into, After-ratio_into, After-size_of-size, Start}
-
--- the start, from the size; this, from the Lagrange values; and these, from the ratio
-abbrev start : After-size_of-size → Start
-start c = c.before.before.before.before
-
-abbrev at_size : After-lagrange_values_into → After-size_of-size
-at_size c = c.before.before
-
-abbrev at_places : After-ratio_into → After-lagrange_values_into
-at_places c = c.before.before.before.before.before
+use Rattle.openings.proofs.matrix.matrix_at.Goals.{After-lagrange_values_into, After-ratio_into, After-size_of-size}
 
 room : (c : After-size_of-size) → c.size_of-size.result ≤ 1024
 room c = size_fits _ c.size_of-size.ensures
@@ -43,15 +33,15 @@ sized : (c : After-size_of-size) → is_size c.size_of-size.result ≡ true
 sized c = ap is_size c.size_of-size.ensures ∙ size_for_is_size _
 
 -- the Lagrange values and the ratio as they were made, and the ratio as it is read
-places_made : (c : After-lagrange_values_into) → MadeIn 1024 (at_size c).size_of-size.result c.lagrange_values_into.new.out
-places_made c = record { fits = room (at_size c); kept = c.lagrange_values_into.auto.out }
+places_made : (c : After-lagrange_values_into) → MadeIn 1024 c.size_of-size.result c.lagrange_values_into.new.out
+places_made c = record { fits = room c.before.before; kept = c.lagrange_values_into.auto.out }
 
-ratio_made : (c : After-ratio_into) → MadeIn 1024 (at_size (at_places c)).size_of-size.result c.ratio_into.new.out
-ratio_made c = record { fits = room (at_size (at_places c)); kept = c.ratio_into.auto.out }
+ratio_made : (c : After-ratio_into) → MadeIn 1024 (c.before.before.before.before.before.before.before).size_of-size.result c.ratio_into.new.out
+ratio_made c = record { fits = room (c.before.before.before.before.before.before.before); kept = c.ratio_into.auto.out }
 
 abbrev left : After-ratio_into → List ℕ
 left c =
-    let n = (at_size (at_places c)).size_of-size.result in
+    let n = (c.before.before.before.before.before.before.before).size_of-size.result in
     take n (returned 1024 n c.ratio_into.new.out)
 
 pub slice_bounds-places-end : goal.slice_bounds-places-end
@@ -61,7 +51,7 @@ pub lagrange_values_into-requires : goal.lagrange_values_into-requires
 lagrange_values_into-requires c =
     let n = (goal.at.lagrange_values_into-requires c).After-size_of-size in
     record {
-      lt_p = (start n).requires.lt_p;
+      lt_p = n.requires.lt_p;
       out_value = ap is_size (sym (lent_length 1024 (room n))) ∙ sized n;
     }
 
@@ -71,26 +61,26 @@ slice_bounds-places-end-2 c = made_holds (places_made (goal.at.slice_bounds-plac
 pub index_at-opened-requires : goal.index_at-opened-requires
 index_at-opened-requires c =
     let l = (goal.at.index_at-opened-requires c).After-lagrange_values_into in
-    let n = at_size l in
-    let h = (start n).pre in
+    let n = l in
+    let h = n.requires in
     record {
       lt_p = h.0;
       r_value = h.1.0;
       entry_words = h.1.1.0.words;
-      places_len = sym (made_length (places_made l)) ∙ n.type_size.ensures;
+      places_len = sym (made_length (places_made l)) ∙ n.size_of-size.ensures;
     }
 
 pub slice_bounds-ratio-end : goal.slice_bounds-ratio-end
-slice_bounds-ratio-end c = room (at_size (goal.at.slice_bounds-ratio-end c).After-lagrange_values_into)
+slice_bounds-ratio-end c = room (goal.at.slice_bounds-ratio-end c).After-size_of-size
 
 pub ratio_into-requires : goal.ratio_into-requires
 ratio_into-requires c =
-    let n = at_size (goal.at.ratio_into-requires c).After-lagrange_values_into in
-    let h = (start n).pre in
+    let n = (goal.at.ratio_into-requires c).After-size_of-size in
+    let h = n.requires in
     record {
       lt_p = h.0;
       entries_within = h.1.1.0;
-      out_len = sym (lent_length 1024 (room n)) ∙ n.type_size.ensures;
+      out_len = sym (lent_length 1024 (room n)) ∙ n.size_of-size.ensures;
     }
 
 pub slice_bounds-ratio-end-2 : goal.slice_bounds-ratio-end-2
@@ -99,20 +89,20 @@ slice_bounds-ratio-end-2 c = made_holds (ratio_made (goal.at.slice_bounds-ratio-
 pub parted_at-parts-requires : goal.parted_at-parts-requires
 parted_at-parts-requires c =
     let t = (goal.at.parted_at-parts-requires c).After-ratio_into in
-    let n = at_size (at_places t) in
+    let n = t in
     record {
-      p_nonzero = omega (arith, (start n).pre.0);
-      f_nonzero = omega (arith, made_length (ratio_made t), sized_positive _ n.type_size.ensures);
+      p_nonzero = omega (arith, n.requires.lt_p);
+      f_nonzero = omega (arith, made_length (ratio_made t), sized_positive _ n.size_of-size.ensures);
     }
 
 pub over_vanishing-requires : goal.over_vanishing-requires
 over_vanishing-requires c =
-    let n = at_size (at_places (goal.at.over_vanishing-requires c).After-ratio_into) in
-    let s = start n in
+    let n = (goal.at.over_vanishing-requires c).After-size_of-size in
+    let s = n in
     record {
-      lt_p = s.pre.0;
+      lt_p = s.requires.lt_p;
       n_value = sized n;
-      outside_domain = subst⁻¹ (λ (m : ℕ). OutsideDomain s.args.p m s.args.gamma) n.type_size.ensures s.pre.1.1.1;
+      outside_domain = subst⁻¹ (λ (m : ℕ). OutsideDomain s.args.p m s.args.gamma) n.size_of-size.ensures s.requires.outside_domain;
     }
 
 pub returns : goal.returns
@@ -122,16 +112,16 @@ returns c q k M G H L scaled =
     let parts = d in
     let t = parts.before.before.before.before.before in
     let i = t in
-    let l = at_places t in
-    let n = at_size l in
-    let a = (start n).args in
+    let l = t.before.before.before.before.before in
+    let n = l.before.before in
+    let a = n.args in
     let K = G.known in
     let v = K.value in
     let α : Elem q = of a.alpha in
     let β : Elem q = of a.beta in
     let γ : Elem q = of a.gamma in
     let f : Poly q = ratio k α β M in
-    let places = made_is (places_made l) ∙ l.lagrange-values-into.ensures q K
+    let places = made_is (places_made l) ∙ l.lagrange_values_into.ensures q K
     ∙ ap (λ (m : ℕ). words (lagrange_values m γ)) (sym (lent_length 1024 (room n)) ∙ made_length (places_made l)) in
     let indexed = i.index_at-opened.ensures q K k M G.rows G.columns G.matrix γ places in
     let read = made_list (ratio_made t) f (t.ratio_into.ensures q k M a.r a.c a.alpha a.beta G H L) in
@@ -145,5 +135,5 @@ returns c q k M G H L scaled =
           ∙ ap₂ (λ (w : Index (Elem q)) (x : Elem q). numerator_value (sizes_of k) α β w ⊖ denominator_value (sizes_of k) α β w ⊗ x)
           (index_back (index_meaning i.index_at-opened.result) (index_at (index k M) γ) indexed) whole
           ∙ matrix-quotient-value G.qualifies k (well_formed_at G H.well_formed) α β H.α-outside H.β-outside M γ
-          ∙ ap (λ (m : ℕ). eval (matrix_quotient k α β M) γ ⊗ vanishing m γ) (given_size G ∙ sym n.type_size.ensures));
+          ∙ ap (λ (m : ℕ). eval (matrix_quotient k α β M) γ ⊗ vanishing m γ) (given_size G ∙ sym n.size_of-size.ensures));
     }

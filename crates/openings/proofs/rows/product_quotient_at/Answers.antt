@@ -14,16 +14,12 @@ use Rattle.openings.proofs.WordValues.{products_of}
 use Rattle.openings.proofs.rows.product_quotient_at.Goals as goal
 use Rattle.openings.proofs.rows.product_quotient_at.Goals.{After-products_into, Start}
 
--- the start, from the products
-abbrev start : After-products_into → Start
-start c = c.before.before.before.before.before
-
 room : (s : Start) → s.args.n ≤ 1024
 room s = size_bound s.args.n s.requires.n_value.0
 
 -- the products as they were made
-made : (c : After-products_into) → MadeIn 1024 (start c).args.n c.products_into.new.out
-made c = record { fits = room (start c); kept = c.products_into.auto.out }
+made : (c : After-products_into) → MadeIn 1024 c.args.n c.products_into.new.out
+made c = record { fits = room c.before.before.before.before.before; kept = c.products_into.auto.out }
 
 pub slice_bounds-products-end : goal.slice_bounds-products-end
 slice_bounds-products-end c = room (goal.at.slice_bounds-products-end c).Start
@@ -43,10 +39,10 @@ slice_bounds-products-end-2 c = made_holds (made (goal.at.slice_bounds-products-
 pub interpolated_at-both-requires : goal.interpolated_at-both-requires
 interpolated_at-both-requires c =
     let m = (goal.at.interpolated_at-both-requires c).After-products_into in
-    let s = start m in
+    let s = m in
     record {
       p_nonzero = omega arith;
-      values_len = sym (made_length (made m)) ∙ sym s.pre.1.1.0;
+      values_len = sym (made_length (made m)) ∙ sym s.requires.lagrange_len.0;
     }
 
 pub returns : goal.returns
@@ -55,16 +51,16 @@ returns c q K lagrange h e =
     let second = third in
     let first = second in
     let m = first.before.before.before.before.before.before.before.before in
-    let s = start m in
+    let s = m in
     let a = s.args in
     let v = K.value in
     let Q = known-qualifies K in
     let y : Elem q = of a.y in
     let value : List (Elem q) → Elem q = λ f. eval (interpolate a.n f) y in
-    let left = of-result (value (map of a.left.now)) (first.interpolated_at-first.ensures q Q v a.n s.pre.1.0.0 y lagrange) in
-    let right = of-result (value (map of a.right.now)) (second.interpolated_at-second.ensures q Q v a.n s.pre.1.0.0 y lagrange) in
+    let left = of-result (value (map of a.left.now)) (first.interpolated_at-first.ensures q Q v a.n s.requires.n_value.0 y lagrange) in
+    let right = of-result (value (map of a.right.now)) (second.interpolated_at-second.ensures q Q v a.n s.requires.n_value.0 y lagrange) in
     let products : ℕ → List (Elem q) = λ n. products_of n a.left.now a.right.now in
-    let both = of-result (value _) (third.interpolated_at-both.ensures q Q v a.n s.pre.1.0.0 y lagrange)
+    let both = of-result (value _) (third.interpolated_at-both.ensures q Q v a.n s.requires.n_value.0 y lagrange)
     ∙ ap value (made_list (made m) (products a.n) (made_by_length (made m) products (m.products_into.ensures q v))) in
     let product = of-result (of {q = q} _ ⊗ of _) (c.multiply.ensures q v) ∙ ap₂ ◌⊗◌ left right in
     c.over_vanishing.ensures q K h (of-result (of {q = q} _ ⊖ of _) (c.subtract.ensures q v) ∙ ap₂ ◌⊖◌ product both ∙ e)

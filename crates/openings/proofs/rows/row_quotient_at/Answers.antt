@@ -20,22 +20,15 @@ use Rattle.openings.proofs.WordValues.{row-quotient_made}
 use Rattle.openings.proofs.rows.row_quotient_at.Goals as goal
 use Rattle.openings.proofs.rows.row_quotient_at.Goals.{After-row_sums, After-row_sums-2, Start}
 
--- the start, from the first sums; and these, from the second
-abbrev start : After-row_sums → Start
-start c = c.before.before.before.before.before.before
-
-abbrev first : After-row_sums-2 → After-row_sums
-first c = c.before.before.before
-
 room : (s : Start) → s.args.r ≤ 1024
 room s = size_bound s.args.r s.requires.r_value.0
 
 -- the rows' sums as they were made, and as they are read
-left_made : (c : After-row_sums) → MadeIn 1024 (start c).args.r c.row_sums.new.out
-left_made c = record { fits = room (start c); kept = c.row_sums.auto.out }
+left_made : (c : After-row_sums) → MadeIn 1024 c.args.r c.row_sums.new.out
+left_made c = record { fits = room c.before.before.before.before.before.before; kept = c.row_sums.auto.out }
 
-right_made : (c : After-row_sums-2) → MadeIn 1024 (start (first c)).args.r c.row_sums-2.new.out
-right_made c = record { fits = room (start (first c)); kept = c.row_sums-2.auto.out }
+right_made : (c : After-row_sums-2) → MadeIn 1024 (c.before.before.before.before.before.before.before.before.before).args.r c.row_sums-2.new.out
+right_made c = record { fits = room (c.before.before.before.before.before.before.before.before.before); kept = c.row_sums-2.auto.out }
 
 abbrev part : ℕ → List ℕ → List ℕ
 part n l = take n (returned 1024 n l)
@@ -52,18 +45,18 @@ row_sums-requires c =
     }
 
 pub slice_bounds-right-end : goal.slice_bounds-right-end
-slice_bounds-right-end c = room (start (goal.at.slice_bounds-right-end c).After-row_sums)
+slice_bounds-right-end c = room (goal.at.slice_bounds-right-end c).Start
 
 pub row_sums-requires-2 : goal.row_sums-requires-2
 row_sums-requires-2 c =
-    let s = start (goal.at.row_sums-requires-2 c).After-row_sums in
+    let s = (goal.at.row_sums-requires-2 c).Start in
     record {
       p_nonzero = omega arith;
-      all = rows-within (lent_length 1024 (room s)) (length s.args.z.now) (entries_of s.args.eb.now) s.pre.1.1.1.1;
+      all = rows-within (lent_length 1024 (room s)) (length s.args.z.now) (entries_of s.args.eb.now) s.requires.all.1;
     }
 
 pub slice_bounds-left-end-2 : goal.slice_bounds-left-end-2
-slice_bounds-left-end-2 c = made_holds (left_made (first (goal.at.slice_bounds-left-end-2 c).After-row_sums-2))
+slice_bounds-left-end-2 c = made_holds (left_made (goal.at.slice_bounds-left-end-2 c).After-row_sums)
 
 pub slice_bounds-right-end-2 : goal.slice_bounds-right-end-2
 slice_bounds-right-end-2 c = made_holds (right_made (goal.at.slice_bounds-right-end-2 c).After-row_sums-2)
@@ -71,23 +64,23 @@ slice_bounds-right-end-2 c = made_holds (right_made (goal.at.slice_bounds-right-
 pub product_quotient_at-requires : goal.product_quotient_at-requires
 product_quotient_at-requires c =
     let b = (goal.at.product_quotient_at-requires c).After-row_sums-2 in
-    let s = start (first b) in
+    let s = b in
     record {
-      lt_p = s.pre.0;
-      n_value = s.pre.1.0;
-      lagrange_len = (s.pre.1.1.0, sym (made_length (left_made (first b))), sym (made_length (right_made b)));
+      lt_p = s.requires.lt_p;
+      n_value = s.requires.r_value;
+      lagrange_len = (s.requires.rows_len, sym (made_length (left_made b.before.before.before)), sym (made_length (right_made b)));
     }
 
 pub returns : goal.returns
 returns c q K lagrange k W eR matrix-a matrix-b ẑ on =
     let b = (goal.at.returns c).After-row_sums-2 in
-    let l = first b in
-    let a = (start l).args in
+    let l = b.before.before.before in
+    let a = l.args in
     let z : List (Elem q) = map of a.z.now in
     c.product_quotient_at.ensures q K lagrange (eval (row_quotient k ẑ) (of a.alpha))
     (row-quotient_made (known-qualifies K) k (known_formed K W) eR ẑ z on
-    (part a.r l.row-sums.last.1.1.1.0) (part a.r b.row_sums-2.new.out)
+    (part a.r l.row_sums.last.1.1.1.0) (part a.r b.row_sums-2.new.out)
     (made_list (left_made l) (tabulate a.r (row_sum k A z))
-    (made_by_length (left_made l) (λ n. tabulate n (row_sum k A z)) (l.row-sums.ensures q K.value k A matrix-a)))
+    (made_by_length (left_made l) (λ n. tabulate n (row_sum k A z)) (l.row_sums.ensures q K.value k A matrix-a)))
     (made_list (right_made b) (tabulate a.r (row_sum k B z))
     (made_by_length (right_made b) (λ n. tabulate n (row_sum k B z)) (b.row_sums-2.ensures q K.value k B matrix-b))) (of a.alpha))

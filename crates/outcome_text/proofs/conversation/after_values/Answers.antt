@@ -8,11 +8,6 @@ use Rattle.shared.specs.Meanings.{three}
 use Rattle.verifier.specs.Session.{session_meaning}
 use Rattle.report.specs.Stages.{after_values}
 use Rattle.outcome_text.proofs.conversation.after_values.Goals as goal
-use Rattle.outcome_text.proofs.conversation.after_values.Goals.{After-beta, After-message_lengths-due}
-
--- the lengths due, from the session after β
-abbrev at-lengths : After-beta → After-message_lengths-due
-at-lengths c = c.before.before.before
 
 pub overflow_cast-due : goal.overflow_cast-due
 unfolding lengths
@@ -29,28 +24,28 @@ overflow_cast-due-2 c =
 pub overflow_cast-remainders : goal.overflow_cast-remainders
 unfolding lengths
 overflow_cast-remainders c =
-    let n = at-lengths (goal.at.overflow_cast-remainders c).After-beta in
-    omega (arith, n.before.good, ap (λ (l : MessageLengths). l.matrix_remainders.a) n.message-lengths.ensures)
+    let n = c in
+    omega (arith, n.well_formed, ap (λ (l : MessageLengths). l.matrix_remainders.a) n.message_lengths-due.ensures)
 
 pub overflow_cast-remainders-2 : goal.overflow_cast-remainders-2
 unfolding lengths
 overflow_cast-remainders-2 c =
-    let n = at-lengths (goal.at.overflow_cast-remainders-2 c).After-beta in
-    omega (arith, n.before.good, ap (λ (l : MessageLengths). l.matrix_remainders.b) n.message-lengths.ensures)
+    let n = c in
+    omega (arith, n.well_formed, ap (λ (l : MessageLengths). l.matrix_remainders.b) n.message_lengths-due.ensures)
 
 pub overflow_cast-remainders-3 : goal.overflow_cast-remainders-3
 unfolding lengths
 overflow_cast-remainders-3 c =
-    let n = at-lengths (goal.at.overflow_cast-remainders-3 c).After-beta in
-    omega (arith, n.before.good, ap (λ (l : MessageLengths). l.matrix_remainders.c) n.message-lengths.ensures)
+    let n = c in
+    omega (arith, n.well_formed, ap (λ (l : MessageLengths). l.matrix_remainders.c) n.message_lengths-due.ensures)
 
 pub returns : goal.returns
 unfolding after_values
 returns c =
-    let at-beta = (goal.at.returns c).After-beta in
-    let n = at-lengths at-beta in
-    let a = n.before.args in
-    let table = n.message-lengths.ensures in
+    let at-beta = c in
+    let n = at-beta in
+    let a = n.args in
+    let table = n.message_lengths-due.ensures in
     let next : Stepped → Session = λ s. s.session in
     let third =
     ap next

@@ -14,11 +14,7 @@ use Rattle.report.specs.Stages.{job_drawn}
 use Rattle.outcome_text.proofs.JobLaws.{judged-refused, refused_text_lem, free_text}
 use borrow.Author.Rules.{rules}
 use Rattle.outcome_text.proofs.whole.put_job.Goals as goal
-use Rattle.outcome_text.proofs.whole.put_job.Goals.{After-openings-opened, Start}
-
--- what is given, from the openings, and their refusal
-abbrev start : After-openings-opened → Start
-start c = c.before.before.before.before.before.before.before.before.before
+use Rattle.outcome_text.proofs.whole.put_job.Goals.{Start}
 
 abbrev input : Start → ProverInput
 input s =
@@ -33,9 +29,9 @@ refusal s =
 pub put_proof-requires : goal.put_proof-requires
 unfolding openings_call
 put_proof-requires c =
-    let at-openings = (goal.at.put_proof-requires c).After-openings-opened in
+    let at-openings = (goal.at.put_proof-requires c).Start in
     let found =
-    judged-done (refusal (start at-openings)) _
+    judged-done (refusal at-openings) _
     (sym at-openings.openings-opened.ensures ∙ ap openings_meaning c.opened-in-Value-1.given.1) in
     record {
       free_job = record { none-refused = found.0 };
@@ -46,19 +42,19 @@ pub returns-in-Refused : goal.returns-in-Refused
 unfolding openings_call
 returns-in-Refused c =
     let at-opened = c in
-    let at-openings = at-opened.before.before.before.before.before.before.before in
-    let s = start at-openings in
+    let at-openings = at-opened in
+    let s = at-openings.before.before.before.before.before.before.before.before.before.before.before.before.before.before.before.before in
     let found =
     judged-refused (refusal s) _ (sym at-openings.openings-opened.ensures ∙ ap openings_meaning at-opened.opened-1.given.1) in
-    written_as (refused_text_lem (input s) s.args.drawn s.pre.0 found) c.put_refused.ensures.written
+    written_as (refused_text_lem (input s) s.args.drawn s.requires.ec_value found) c.put_refused.ensures.written
 
 pub returns-in-Value : goal.returns-in-Value
 unfolding openings_call true_openings proof
 returns-in-Value c =
     let at-opened2 = c in
-    let at-openings = at-opened2.before.before.before.before.before.before.before in
-    let s = start at-openings in
+    let at-openings = at-opened2 in
+    let s = at-openings.before.before.before.before.before.before.before.before.before.before.before.before.before.before.before.before in
     let found =
     judged-done (refusal s) _ (sym at-openings.openings-opened.ensures ∙ ap openings_meaning at-opened2.opened-in-Value-1.given.1) in
-    written_as (free_text (input s) s.args.drawn s.pre.0 _ _ (record { none-refused = found.0 }) (sym found.1))
+    written_as (free_text (input s) s.args.drawn s.requires.ec_value _ _ (record { none-refused = found.0 }) (sym found.1))
     c.put_proof.ensures.written

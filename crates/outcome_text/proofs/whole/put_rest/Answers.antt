@@ -13,19 +13,12 @@ use Rattle.report.proofs.PrintedLaws.{printed_then, printed_within, printed_as, 
 use Rattle.report.proofs.Bounds.{fitting}
 use Rattle.report.proofs.RoundLaws.{fourth_free, fifth_free}
 use Rattle.outcome_text.proofs.whole.put_rest.Goals as goal
-use Rattle.outcome_text.proofs.whole.put_rest.Goals.{After-put_fifth-last, After-put_fourth-fourth, Start}
+use Rattle.outcome_text.proofs.whole.put_rest.Goals.{Start}
 
 abbrev input : Start → ProverInput
 input s =
     let a = s.args in
     prover_input a.r a.c a.x a.ea.now a.eb.now a.ec.now a.z.now a.mask a.m.now
-
--- what is given, from round 4, and round 4 from round 5
-abbrev start : After-put_fourth-fourth → Start
-start c = c.before.before.before.before.before.before.before.before.before
-
-abbrev at-fourth : After-put_fifth-last → After-put_fourth-fourth
-at-fourth c = c.before.before.before.before.before.before
 
 pub put_fourth-fourth-requires : goal.put_fourth-fourth-requires
 put_fourth-fourth-requires c =
@@ -37,38 +30,38 @@ put_fourth-fourth-requires c =
 
 pub put_fifth-last-requires : goal.put_fifth-last-requires
 put_fifth-last-requires c =
-    let four = (goal.at.put_fifth-last-requires c).After-put_fourth-fourth in
-    let s = start four in
+    let four = c in
+    let s = four.before.before.before.before.before.before.before.before.before.before.before.before.before.before in
     let f = four.put_fourth-fourth.ensures.printed in
     record {
-      free = fifth_free (input s) s.args.drawn s.pre.0;
-      most_line_in_bounds = omega (arith, s.pre.1, printed_place f, printed_length f);
+      free = fifth_free (input s) s.args.drawn s.requires.free_job;
+      most_line_in_bounds = omega (arith, s.requires.most_rest_in_bounds, printed_place f, printed_length f);
     }
 
 pub put_last-requires : goal.put_last-requires
 unfolding sizes_of circuit_of
 put_last-requires c =
     let k = c.sizes_of-s in
-    let five = (goal.at.put_last-requires c).After-put_fifth-last in
-    let s = start (at-fourth five) in
-    let f = (at-fourth five).put_fourth-fourth.ensures.printed in
+    let five = c in
+    let s = five.before.before.before.before.before.before.before.before.before.before.before.before.before.before.before.before.before.before.before.before in
+    let f = five.put_fourth-fourth.ensures.printed in
     let h = five.put_fifth-last.ensures in
-    let F = fitting (input s) s.pre.0 in
+    let F = fitting (input s) s.requires.free_job in
     let columns : k.result.c ≡ s.args.c = ap (λ (t : Sizes). t.|C|) k.ensures in
     let public : k.result.x ≡ s.args.x = ap (λ (t : Sizes). t.|X|) k.ensures in record {
       c_value = (ap is_size columns ∙ C-fits F, ap is_size public ∙ X-fits F, omega (arith, columns, public, X-below F), F.z-length ∙ sym columns);
-      most_last_in_bounds = omega (arith, s.pre.1, printed_place f, printed_length f, printed_place h, printed_length h);
+      most_last_in_bounds = omega (arith, s.requires.most_rest_in_bounds, printed_place f, printed_length f, printed_place h, printed_length h);
     }
 
 pub returns : goal.returns
 unfolding rest_text
 returns c =
     let at-sizes = c in
-    let five = at-sizes.before.before.before.before.before.before.before.before in
-    let s = start (at-fourth five) in
+    let five = at-sizes in
+    let s = five.before.before.before.before.before.before.before.before.before.before.before.before.before.before.before.before.before.before.before.before.before.before.before in
     let a = s.args in
     let d = a.drawn in
-    let f = (at-fourth five).put_fourth-fourth.ensures in
+    let f = five.put_fourth-fourth.ensures in
     let k = at-sizes.sizes_of-s.ensures in
     let whole = printed_then f.1 (printed_then five.put_fifth-last.ensures c.put_last.ensures) in
     printed_within

@@ -9,17 +9,10 @@ use Rattle.protocol.specs.Calls.{entries_of}
 use Rattle.prover.specs.EntrySums.{column_total}
 use Rattle.prover.proofs.LineLaws.{then, gather, columns-within}
 use Rattle.prover.proofs.line.add_weights.Goals as goal
-use Rattle.prover.proofs.line.add_weights.Goals.{After-add_column_sums, After-add_column_sums-2, After-add_column_sums-3, Start}
-
--- the start, from the first sums; the places of the first two sums, from the third
-abbrev start : After-add_column_sums → Start
-start c = c.before.before.before.before.before.before.before
-
-abbrev at_b : After-add_column_sums-3 → After-add_column_sums-2
-at_b c = c.before.before.before.before
+use Rattle.prover.proofs.line.add_weights.Goals.{After-add_column_sums, After-add_column_sums-3}
 
 abbrev at_a : After-add_column_sums-3 → After-add_column_sums
-at_a c = (at_b c).before.before.before.before
+at_a c = c.before.before.before.before.before.before.before.before
 
 pub add_column_sums-requires : goal.add_column_sums-requires
 add_column_sums-requires c =
@@ -31,30 +24,30 @@ add_column_sums-requires c =
 
 pub add_column_sums-requires-2 : goal.add_column_sums-requires-2
 add_column_sums-requires-2 c =
-    let d = (goal.at.add_column_sums-requires-2 c).After-add_column_sums in
-    let s = start d in
+    let d = c in
+    let s = d in
     let kept = d.add_column_sums.auto.out in
     record {
-      p_nonzero = s.pre.0;
-      all = columns-within (length s.args.rows.now) (entries_of s.args.eb.now) kept s.pre.1.in_b;
+      p_nonzero = s.requires.p_nonzero;
+      all = columns-within (length s.args.rows.now) (entries_of s.args.eb.now) kept s.requires.each_within.in_b;
     }
 
 pub add_column_sums-requires-3 : goal.add_column_sums-requires-3
 add_column_sums-requires-3 c =
     let e = c in
-    let d = e.before.before.before.before.before.before.before in
-    let s = start d in
+    let d = e in
+    let s = d in
     let kept = e.add_column_sums-2.auto.out ∙ d.add_column_sums.auto.out in
     record {
-      p_nonzero = s.pre.0;
-      all = columns-within (length s.args.rows.now) (entries_of s.args.ec.now) kept s.pre.1.in_c;
+      p_nonzero = s.requires.p_nonzero;
+      all = columns-within (length s.args.rows.now) (entries_of s.args.ec.now) kept s.requires.each_within.in_c;
     }
 
 pub shape_of-out : goal.shape_of-out
 shape_of-out c =
     let last = (goal.at.shape_of-out c).After-add_column_sums-3 in
     last.add_column_sums-3.auto.out
-    ∙ (at_b last).add_column_sums-2.auto.out
+    ∙ last.add_column_sums-2.auto.out
     ∙ (at_a last).add_column_sums.auto.out
 
 pub returns : goal.returns
@@ -63,7 +56,7 @@ returns c q e =
     let last = (goal.at.returns c).After-add_column_sums-3 in
     let a = (start (at_a last)).args in
     let first = (at_a last).add_column_sums in
-    let second = (at_b last).add_column_sums-2 in
+    let second = last.add_column_sums-2 in
     let third = last.add_column_sums-3 in
     let n : ℕ = length a.out.now in
     let rows : List (Elem q) = map of a.rows.now in

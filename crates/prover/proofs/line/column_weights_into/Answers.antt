@@ -17,10 +17,6 @@ use Rattle.prover.proofs.line.column_weights_into.Goals.{After-lagrange_values_i
 bound : (c : Start) → c.args.r ≤ 1024
 bound c = size_bound c.args.r c.requires.r_value
 
--- the start, from the fill with the rows' values, and the words that it leaves
-abbrev start : After-lagrange_values_into → Start
-start c = c.before.before.before.before.before.before
-
 abbrev left : After-lagrange_values_into → List ℕ
 left c = c.lagrange_values_into.new.out
 
@@ -38,21 +34,21 @@ lagrange_values_into-requires c =
 pub slice_bounds-rows-end-2 : goal.slice_bounds-rows-end-2
 slice_bounds-rows-end-2 c =
     let r = (goal.at.slice_bounds-rows-end-2 c).After-lagrange_values_into in
-    filled_within _ _ (bound (start r)) (left r) r.lagrange_values_into.auto.out
+    filled_within _ _ (bound r.before.before.before.before.before.before) (left r) r.lagrange_values_into.auto.out
 
 pub weights_from-requires : goal.weights_from-requires
 weights_from-requires c =
     let r = (goal.at.weights_from-requires c).After-lagrange_values_into in
-    let s = start r in
+    let s = r.before.before.before.before.before.before in
     record {
       p_nonzero = omega arith;
-      each_within = each_within (filled_length _ _ (bound s) (left r) r.lagrange_values_into.auto.out) refl s.pre.1.1;
+      each_within = each_within (filled_length _ _ (bound s) (left r) r.lagrange_values_into.auto.out) refl s.requires.each_within;
     }
 
 pub returns : goal.returns
 returns c q known k eR matrices =
     let r = (goal.at.returns c).After-lagrange_values_into in
-    let s = start r in
+    let s = r.before.before.before.before.before.before in
     let a = s.args in
     let α : Elem q = of a.alpha in
     let long = filled_length _ _ (bound s) (left r) r.lagrange_values_into.auto.out in

@@ -25,7 +25,7 @@ use Rattle.prover.proofs.ProductLaws.{factor_made, rest_made, quotient_made}
 use Rattle.prover.proofs.LineLaws.{each_within}
 use Rattle.prover.proofs.LineParts.{columns, line-remainder_made, line-quotient_made}
 use Rattle.prover.proofs.line.line_into.Goals as goal
-use Rattle.prover.proofs.line.line_into.Goals.{After-column_weights_into, After-divide_product_into, After-quotient_from, After-remainder_from, Start}
+use Rattle.prover.proofs.line.line_into.Goals.{After-column_weights_into, After-divide_product_into, Start}
 
 C-size : (c : Start) → is_size c.args.c ≡ true
 C-size c = C-fits c.requires.fits
@@ -38,20 +38,6 @@ bound c = size_bound c.args.c (C-size c)
 
 short : (c : Start) → c.args.c - 1 ≤ 1024
 short c = omega (arith, bound c)
-
--- the start, from the fill with the weights' values; the place of this fill, from the product; the place of the product, from g1; the
--- place of g1, from h1
-abbrev start : After-column_weights_into → Start
-start c = c.before.before.before.before.before.before.before.before.before
-
-abbrev at-values : After-divide_product_into → After-column_weights_into
-at-values c = c.before.before.before.before.before.before
-
-abbrev at-product : After-remainder_from → After-divide_product_into
-at-product c = c.before.before.before.before.before.before
-
-abbrev at-remainder : After-quotient_from → After-remainder_from
-at-remainder c = c.before.before.before.before.before.before
 
 -- the words that they leave
 abbrev values : After-column_weights_into → List ℕ
@@ -68,21 +54,21 @@ high c = c.divide_product_into.new.out
 
 -- the lengths of the parts that are lent again
 values-whole : (c : After-column_weights_into)
-    → (start c).args.c ≡ length (take (start c).args.c (returned 1024 (start c).args.c (values c)))
-values-whole c = back_length 1024 (bound (start c)) (values c) c.column_weights_into.auto.out
+    → c.args.c ≡ length (take c.args.c (returned 1024 c.args.c (values c)))
+values-whole c = back_length 1024 (bound c.before.before.before.before.before.before.before.before.before) (values c) c.column_weights_into.auto.out
 
 weights_whole : (c : After-divide_product_into)
-    → (start (at-values c)).args.c ≡ length (take (start (at-values c)).args.c (returned 1024 (start (at-values c)).args.c (weights c)))
-weights_whole c = back_length 1024 (bound (start (at-values c))) (weights c) c.divide_product_into.auto.factor
+    → (c.before.before.before.before.before.before.before.before.before.before.before.before.before.before.before).args.c ≡ length (take (c.before.before.before.before.before.before.before.before.before.before.before.before.before.before.before).args.c (returned 1024 (c.before.before.before.before.before.before.before.before.before.before.before.before.before.before.before).args.c (weights c)))
+weights_whole c = back_length 1024 (bound (c.before.before.before.before.before.before.before.before.before.before.before.before.before.before.before)) (weights c) c.divide_product_into.auto.factor
 
 rest-whole : (c : After-divide_product_into)
-    → (start (at-values c)).args.c ≡ length (take (start (at-values c)).args.c (returned 1024 (start (at-values c)).args.c (rest c)))
-rest-whole c = back_length 1024 (bound (start (at-values c))) (rest c) c.divide_product_into.auto.rest
+    → (c.before.before.before.before.before.before.before.before.before.before.before.before.before.before.before).args.c ≡ length (take (c.before.before.before.before.before.before.before.before.before.before.before.before.before.before.before).args.c (returned 1024 (c.before.before.before.before.before.before.before.before.before.before.before.before.before.before.before).args.c (rest c)))
+rest-whole c = back_length 1024 (bound (c.before.before.before.before.before.before.before.before.before.before.before.before.before.before.before)) (rest c) c.divide_product_into.auto.rest
 
 high_whole : (c : After-divide_product_into)
-    → (start (at-values c)).args.c - 1
-    ≡ length (take ((start (at-values c)).args.c - 1) (returned 1024 ((start (at-values c)).args.c - 1) (high c)))
-high_whole c = back_length 1024 (short (start (at-values c))) (high c) c.divide_product_into.auto.out
+    → (c.before.before.before.before.before.before.before.before.before.before.before.before.before.before.before).args.c - 1
+    ≡ length (take ((c.before.before.before.before.before.before.before.before.before.before.before.before.before.before.before).args.c - 1) (returned 1024 ((c.before.before.before.before.before.before.before.before.before.before.before.before.before.before.before).args.c - 1) (high c)))
+high_whole c = back_length 1024 (short (c.before.before.before.before.before.before.before.before.before.before.before.before.before.before.before)) (high c) c.divide_product_into.auto.out
 
 pub overflow_sub-l : goal.overflow_sub-l
 overflow_sub-l c = omega (arith, positive (goal.at.overflow_sub-l c).Start)
@@ -103,70 +89,70 @@ column_weights_into-requires c =
 pub slice_bounds-values-end-2 : goal.slice_bounds-values-end-2
 slice_bounds-values-end-2 c =
     let v = (goal.at.slice_bounds-values-end-2 c).After-column_weights_into in
-    back_holds 1024 (bound (start v)) (values v) v.column_weights_into.auto.out
+    back_holds 1024 (bound v.before.before.before.before.before.before.before.before.before) (values v) v.column_weights_into.auto.out
 
 pub slice_bounds-weights-end : goal.slice_bounds-weights-end
-slice_bounds-weights-end c = bound (start (goal.at.slice_bounds-weights-end c).After-column_weights_into)
+slice_bounds-weights-end c = bound (goal.at.slice_bounds-weights-end c).Start
 
 pub slice_bounds-rest-end : goal.slice_bounds-rest-end
-slice_bounds-rest-end c = bound (start (goal.at.slice_bounds-rest-end c).After-column_weights_into)
+slice_bounds-rest-end c = bound (goal.at.slice_bounds-rest-end c).Start
 
 pub slice_bounds-high-end : goal.slice_bounds-high-end
-slice_bounds-high-end c = short (start (goal.at.slice_bounds-high-end c).After-column_weights_into)
+slice_bounds-high-end c = short (goal.at.slice_bounds-high-end c).Start
 
 pub divide_product_into-requires : goal.divide_product_into-requires
 divide_product_into-requires c =
     let v = (goal.at.divide_product_into-requires c).After-column_weights_into in
-    let s = start v in
+    let s = v.before.before.before.before.before.before.before.before.before in
     let n : ℕ = s.args.c in
     let left = values-whole v in
     let lent = sym (lent_length 1024 (bound s)) ∙ left in
     let last : n - 1 + 1 ≡ n = omega (arith, positive s) in record {
-      modulus = s.pre.0;
+      modulus = s.requires.modulus;
       left_value = ap is_size (sym left) ∙ C-size s;
-      right_len = (s.pre.1.0.z-length ∙ left, lent);
+      right_len = (s.requires.fits.z-length ∙ left, lent);
       rest_len = (lent, ap (λ (k : ℕ). k + 1) (sym (lent_length 1024 (short s))) ∙ last ∙ left);
     }
 
 pub slice_bounds-rest-end-2 : goal.slice_bounds-rest-end-2
 slice_bounds-rest-end-2 c =
     let d = (goal.at.slice_bounds-rest-end-2 c).After-divide_product_into in
-    back_holds 1024 (bound (start (at-values d))) (rest d) d.divide_product_into.auto.rest
+    back_holds 1024 (bound (d.before.before.before.before.before.before.before.before.before.before.before.before.before.before.before)) (rest d) d.divide_product_into.auto.rest
 
 pub remainder_from-requires : goal.remainder_from-requires
 remainder_from-requires c =
     let d = (goal.at.remainder_from-requires c).After-divide_product_into in
-    let s = start (at-values d) in
+    let s = d.before.before.before.before.before.before.before.before.before.before.before.before.before.before.before in
     let size : length s.args.remainder.now + 1 ≡ s.args.c = omega (arith, positive s) in
     record {
       p_nonzero = omega arith;
-      rest_len = (sym (size ∙ rest-whole d), s.pre.1.0.m-length ∙ ap (λ (n : ℕ). 2 * n) (rest-whole d));
+      rest_len = (sym (size ∙ rest-whole d), s.requires.fits.m-length ∙ ap (λ (n : ℕ). 2 * n) (rest-whole d));
     }
 
 pub slice_bounds-weights-end-2 : goal.slice_bounds-weights-end-2
 slice_bounds-weights-end-2 c =
-    let d = at-product (goal.at.slice_bounds-weights-end-2 c).After-remainder_from in
-    back_holds 1024 (bound (start (at-values d))) (weights d) d.divide-product-into.kept.1.1.1.0
+    let d = (goal.at.slice_bounds-weights-end-2 c).After-divide_product_into in
+    back_holds 1024 (bound (d.before.before.before.before.before.before.before.before.before.before.before.before.before.before.before)) (weights d) d.divide_product_into.kept.1.1.1.0
 
 pub slice_bounds-high-end-2 : goal.slice_bounds-high-end-2
 slice_bounds-high-end-2 c =
-    let d = at-product (goal.at.slice_bounds-high-end-2 c).After-remainder_from in
-    back_holds 1024 (short (start (at-values d))) (high d) d.divide-product-into.kept.1.1.1.1.1.0
+    let d = (goal.at.slice_bounds-high-end-2 c).After-divide_product_into in
+    back_holds 1024 (short (d.before.before.before.before.before.before.before.before.before.before.before.before.before.before.before)) (high d) d.divide_product_into.kept.1.1.1.1.1.0
 
 pub quotient_from-requires : goal.quotient_from-requires
 quotient_from-requires c =
-    let d = at-product (goal.at.quotient_from-requires c).After-remainder_from in
-    let s = start (at-values d) in
-    let size : length s.args.quotient.now ≡ s.args.c = s.pre.1.1.1 in
+    let d = (goal.at.quotient_from-requires c).After-divide_product_into in
+    let s = d.before.before.before.before.before.before.before.before.before.before.before.before.before.before.before in
+    let size : length s.args.quotient.now ≡ s.args.c = s.requires.remainder_len.1 in
     let above : 0 < length s.args.quotient.now = omega (arith, positive s) in
     let below : s.args.c - 1 ≤ length s.args.quotient.now = omega arith in record {
       p_nonzero = omega arith;
       out_nonzero = (above, sym (size ∙ weights_whole d), part_order (high_whole d) below);
-      m_len = s.pre.1.0.m-length ∙ ap (λ (n : ℕ). 2 * n) (sym size);
+      m_len = s.requires.fits.m-length ∙ ap (λ (n : ℕ). 2 * n) (sym size);
     }
 
 pub shape_of-remainder : goal.shape_of-remainder
-shape_of-remainder c = (at-remainder (goal.at.shape_of-remainder c).After-quotient_from).remainder_from.auto.out
+shape_of-remainder c = c.remainder_from.auto.out
 
 pub shape_of-quotient : goal.shape_of-quotient
 shape_of-quotient c = c.quotient_from.auto.out
@@ -174,13 +160,13 @@ shape_of-quotient c = c.quotient_from.auto.out
 pub returns : goal.returns
 unfolding circuit_of
 returns c q known Q =
-    let last = (goal.at.returns c).After-quotient_from in
-    let first = at-remainder last in
-    let d = at-product first in
-    let v = at-values d in
-    let s = start v in
+    let last = c in
+    let first = last in
+    let d = first.before.before.before.before.before.before.before.before.before.before.before.before.before.before in
+    let v = d.before.before.before.before.before.before in
+    let s = v.before.before.before.before.before.before.before.before.before in
     let a = s.args in
-    let F = s.pre.1.0 in
+    let F = s.requires.fits in
     let n : ℕ = a.c in
     let k : Circuit = circuit_of (given a.r a.c a.x a.ea.now a.eb.now a.ec.now) in
     let W : WellFormed q.p k = known_formed known F.well_formed in
@@ -191,21 +177,21 @@ returns c q known Q =
     let η : Three (Elem q) = map_three of (three a.eta) in
     let f : ℕ → Elem q = λ j. weighted η (each (λ M. column_sum k M α j)) in
     let P : Poly q = columns Q k W z (of a.mask) m m-length α η in
-    let divided = d.divide-product-into.ensures q known in
+    let divided = d.divide_product_into.ensures q known in
     let left : map of (take n (returned 1024 n (values v))) ≡ tabulate n f =
-    ap (map of) (back_is 1024 (bound s) (values v) v.column-weights-into.kept.1.1.1.1.1.1.1.0)
-    ∙ v.column-weights-into.ensures q known k refl refl ∙ ap (λ (l : ℕ). tabulate l f) (sym (lent_length 1024 (bound s))) in
+    ap (map of) (back_is 1024 (bound s) (values v) v.column_weights_into.kept.1.1.1.1.1.1.1.0)
+    ∙ v.column_weights_into.ensures q known k refl refl ∙ ap (λ (l : ℕ). tabulate l f) (sym (lent_length 1024 (bound s))) in
     let size = sym (values-whole v) in
     let is-rest : map of (take n (returned 1024 n (rest d))) ≡ remainder n (P ⊠ interpolate n z) =
-    back_list 1024 (bound s) (rest d) d.divide-product-into.kept.1.1.1.1.0 _ (rest_made divided size left refl) in
+    back_list 1024 (bound s) (rest d) d.divide_product_into.kept.1.1.1.1.0 _ (rest_made divided size left refl) in
     let is-weights : map of (take n (returned 1024 n (weights d))) ≡ P =
-    back_list 1024 (bound s) (weights d) d.divide-product-into.kept.1.1.1.0 _ (factor_made divided size left refl) in
+    back_list 1024 (bound s) (weights d) d.divide_product_into.kept.1.1.1.0 _ (factor_made divided size left refl) in
     let is-high : map of (take (n - 1) (returned 1024 (n - 1) (high d))) ≡ quotient n (P ⊠ interpolate n z) =
-    back_list 1024 (short s) (high d) d.divide-product-into.kept.1.1.1.1.1.0 _ (quotient_made divided size left refl) in (
-      first.remainder-from.ensures q known.value
+    back_list 1024 (short s) (high d) d.divide_product_into.kept.1.1.1.1.1.0 _ (quotient_made divided size left refl) in (
+      first.remainder_from.ensures q known.value
           ∙ (λ t. words (tail (remainder (sym (rest-whole d) t) m ⊞ is-rest t)))
           ∙ ap words (line-remainder_made Q k W z (of a.mask) m m-length α η),
       last.quotient_from.ensures q known.value
-          ∙ (λ t. words (quotient (s.pre.1.1.1 t) m ⊞ (of a.mask · is-weights t ⊞ is-high t)))
+          ∙ (λ t. words (quotient (s.requires.remainder_len.1 t) m ⊞ (of a.mask · is-weights t ⊞ is-high t)))
           ∙ ap words (line-quotient_made Q k W z (of a.mask) m m-length α η),
     )

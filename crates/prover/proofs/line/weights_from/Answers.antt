@@ -7,25 +7,20 @@ use Rattle.protocol.specs.Three.{map_three}
 use Rattle.shared.specs.Meanings.{three}
 use Rattle.prover.proofs.LineLaws.{weights_made, each_within}
 use Rattle.prover.proofs.line.weights_from.Goals as goal
-use Rattle.prover.proofs.line.weights_from.Goals.{After-clear, Start}
-
--- the start, from the zeros
-abbrev start : After-clear → Start
-start c = c.before.before.before.before.before.before.before
 
 pub add_weights-requires : goal.add_weights-requires
 add_weights-requires c =
-    let d = (goal.at.add_weights-requires c).After-clear in
+    let d = c in
     record {
       p_nonzero = omega arith;
-      each_within = each_within refl (sym d.clear.auto.out) (start d).requires.each_within;
+      each_within = each_within refl (sym d.clear.auto.out) d.requires.each_within;
     }
 
 pub returns : goal.returns
 returns c q e k eR matrices α made =
-    let d = (goal.at.returns c).After-clear in
-    let s = start d in
+    let d = c in
+    let s = d in
     let a = s.args in
     c.add_weights.ensures q e
-    ∙ weights_made q k (length a.out.now) eR α (map_three of (three a.eta)) a.ea.now a.eb.now a.ec.now matrices s.pre.1
+    ∙ weights_made q k (length a.out.now) eR α (map_three of (three a.eta)) a.ea.now a.eb.now a.ec.now matrices s.requires.each_within
     made d.clear.ensures

@@ -20,13 +20,6 @@ use Rattle.prover.proofs.rows.row_quotient_into.Goals.{After-row_sums, After-row
 bound : (c : Start) → c.args.r ≤ 1024
 bound c = size_bound c.args.r c.requires.r_value
 
--- the start, from the first fill; the place of the first fill, from the second; the words that the fills leave
-abbrev start : After-row_sums → Start
-start c = c.before.before.before.before.before.before
-
-abbrev at_a : After-row_sums-2 → After-row_sums
-at_a c = c.before.before.before
-
 abbrev sums-a : After-row_sums → List ℕ
 sums-a c = c.row_sums.new.out
 
@@ -45,44 +38,44 @@ row_sums-requires c =
     }
 
 pub slice_bounds-right-end : goal.slice_bounds-right-end
-slice_bounds-right-end c = bound (start (goal.at.slice_bounds-right-end c).After-row_sums)
+slice_bounds-right-end c = bound (goal.at.slice_bounds-right-end c).Start
 
 pub row_sums-requires-2 : goal.row_sums-requires-2
 row_sums-requires-2 c =
-    let s = start (goal.at.row_sums-requires-2 c).After-row_sums in
+    let s = (goal.at.row_sums-requires-2 c).Start in
     record {
       p_nonzero = omega arith;
-      all = rows-within (lent_length 1024 (bound s)) (length s.args.z.now) (entries_of s.args.eb.now) s.pre.1.1.1.1;
+      all = rows-within (lent_length 1024 (bound s)) (length s.args.z.now) (entries_of s.args.eb.now) s.requires.all.1;
     }
 
 pub slice_bounds-left-end-2 : goal.slice_bounds-left-end-2
 slice_bounds-left-end-2 c =
-    let a = at_a (goal.at.slice_bounds-left-end-2 c).After-row_sums-2 in
-    filled_within _ _ (bound (start a)) (sums-a a) a.row-sums.kept.1.1.1.0
+    let a = (goal.at.slice_bounds-left-end-2 c).After-row_sums in
+    filled_within _ _ (bound a.before.before.before.before.before.before) (sums-a a) a.row_sums.kept.1.1.1.0
 
 pub slice_bounds-right-end-2 : goal.slice_bounds-right-end-2
 slice_bounds-right-end-2 c =
     let b = (goal.at.slice_bounds-right-end-2 c).After-row_sums-2 in
-    filled_within _ _ (bound (start (at_a b))) (sums-b b) b.row_sums-2.auto.out
+    filled_within _ _ (bound (b.before.before.before.before.before.before.before.before.before)) (sums-b b) b.row_sums-2.auto.out
 
 pub slice_bounds-factor-end : goal.slice_bounds-factor-end
-slice_bounds-factor-end c = bound (start (at_a (goal.at.slice_bounds-factor-end c).After-row_sums-2))
+slice_bounds-factor-end c = bound (c.before.before.before.before.before.before.before.before.before.before.before.before)
 
 pub slice_bounds-rest-end : goal.slice_bounds-rest-end
-slice_bounds-rest-end c = bound (start (at_a (goal.at.slice_bounds-rest-end c).After-row_sums-2))
+slice_bounds-rest-end c = bound (c.before.before.before.before.before.before.before.before.before.before.before.before.before)
 
 pub divide_product_into-requires : goal.divide_product_into-requires
 divide_product_into-requires c =
     let b = (goal.at.divide_product_into-requires c).After-row_sums-2 in
-    let a = at_a b in
-    let s = start a in
-    let left = filled_length _ _ (bound s) (sums-a a) a.row-sums.kept.1.1.1.0 in
+    let a = b.before.before.before in
+    let s = a.before.before.before.before.before.before in
+    let left = filled_length _ _ (bound s) (sums-a a) a.row_sums.kept.1.1.1.0 in
     let right = filled_length _ _ (bound s) (sums-b b) b.row_sums-2.auto.out in
     let lent = sym (part_length _ _ (bound s)) ∙ left in
-    let whole : length s.args.out.now + 1 ≡ s.args.r = omega (arith, size_positive s.args.r s.pre.1.0) in
+    let whole : length s.args.out.now + 1 ≡ s.args.r = omega (arith, size_positive s.args.r s.requires.r_value) in
     record {
-      modulus = s.pre.0;
-      left_value = ap is_size (sym left) ∙ s.pre.1.0;
+      modulus = s.requires.modulus;
+      left_value = ap is_size (sym left) ∙ s.requires.r_value;
       right_len = (sym right ∙ left, lent);
       rest_len = (lent, whole ∙ left);
     }
@@ -94,15 +87,15 @@ pub returns : goal.returns
 returns c q known Q k W eR ea eb ẑ values =
     let d = c in
     let b = d.before.before.before.before.before.before.before.before.before.before.before in
-    let a = at_a b in
-    let s = start a in
+    let a = b.before.before.before in
+    let s = a.before.before.before.before.before.before in
     let r : ℕ = s.args.r in
     let z : List (Elem q) = map of s.args.z.now in
     let whole = part_length _ _ (bound s) in
     quotient_made (d.divide_product_into.ensures q known)
-    (sym (filled_length _ _ (bound s) (sums-a a) a.row-sums.kept.1.1.1.0))
-    (of_filled _ _ (bound s) (sums-a a) a.row-sums.kept.1.1.1.0 (tabulate r (row_sum k A z))
-    (a.row-sums.ensures q known.value k A ea ∙ ap (λ (n : ℕ). words (tabulate n (row_sum k A z))) (sym whole)))
+    (sym (filled_length _ _ (bound s) (sums-a a) a.row_sums.kept.1.1.1.0))
+    (of_filled _ _ (bound s) (sums-a a) a.row_sums.kept.1.1.1.0 (tabulate r (row_sum k A z))
+    (a.row_sums.ensures q known.value k A ea ∙ ap (λ (n : ℕ). words (tabulate n (row_sum k A z))) (sym whole)))
     (of_filled _ _ (bound s) (sums-b b) b.row_sums-2.auto.out (tabulate r (row_sum k B z))
     (b.row_sums-2.ensures q known.value k B eb ∙ ap (λ (n : ℕ). words (tabulate n (row_sum k B z))) (sym whole)))
     ∙ ap words (row-quotient_made q Q k (known_formed known W) eR ẑ z values)

@@ -24,27 +24,23 @@ use Rattle.prover.proofs.rows.sums_at.Goals.{After-lagrange_values_into, Start}
 bound : (c : Start) → c.args.r ≤ 1024
 bound c = size_bound c.args.r c.requires.r_value
 
--- the start, from the fill with the rows' values, and the words that it leaves
-abbrev start : After-lagrange_values_into → Start
-start c = c.before.before.before.before.before.before
-
 abbrev left : After-lagrange_values_into → List ℕ
 left c = c.lagrange_values_into.new.out
 
 -- the rows' values, lent again
 abbrev again : After-lagrange_values_into → List ℕ
-again c = left c ++ drop (start c).args.r (replicate 1024 0)
+again c = left c ++ drop c.args.r (replicate 1024 0)
 
-part_again : (c : After-lagrange_values_into) → (start c).args.r ≤ length (again c)
-part_again c = filled_within _ (replicate 1024 0) (bound (start c)) (left c) c.lagrange_values_into.auto.out
+part_again : (c : After-lagrange_values_into) → c.args.r ≤ length (again c)
+part_again c = filled_within _ (replicate 1024 0) (bound c.before.before.before.before.before.before) (left c) c.lagrange_values_into.auto.out
 
-whole_again : (c : After-lagrange_values_into) → (start c).args.r ≡ length (take (start c).args.r (again c))
-whole_again c = filled_length _ (replicate 1024 0) (bound (start c)) (left c) c.lagrange_values_into.auto.out
+whole_again : (c : After-lagrange_values_into) → c.args.r ≡ length (take c.args.r (again c))
+whole_again c = filled_length _ (replicate 1024 0) (bound c.before.before.before.before.before.before) (left c) c.lagrange_values_into.auto.out
 
-rows_made : (c : After-lagrange_values_into) {q : Prime} → Known q (start c).args.p
-    → map of (take (start c).args.r (again c)) ≡ row_values {q = q} (start c).args.r (of (start c).args.alpha)
+rows_made : (c : After-lagrange_values_into) {q : Prime} → Known q c.args.p
+    → map of (take c.args.r (again c)) ≡ row_values {q = q} c.args.r (of c.args.alpha)
 rows_made c {q} known =
-    let s = start c in
+    let s = c.before.before.before.before.before.before in
     let α : Elem q = of s.args.alpha in
     of_filled _ (replicate 1024 0) (bound s) (left c) c.lagrange_values_into.auto.out (row_values s.args.r α)
     (c.lagrange_values_into.ensures q known
@@ -67,10 +63,10 @@ slice_bounds-rows-end-2 c = part_again (goal.at.slice_bounds-rows-end-2 c).After
 pub entries_sum-requires : goal.entries_sum-requires
 entries_sum-requires c =
     let r = (goal.at.entries_sum-requires c).After-lagrange_values_into in
-    let s = start r in
+    let s = r in
     record {
       p_nonzero = omega arith;
-      all = rows-within (whole_again r) (length s.args.z.now) (entries_of s.args.ea.now) s.pre.1.1.in_a;
+      all = rows-within (whole_again r) (length s.args.z.now) (entries_of s.args.ea.now) s.requires.each_within.in_a;
     }
 
 pub slice_bounds-rows-end-3 : goal.slice_bounds-rows-end-3
@@ -79,10 +75,10 @@ slice_bounds-rows-end-3 c = part_again (goal.at.slice_bounds-rows-end-3 c).After
 pub entries_sum-requires-2 : goal.entries_sum-requires-2
 entries_sum-requires-2 c =
     let r = (goal.at.entries_sum-requires-2 c).After-lagrange_values_into in
-    let s = start r in
+    let s = r in
     record {
       p_nonzero = omega arith;
-      all = rows-within (whole_again r) (length s.args.z.now) (entries_of s.args.eb.now) s.pre.1.1.in_b;
+      all = rows-within (whole_again r) (length s.args.z.now) (entries_of s.args.eb.now) s.requires.each_within.in_b;
     }
 
 pub slice_bounds-rows-end-4 : goal.slice_bounds-rows-end-4
@@ -91,17 +87,17 @@ slice_bounds-rows-end-4 c = part_again (goal.at.slice_bounds-rows-end-4 c).After
 pub entries_sum-requires-3 : goal.entries_sum-requires-3
 entries_sum-requires-3 c =
     let r = (goal.at.entries_sum-requires-3 c).After-lagrange_values_into in
-    let s = start r in
+    let s = r in
     record {
       p_nonzero = omega arith;
-      all = rows-within (whole_again r) (length s.args.z.now) (entries_of s.args.ec.now) s.pre.1.1.in_c;
+      all = rows-within (whole_again r) (length s.args.z.now) (entries_of s.args.ec.now) s.requires.each_within.in_c;
     }
 
 pub returns : goal.returns
 unfolding sums
 returns c q known Q k W eR matrices ẑ values =
     let r = (goal.at.returns c).After-lagrange_values_into in
-    let a = (start r).args in
+    let a = r.args in
     let α : Elem q = of a.alpha in
     let z : List (Elem q) = map of a.z.now in
     let sum : (M : MatrixName) (es : List Entry) → at k.matrices M ≡ es

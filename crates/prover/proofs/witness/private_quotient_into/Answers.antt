@@ -12,14 +12,10 @@ use Rattle.domain.proofs.Qualification.{known-qualifies}
 use Rattle.domain.proofs.SizeLaws.{size_positive, size_bound}
 use Rattle.poly.proofs.LentParts.{part_length, filled_within, filled_length, of_filled}
 use Rattle.prover.proofs.witness.private_quotient_into.Goals as goal
-use Rattle.prover.proofs.witness.private_quotient_into.Goals.{After-interpolate_into, Start}
+use Rattle.prover.proofs.witness.private_quotient_into.Goals.{Start}
 
 bound : (c : Start) → c.args.c ≤ 1024
 bound c = size_bound c.args.c c.requires.c_value.0
-
--- the start, from the fill with the coefficients
-abbrev start : After-interpolate_into → Start
-start c = c.before.before.before.before.before
 
 pub slice_bounds-whole-end : goal.slice_bounds-whole-end
 slice_bounds-whole-end c = bound (goal.at.slice_bounds-whole-end c).Start
@@ -35,18 +31,18 @@ interpolate_into-requires c =
 
 pub slice_bounds-whole-end-2 : goal.slice_bounds-whole-end-2
 slice_bounds-whole-end-2 c =
-    let v = (goal.at.slice_bounds-whole-end-2 c).After-interpolate_into in
-    filled_within _ _ (bound (start v)) v.interpolate_into.new.out v.interpolate_into.auto.out
+    let v = (goal.at.slice_bounds-whole-end-2 c).Start in
+    filled_within _ _ (bound v) v.interpolate_into.new.out v.interpolate_into.auto.out
 
 pub quotient_into-requires : goal.quotient_into-requires
 quotient_into-requires c =
-    let v = (goal.at.quotient_into-requires c).After-interpolate_into in
-    let s = start v in
+    let v = c in
+    let s = v.before.before.before.before.before.before.before.before in
     let size = filled_length _ _ (bound s) v.interpolate_into.new.out v.interpolate_into.auto.out in
     record {
       p_nonzero = omega arith;
-      n_nonzero = size_positive _ s.pre.1.0.1;
-      out_len = s.pre.1.1.1 ∙ ap (λ (n : ℕ). n - s.args.x) size;
+      n_nonzero = size_positive _ s.requires.c_value.1;
+      out_len = s.requires.z_len.1 ∙ ap (λ (n : ℕ). n - s.args.x) size;
     }
 
 pub shape_of-out : goal.shape_of-out
@@ -54,11 +50,11 @@ shape_of-out c = c.quotient_into.auto.out
 
 pub returns : goal.returns
 returns c q known =
-    let v = (goal.at.returns c).After-interpolate_into in
-    let s = start v in
+    let v = c in
+    let s = v.before.before.before.before.before.before.before.before.before.before.before in
     let values = v.interpolate_into in
     let z : Poly q = map of s.args.z.now in
-    let size : length s.args.z.now ≡ s.args.c = s.pre.1.1.0 in
+    let size : length s.args.z.now ≡ s.args.c = s.requires.z_len.0 in
     c.quotient_into.ensures q known.value
     ∙ ap (λ (l : Poly q). words (quotient s.args.x l))
     (of_filled _ _ (bound s) values.new.out values.auto.out (interpolate s.args.c z)

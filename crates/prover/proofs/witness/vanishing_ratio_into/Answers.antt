@@ -8,17 +8,13 @@ use Rattle.domain.specs.Polynomial.{Poly, quotient, vanishing_poly}
 use Rattle.domain.proofs.SizeLaws.{size_positive, size_bound}
 use Rattle.poly.proofs.LentParts.{part_length, filled_within, filled_length, above_one, one_less, of_filled}
 use Rattle.prover.proofs.witness.vanishing_ratio_into.Goals as goal
-use Rattle.prover.proofs.witness.vanishing_ratio_into.Goals.{After-fill_vanishing, Start}
+use Rattle.prover.proofs.witness.vanishing_ratio_into.Goals.{Start}
 
 bound : (c : Start) → c.args.c + 1 ≤ 1025
 bound c = omega (arith, size_bound c.args.c c.requires.c_value.0)
 
 positive : (c : Start) → 0 < c.args.c
 positive c = size_positive c.args.c c.requires.c_value.0
-
--- the start, from the fill
-abbrev start : After-fill_vanishing → Start
-start c = c.before.before.before
 
 pub overflow_add-n : goal.overflow_add-n
 overflow_add-n c = omega arith
@@ -36,19 +32,19 @@ fill_vanishing-requires c =
 
 pub slice_bounds-vanishing-end-2 : goal.slice_bounds-vanishing-end-2
 slice_bounds-vanishing-end-2 c =
-    let f = (goal.at.slice_bounds-vanishing-end-2 c).After-fill_vanishing in
-    filled_within _ _ (bound (start f)) f.fill_vanishing.new.out f.fill_vanishing.auto.out
+    let f = (goal.at.slice_bounds-vanishing-end-2 c).Start in
+    filled_within _ _ (bound f) f.fill_vanishing.new.out f.fill_vanishing.auto.out
 
 pub quotient_into-requires : goal.quotient_into-requires
 quotient_into-requires c =
-    let f = (goal.at.quotient_into-requires c).After-fill_vanishing in
-    let s = start f in
+    let f = c in
+    let s = f.before.before.before.before.before.before in
     let x : ℕ = s.args.x in
     let length-out : length s.args.out.now ≡ s.args.c + 1 - x = omega arith in
     let whole = filled_length _ _ (bound s) f.fill_vanishing.new.out f.fill_vanishing.auto.out in
     record {
       p_nonzero = omega arith;
-      n_nonzero = size_positive _ s.pre.1.0.1;
+      n_nonzero = size_positive _ s.requires.c_value.1;
       out_len = length-out ∙ ap (λ (n : ℕ). n - x) whole;
     }
 
@@ -57,8 +53,8 @@ shape_of-out c = c.quotient_into.auto.out
 
 pub returns : goal.returns
 returns c q e =
-    let f = (goal.at.returns c).After-fill_vanishing in
-    let s = start f in
+    let f = c in
+    let s = f.before.before.before.before.before.before.before.before.before in
     let fill = f.fill_vanishing in
     let n : ℕ = s.args.c in
     c.quotient_into.ensures q e

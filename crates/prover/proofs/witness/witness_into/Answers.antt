@@ -12,7 +12,7 @@ use Rattle.domain.proofs.Division.{length_vanishing_ratio}
 use Rattle.poly.proofs.LentParts.{part_length, filled_within, filled_length, part_order, of_filled}
 use Rattle.prover.proofs.WitnessLaws.{padded, witness_made}
 use Rattle.prover.proofs.witness.witness_into.Goals as goal
-use Rattle.prover.proofs.witness.witness_into.Goals.{After-private_quotient_into, After-vanishing_ratio_into, Start}
+use Rattle.prover.proofs.witness.witness_into.Goals.{Start}
 
 short : (c : Start) → c.args.c - c.args.x ≤ length c.args.out.now
 short c = omega arith
@@ -24,13 +24,6 @@ bound c = omega (arith, size_bound c.args.c c.requires.c_value.0, size_positive 
 padded-length : (c : Start) (e : List ℕ) → length e ≡ length (take (c.args.c - c.args.x) c.args.out.now)
     → length (set (e ++ drop (c.args.c - c.args.x) c.args.out.now) (c.args.c - c.args.x) 0) ≡ length c.args.out.now
 padded-length c e kept = simp length-set (length_front c.args.out.now e (c.args.c - c.args.x) kept)
-
--- the start, from the fill with the quotient, and the place of this fill, from that with the ratio
-abbrev start : After-private_quotient_into → Start
-start c = c.before.before.before.before
-
-abbrev at_quotient : After-vanishing_ratio_into → After-private_quotient_into
-at_quotient c = c.before.before.before.before
 
 pub overflow_sub-n : goal.overflow_sub-n
 overflow_sub-n c = omega arith
@@ -60,29 +53,29 @@ pub overflow_add-l : goal.overflow_add-l
 overflow_add-l c = omega arith
 
 pub slice_bounds-ratio-end : goal.slice_bounds-ratio-end
-slice_bounds-ratio-end c = bound (start (goal.at.slice_bounds-ratio-end c).After-private_quotient_into)
+slice_bounds-ratio-end c = bound (goal.at.slice_bounds-ratio-end c).Start
 
 pub vanishing_ratio_into-requires : goal.vanishing_ratio_into-requires
 vanishing_ratio_into-requires c =
-    let s = start (goal.at.vanishing_ratio_into-requires c).After-private_quotient_into in
+    let s = (goal.at.vanishing_ratio_into-requires c).Start in
     record {
-      lt_p = s.pre.0;
-      c_value = s.pre.1.0;
+      lt_p = s.requires.lt_p;
+      c_value = s.requires.c_value;
       out_len = sym (part_length _ _ (bound s));
     }
 
 pub slice_bounds-ratio-end-2 : goal.slice_bounds-ratio-end-2
 slice_bounds-ratio-end-2 c =
-    let r = (goal.at.slice_bounds-ratio-end-2 c).After-vanishing_ratio_into in
+    let r = c.before.before in
     let ratio = r.vanishing_ratio_into in
-    filled_within _ _ (bound (start (at_quotient r))) ratio.new.out ratio.auto.out
+    filled_within _ _ (bound (r.before.before.before.before.before.before.before.before)) ratio.new.out ratio.auto.out
 
 pub add_scaled-requires : goal.add_scaled-requires
 add_scaled-requires c =
-    let r = (goal.at.add_scaled-requires c).After-vanishing_ratio_into in
-    let s = start (at_quotient r) in
+    let r = c in
+    let s = r.before.before.before.before.before.before.before.before.before.before.before in
     let ratio = r.vanishing_ratio_into in
-    let first = (at_quotient r).private_quotient_into in record {
+    let first = r.private_quotient_into in record {
       p_nonzero = omega arith;
       g_in_bounds = part_order (filled_length _ _ (bound s) ratio.new.out ratio.auto.out)
           (omega (arith, padded-length s first.last.1.1.1.1.0 first.kept.1.1.1.1.0));
@@ -90,23 +83,23 @@ add_scaled-requires c =
 
 pub shape_of-out : goal.shape_of-out
 shape_of-out c =
-    let d = at_quotient (goal.at.shape_of-out c).After-vanishing_ratio_into in
-    let first = d.private-quotient-into in
-    c.add_scaled.auto.f ∙ padded-length (start d) first.last.1.1.1.1.0 first.kept.1.1.1.1.0
+    let d = (goal.at.shape_of-out c).Start in
+    let first = d.private_quotient_into in
+    c.add_scaled.auto.f ∙ padded-length d first.last.1.1.1.1.0 first.kept.1.1.1.1.0
 
 pub returns : goal.returns
 returns c q known k eC eX =
-    let r = (goal.at.returns c).After-vanishing_ratio_into in
-    let s = start (at_quotient r) in
+    let r = c in
+    let s = r.before.before.before.before.before.before.before.before.before.before.before.before.before.before in
     let a = s.args in
-    let first = (at_quotient r).private_quotient_into in
+    let first = r.private_quotient_into in
     let ratio = r.vanishing_ratio_into in
     let n : ℕ = a.c - a.x in
-    let sizes = s.pre.1.0 in
+    let sizes = s.requires.c_value in
     let part = part_length n a.out.now (short s) in
     c.add_scaled.ensures q known.value
     ∙ witness_made q k (map of a.z.now) (of a.mask) eC eX sizes.2
-    (padded n a.out.now first.last.1.1.1.1.0 s.pre.1.1.1 (first.kept.1.1.1.1.0 ∙ sym part))
+    (padded n a.out.now first.last.1.1.1.1.0 s.requires.z_len.1 (first.kept.1.1.1.1.0 ∙ sym part))
     (first.ensures q known)
     (of_filled _ _ (bound s) ratio.new.out ratio.auto.out (quotient a.x (vanishing_poly a.c)) (ratio.ensures q known.value))
     (omega (arith, first.kept.1.1.1.1.0, part, length_vanishing_ratio q a.x a.c sizes.1 sizes.0 sizes.2))

@@ -16,24 +16,20 @@ use Rattle.protocol.proofs.Rows.{word_row}
 use Rattle.record_writer.specs.Sections.{joined, each_section, shape_refusal}
 use Rattle.record_writer.proofs.Lengths.{Shaped, shaped, few_bytes, room-given, write_refused, write_done}
 use Rattle.record_writer.proofs.writer.write.Goals as goal
-use Rattle.record_writer.proofs.writer.write.Goals.{After-shape_fault-shape, Else-not-is_fine, Start}
-
--- the start, and the sizes, the sections and the lent bytes of the call
-abbrev start : After-shape_fault-shape → Start
-start j = j.before.before.before.before.before.before.before.before.before.before.before.before.before.before
+use Rattle.record_writer.proofs.writer.write.Goals.{After-shape_fault-shape, Else-not-is_fine}
 
 module _ (j : After-shape_fault-shape) where
   abbrev given : Sizes
-  given = sizes (start j).args.sizes
+  given = sizes j.args.sizes
 
   abbrev parts : List (List ℕ)
   parts =
-      let a = (start j).args in
+      let a = j.args in
       each_section a.w.now a.m.now a.h0.now a.s.now a.g1.now a.h1.now a.o.now a.ga.now a.gb.now
       a.gc.now a.h2.now
 
   abbrev lent : List ℕ
-  lent = (start j).args.out.now
+  lent = j.args.out.now
 
 -- the row of the words
 abbrev words_row : Prime → After-shape_fault-shape → List (Option Refusal)

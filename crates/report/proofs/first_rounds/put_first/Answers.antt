@@ -12,24 +12,16 @@ use Rattle.report.proofs.PrintedLaws.{printed_as}
 use Rattle.report.proofs.Bounds.{Roomy, roomy, mask_most}
 use Rattle.report.proofs.RoundResults.{first_done}
 use Rattle.report.proofs.first_rounds.put_first.Goals as goal
-use Rattle.report.proofs.first_rounds.put_first.Goals.{After-first_round, After-lengths_of-due, Start}
-
--- what is given, from the lengths due
-abbrev start : After-lengths_of-due → Start
-start c = c.before.before.before.before.before.before.before
+use Rattle.report.proofs.first_rounds.put_first.Goals.{After-lengths_of-due}
 
 abbrev input : After-lengths_of-due → ProverInput
 input c =
-    let a = (start c).args in
+    let a = c.args in
     prover_input a.r a.c a.x a.ea.now a.eb.now a.ec.now a.z.now a.mask a.m.now
 
 -- the messages find room in the arrays
 room : (c : After-lengths_of-due) → Roomy (message_lengths c.lengths_of-due.result)
-room c = roomy (input c) (start c).requires.free c.lengths_of-due.ensures
-
--- the lengths due, from the round
-abbrev at-lengths : After-first_round → After-lengths_of-due
-at-lengths c = c.before.before.before
+room c = roomy (input c) c.requires.free c.lengths_of-due.ensures
 
 pub slice_bounds-witness-end : goal.slice_bounds-witness-end
 slice_bounds-witness-end c = (room (goal.at.slice_bounds-witness-end c).After-lengths_of-due).witness_most
@@ -39,45 +31,45 @@ slice_bounds-quotient-end c = (room (goal.at.slice_bounds-quotient-end c).After-
 
 pub slice_bounds-witness-end-2 : goal.slice_bounds-witness-end-2
 slice_bounds-witness-end-2 c =
-    let f = (goal.at.slice_bounds-witness-end-2 c).After-first_round in
-    back_holds 1024 (room (at-lengths f)).witness_most f.first_round.new.witness
+    let f = (goal.at.slice_bounds-witness-end-2 c).After-lengths_of-due in
+    back_holds 1024 (room f).witness_most f.first_round.new.witness
     f.first_round.auto.witness
 
 pub slice_bounds-quotient-end-2 : goal.slice_bounds-quotient-end-2
 slice_bounds-quotient-end-2 c =
-    let f = (goal.at.slice_bounds-quotient-end-2 c).After-first_round in
-    back_holds 1024 (room (at-lengths f)).row_quotient_most f.first_round.new.row_quotient
+    let f = (goal.at.slice_bounds-quotient-end-2 c).After-lengths_of-due in
+    back_holds 1024 (room f).row_quotient_most f.first_round.new.row_quotient
     f.first_round.auto.row_quotient
 
 pub put_first_lines-requires : goal.put_first_lines-requires
 put_first_lines-requires c =
-    let f = (goal.at.put_first_lines-requires c).After-first_round in
+    let f = c in
     let last = f.first_round.new.1.1.1.1.1.1.1.1.1 in
     let kept = f.first_round.auto.1.1.1.1.1.1.1.1.1 in
-    let n = at-lengths f in
+    let n = f.before.before.before.before.before.before.before.before in
     let w = (room n).witness_most in
     let h = (room n).row_quotient_most in record {
       witness_len_bound = (
         part_order (back_length 1024 w last.0 kept.0) w,
-        mask_most (input n) (start n).pre.0,
+        mask_most (input n) n.requires.free,
         part_order (back_length 1024 h last.1.0 kept.1.0) h,
       );
-      most_line_in_bounds = (start n).pre.1;
+      most_line_in_bounds = n.requires.most_line_in_bounds;
     }
 
 pub returns : goal.returns
 unfolding first_text
 returns c =
-    let f = (goal.at.returns c).After-first_round in
-    let n = at-lengths f in
+    let f = c in
+    let n = f.before.before.before.before.before.before.before.before.before.before.before in
     let last = f.first_round.new.1.1.1.1.1.1.1.1.1 in
     let kept = f.first_round.auto.1.1.1.1.1.1.1.1.1 in
     let w = (room n).witness_most in
     let h = (room n).row_quotient_most in
-    let table = n.lengths-of.ensures in
+    let table = n.lengths_of-due.ensures in
     let done =
-    first_done (input n) _ (start n).pre.0 (sym (lent_length 1024 w) ∙ ap (λ (l : MessageLengths). l.witness) table)
+    first_done (input n) _ n.requires.free (sym (lent_length 1024 w) ∙ ap (λ (l : MessageLengths). l.witness) table)
     (sym (lent_length 1024 h) ∙ ap (λ (l : MessageLengths). l.row_quotient) table) f.first_round.ensures in
     let witness = back_is 1024 w last.0 kept.0 ∙ ap (λ (p : List ℕ × List ℕ). p.0) done in
     let quotient = back_is 1024 h last.1.0 kept.1.0 ∙ ap (λ (p : List ℕ × List ℕ). p.1) done in
-    printed_as (λ t. first_lines (witness t) (start n).args.m.now (quotient t)) c.put_first_lines.ensures
+    printed_as (λ t. first_lines (witness t) n.args.m.now (quotient t)) c.put_first_lines.ensures

@@ -12,24 +12,16 @@ use Rattle.report.proofs.PrintedLaws.{printed_as}
 use Rattle.report.proofs.Bounds.{Roomy, roomy}
 use Rattle.report.proofs.RoundResults.{third-done}
 use Rattle.report.proofs.first_rounds.put_third.Goals as goal
-use Rattle.report.proofs.first_rounds.put_third.Goals.{After-lengths_of-due, After-third_round, Start}
-
--- what is given, from the lengths due
-abbrev start : After-lengths_of-due → Start
-start c = c.before.before.before.before.before.before.before
+use Rattle.report.proofs.first_rounds.put_third.Goals.{After-lengths_of-due}
 
 abbrev input : After-lengths_of-due → ProverInput
 input c =
-    let a = (start c).args in
+    let a = c.args in
     prover_input a.r a.c a.x a.ea.now a.eb.now a.ec.now a.z.now a.mask a.m.now
 
 -- the messages find room in the arrays
 room : (c : After-lengths_of-due) → Roomy (message_lengths c.lengths_of-due.result)
-room c = roomy (input c) (start c).requires.free c.lengths_of-due.ensures
-
--- the lengths due, from the round
-abbrev at-lengths : After-third_round → After-lengths_of-due
-at-lengths c = c.before.before.before
+room c = roomy (input c) c.requires.free c.lengths_of-due.ensures
 
 pub slice_bounds-remainder-end : goal.slice_bounds-remainder-end
 slice_bounds-remainder-end c = (room (goal.at.slice_bounds-remainder-end c).After-lengths_of-due).line_remainder_most
@@ -39,41 +31,41 @@ slice_bounds-quotient-end c = (room (goal.at.slice_bounds-quotient-end c).After-
 
 pub slice_bounds-remainder-end-2 : goal.slice_bounds-remainder-end-2
 slice_bounds-remainder-end-2 c =
-    let f = (goal.at.slice_bounds-remainder-end-2 c).After-third_round in
-    back_holds 1024 (room (at-lengths f)).line_remainder_most f.third_round.new.remainder
+    let f = (goal.at.slice_bounds-remainder-end-2 c).After-lengths_of-due in
+    back_holds 1024 (room f).line_remainder_most f.third_round.new.remainder
     f.third_round.auto.remainder
 
 pub slice_bounds-quotient-end-2 : goal.slice_bounds-quotient-end-2
 slice_bounds-quotient-end-2 c =
-    let f = (goal.at.slice_bounds-quotient-end-2 c).After-third_round in
-    back_holds 1024 (room (at-lengths f)).line_quotient_most f.third_round.new.quotient
+    let f = (goal.at.slice_bounds-quotient-end-2 c).After-lengths_of-due in
+    back_holds 1024 (room f).line_quotient_most f.third_round.new.quotient
     f.third_round.auto.quotient
 
 pub put_third_lines-requires : goal.put_third_lines-requires
 put_third_lines-requires c =
-    let f = (goal.at.put_third_lines-requires c).After-third_round in
+    let f = c in
     let last = f.third_round.new.1.1.1.1.1.1.1.1.1.1.1 in
     let kept = f.third_round.auto.1.1.1.1.1.1.1.1.1.1.1 in
-    let n = at-lengths f in
+    let n = f.before.before.before.before.before.before.before.before in
     let g = (room n).line_remainder_most in
     let h = (room n).line_quotient_most in record {
       remainder_len_bound = (part_order (back_length 1024 g last.0 kept.0) g, part_order (back_length 1024 h last.1.0 kept.1.0) h);
-      most_line_in_bounds = (start n).pre.1;
+      most_line_in_bounds = n.requires.most_line_in_bounds;
     }
 
 pub returns : goal.returns
 unfolding third_text
 returns c =
-    let f = (goal.at.returns c).After-third_round in
-    let n = at-lengths f in
-    let a = (start n).args in
+    let f = c in
+    let n = f.before.before.before.before.before.before.before.before.before.before.before in
+    let a = n.args in
     let last = f.third_round.new.1.1.1.1.1.1.1.1.1.1.1 in
     let kept = f.third_round.auto.1.1.1.1.1.1.1.1.1.1.1 in
     let g = (room n).line_remainder_most in
     let h = (room n).line_quotient_most in
-    let table = n.lengths-of.ensures in
+    let table = n.lengths_of-due.ensures in
     let done =
-    third-done (input n) a.alpha (three a.eta) _ (start n).pre.0
+    third-done (input n) a.alpha (three a.eta) _ n.requires.free
     (sym (lent_length 1024 g) ∙ ap (λ (l : MessageLengths). l.line_remainder) table)
     (sym (lent_length 1024 h) ∙ ap (λ (l : MessageLengths). l.line_quotient) table) f.third_round.ensures in
     let remainder = back_is 1024 g last.0 kept.0 ∙ ap (λ (p : List ℕ × List ℕ). p.0) done in

@@ -11,53 +11,45 @@ use Rattle.report.proofs.PrintedLaws.{printed_within, printed_as}
 use Rattle.report.proofs.Bounds.{Roomy, roomy}
 use Rattle.report.proofs.RoundResults.{fifth-done}
 use Rattle.report.proofs.matrix_rounds.put_fifth.Goals as goal
-use Rattle.report.proofs.matrix_rounds.put_fifth.Goals.{After-fifth_round, After-lengths_of-n, Start}
-
--- what is given, from the lengths due
-abbrev start : After-lengths_of-n → Start
-start c = c.before.before.before.before.before.before.before
+use Rattle.report.proofs.matrix_rounds.put_fifth.Goals.{After-lengths_of-n}
 
 abbrev input : After-lengths_of-n → ProverInput
 input c =
-    let a = (start c).args in
+    let a = c.args in
     prover_input a.r a.c a.x a.ea.now a.eb.now a.ec.now a.z.now a.mask a.m.now
 
 -- the messages find room in the arrays
 room : (c : After-lengths_of-n) → Roomy (message_lengths c.lengths_of-n.result)
-room c = roomy (input c) (start c).requires.free c.lengths_of-n.ensures
-
--- the lengths due, from the round
-abbrev at-lengths : After-fifth_round → After-lengths_of-n
-at-lengths c = c.before.before
+room c = roomy (input c) c.requires.free c.lengths_of-n.ensures
 
 pub slice_bounds-quotient-end : goal.slice_bounds-quotient-end
 slice_bounds-quotient-end c = (room (goal.at.slice_bounds-quotient-end c).After-lengths_of-n).joined_quotient_most
 
 pub slice_bounds-quotient-end-2 : goal.slice_bounds-quotient-end-2
 slice_bounds-quotient-end-2 c =
-    let f = (goal.at.slice_bounds-quotient-end-2 c).After-fifth_round in
-    back_holds 1024 (room (at-lengths f)).joined_quotient_most f.fifth_round.new.out
+    let f = (goal.at.slice_bounds-quotient-end-2 c).After-lengths_of-n in
+    back_holds 1024 (room f).joined_quotient_most f.fifth_round.new.out
     f.fifth_round.auto.out
 
 pub put_line-requires : goal.put_line-requires
 put_line-requires c =
-    let f = (goal.at.put_line-requires c).After-fifth_round in
-    let n = at-lengths f in
+    let f = c in
+    let n = f.before.before.before.before.before.before.before in
     let h = (room n).joined_quotient_most in
     let long = back_length 1024 h f.fifth_round.new.out f.fifth_round.auto.out in
-    omega (arith, (start n).pre.1, h, long)
+    omega (arith, n.requires.most_line_in_bounds, h, long)
 
 pub returns : goal.returns
 unfolding fifth_text
 returns c =
-    let f = (goal.at.returns c).After-fifth_round in
-    let n = at-lengths f in
-    let a = (start n).args in
+    let f = c in
+    let n = f.before.before.before.before.before.before.before.before.before.before in
+    let a = n.args in
     let last = f.fifth_round.new.out in
     let kept = f.fifth_round.auto.out in
     let h = (room n).joined_quotient_most in
-    let lent = sym (lent_length 1024 h) ∙ ap (λ (l : MessageLengths). l.joined_quotient) n.lengths-of.ensures in
+    let lent = sym (lent_length 1024 h) ∙ ap (λ (l : MessageLengths). l.joined_quotient) n.lengths_of-n.ensures in
     let done =
-    fifth-done (input n) a.alpha (three a.eta) a.beta (three a.delta) _ (start n).pre.0 lent f.fifth_round.ensures in
+    fifth-done (input n) a.alpha (three a.eta) a.beta (three a.delta) _ n.requires.free lent f.fifth_round.ensures in
     printed_within (printed_as (ap (section 10) (back_is 1024 h last kept ∙ done)) c.put_line.ensures)
     (omega (arith, h, back_length 1024 h last kept))

@@ -15,24 +15,16 @@ use Rattle.report.proofs.PrintedLaws.{printed_as}
 use Rattle.report.proofs.Bounds.{Roomy, roomy}
 use Rattle.report.proofs.RoundResults.{fourth-done}
 use Rattle.report.proofs.matrix_rounds.put_fourth.Goals as goal
-use Rattle.report.proofs.matrix_rounds.put_fourth.Goals.{After-fourth_round-answer, After-lengths_of, Start}
-
--- what is given, from the lengths due
-abbrev start : After-lengths_of → Start
-start c = c.before.before.before.before.before.before.before
+use Rattle.report.proofs.matrix_rounds.put_fourth.Goals.{After-lengths_of}
 
 abbrev input : After-lengths_of → ProverInput
 input c =
-    let a = (start c).args in
+    let a = c.args in
     prover_input a.r a.c a.x a.ea.now a.eb.now a.ec.now a.z.now a.mask a.m.now
 
 -- the messages find room in the arrays
 room : (c : After-lengths_of) → Roomy (message_lengths c.lengths_of.result)
-room c = roomy (input c) (start c).requires.free c.lengths_of.ensures
-
--- the lengths due, from the round
-abbrev at-lengths : After-fourth_round-answer → After-lengths_of
-at-lengths c = c.before.before.before.before.before
+room c = roomy (input c) c.requires.free c.lengths_of.ensures
 
 pub slice_bounds-ga-end : goal.slice_bounds-ga-end
 slice_bounds-ga-end c = (room (goal.at.slice_bounds-ga-end c).After-lengths_of).a_most
@@ -45,52 +37,52 @@ slice_bounds-gc-end c = (room (goal.at.slice_bounds-gc-end c).After-lengths_of).
 
 pub slice_bounds-ga-end-2 : goal.slice_bounds-ga-end-2
 slice_bounds-ga-end-2 c =
-    let f = (goal.at.slice_bounds-ga-end-2 c).After-fourth_round-answer in
-    back_holds 1024 (room (at-lengths f)).a_most f.fourth_round-answer.new.ga
+    let f = (goal.at.slice_bounds-ga-end-2 c).After-lengths_of in
+    back_holds 1024 (room f).a_most f.fourth_round-answer.new.ga
     f.fourth_round-answer.auto.ga
 
 pub slice_bounds-gb-end-2 : goal.slice_bounds-gb-end-2
 slice_bounds-gb-end-2 c =
-    let f = (goal.at.slice_bounds-gb-end-2 c).After-fourth_round-answer in
-    back_holds 1024 (room (at-lengths f)).b_most f.fourth_round-answer.new.gb
+    let f = (goal.at.slice_bounds-gb-end-2 c).After-lengths_of in
+    back_holds 1024 (room f).b_most f.fourth_round-answer.new.gb
     f.fourth_round-answer.auto.gb
 
 pub slice_bounds-gc-end-2 : goal.slice_bounds-gc-end-2
 slice_bounds-gc-end-2 c =
-    let f = (goal.at.slice_bounds-gc-end-2 c).After-fourth_round-answer in
-    back_holds 1024 (room (at-lengths f)).c_most f.fourth_round-answer.new.gc
+    let f = (goal.at.slice_bounds-gc-end-2 c).After-lengths_of in
+    back_holds 1024 (room f).c_most f.fourth_round-answer.new.gc
     f.fourth_round-answer.auto.gc
 
 pub put_fourth_lines-place-requires : goal.put_fourth_lines-place-requires
 put_fourth_lines-place-requires c =
-    let f = (goal.at.put_fourth_lines-place-requires c).After-fourth_round-answer in
+    let f = c in
     let last = f.fourth_round-answer.new.1.1.1.1.1.1.1.1.1.1.1.1 in
     let kept = f.fourth_round-answer.auto.1.1.1.1.1.1.1.1.1.1.1.1 in
-    let n = at-lengths f in
+    let n = f.before.before.before.before.before.before.before.before.before.before.before.before.before in
     let R = room n in record {
       ga_len_bound = (
         part_order (back_length 1024 R.a_most last.0 kept.0) R.a_most,
         part_order (back_length 1024 R.b_most last.1.0 kept.1.0) R.b_most,
         part_order (back_length 1024 R.c_most last.1.1.0 kept.1.1.0) R.c_most,
       );
-      most_fourth_in_bounds = (start n).pre.1;
+      most_fourth_in_bounds = n.requires.most_fourth_in_bounds;
     }
 
 pub returns : goal.returns
 unfolding fourth_text
 returns c =
     let z = c in
-    let f = z.before.before.before.before.before.before.before.before.before.before.before in
-    let n = at-lengths f in
-    let a = (start n).args in
+    let f = z in
+    let n = f.before.before.before.before.before.before.before.before.before.before.before.before.before.before.before.before in
+    let a = n.args in
     let last = f.fourth_round-answer.new.1.1.1.1.1.1.1.1.1.1.1.1 in
     let kept = f.fourth_round-answer.auto.1.1.1.1.1.1.1.1.1.1.1.1 in
     let R = room n in
-    let table = ap (λ (l : MessageLengths). l.matrix_remainders) n.lengths-of.ensures in
+    let table = ap (λ (l : MessageLengths). l.matrix_remainders) n.lengths_of.ensures in
     let lent =
     three_same (due (input n)).matrix_remainders (sym (lent_length 1024 R.a_most) ∙ ap (λ (l : Three ℕ). l.a) table)
     (sym (lent_length 1024 R.b_most) ∙ ap (λ (l : Three ℕ). l.b) table) (sym (lent_length 1024 R.c_most) ∙ ap (λ (l : Three ℕ). l.c) table) in
-    let done = fourth-done (input n) a.alpha (three a.eta) a.beta _ (start n).pre.0 lent f.fourth_round-answer.ensures in
+    let done = fourth-done (input n) a.alpha (three a.eta) a.beta _ n.requires.free lent f.fourth_round-answer.ensures in
     let values = z.words_or_zeros-values.ensures ∙ done.0 in
     let ga = back_is 1024 R.a_most last.0 kept.0 ∙ ap (λ (g : Three (List ℕ)). g.a) done.1 in
     let gb = back_is 1024 R.b_most last.1.0 kept.1.0 ∙ ap (λ (g : Three (List ℕ)). g.b) done.1 in

@@ -18,21 +18,14 @@ zeros s = all (map (λ w. eqb w 0) (drop s.args.n s.args.x.now))
 abbrev rest : Prime → Start → Bool
 rest q s = all_below q (take s.args.n s.args.x.now) && zeros s
 
--- the start, from the place of the first word's answer and from that of the public words'
-abbrev from_first : Else-not-begins_with_one → Start
-from_first c = c.before.before.before
-
-abbrev from-below : After-all_below → Start
-from-below c = from_first c.before
-
-past_first : (q : Prime) (c : Else-not-begins_with_one) → let s = from_first c in rest q s ≡ public_fits q s.args.n s.args.x.now
+past_first : (q : Prime) (c : Else-not-begins_with_one) → let s = c.before.before.before in rest q s ≡ public_fits q s.args.n s.args.x.now
 unfolding public_fits
-past_first q c = ap (λ b. b && rest q (from_first c)) (sym (not-false _ c.if-not-begins_with_one.false) ∙ c.begins_with_one.ensures)
+past_first q c = ap (λ b. b && rest q c.before.before.before) (sym (not-false _ c.if-not-begins_with_one.false) ∙ c.begins_with_one.ensures)
 
-below-is : (q : Prime) (c : After-all_below) → let s = from-below c in q.p ≡ s.args.p
+below-is : (q : Prime) (c : After-all_below) → let s = c.before.before.before.before in q.p ≡ s.args.p
     → c.all_below.result ≡ all_below q (take s.args.n s.args.x.now)
 below-is q c e =
-    let s = from-below c in
+    let s = c in
     c.all_below.ensures ∙ ap (λ p. all (map (λ w. ltb w p) (take s.args.n s.args.x.now))) (sym e)
 
 pub returns-then-not-begins_with_one : goal.returns-then-not-begins_with_one
@@ -42,13 +35,13 @@ returns-then-not-begins_with_one c q e = ap (λ b. b && rest q (goal.at.returns-
 pub returns-then-not-all_below : goal.returns-then-not-all_below
 returns-then-not-all_below c q e =
     let b = (goal.at.returns-then-not-all_below c).Else-not-begins_with_one in
-    ap (λ t. t && zeros (from-below b)) (sym (not-true _ c.if-not-all_below.true) ∙ below-is q b e) ∙ past_first q b
+    ap (λ t. t && zeros b.before.before.before) (sym (not-true _ c.if-not-all_below.true) ∙ below-is q b e) ∙ past_first q b
 
 pub returns : goal.returns
 returns c q e =
     let d = c in
     let b = d.before.before.before.before in
-    let s = from-below b in
+    let s = b.before.before.before in
     let after = drop s.args.n s.args.x.now in
     c.all_zero.ensures
     ∙ ap (λ l. all (map (λ w. eqb w 0) l)) (ap (λ k. take k after) (sym (length-drop s.args.n s.args.x.now)) ∙ take-length after)

@@ -14,7 +14,7 @@ use Rattle.shared.proofs.EarlyReturns.{stops, goes_on, fails_first, passes, last
 use Rattle.shared.specs.Meanings.{sizes, is_fine}
 use Rattle.step_refusals.proofs.Turns.{turn_allowed}
 use Rattle.step_refusals.proofs.refusals.judge_challenge.Goals as goal
-use Rattle.step_refusals.proofs.refusals.judge_challenge.Goals.{After-judge_turn-turn, Else-not-is_fine, Else-p-y, Start}
+use Rattle.step_refusals.proofs.refusals.judge_challenge.Goals.{Else-not-is_fine, Else-p-y, Start}
 
 -- the rows after the domain, after the word, and after the turn
 module _ (s : Start) where
@@ -27,38 +27,35 @@ module _ (s : Start) where
   abbrev after_turn : Prime → List (Option Refusal)
   after_turn q = word_refusal q (s.args.y ∷ []) ∷ after-word q
 
-abbrev start : After-judge_turn-turn → Start
-start j = j.before.before.before
-
 fine : (c : Else-not-is_fine) → is_fine c.judge_turn-turn.result ≡ true
 fine c = sym c.is_fine.ensures ∙ not-false _ c.if-not-is_fine.false
 
-below : (q : Prime) (c : Else-p-y) → let a = (start c.before.before.before).args in q.p ≡ a.p → ltb a.y q.p ≡ true
-below q c e = lt-ltb (start c.before.before.before).args.y q.p (omega arith)
+below : (q : Prime) (c : Else-p-y) → let a = c.args in q.p ≡ a.p → ltb a.y q.p ≡ true
+below q c e = lt-ltb c.args.y q.p (omega arith)
 
 pub returns-then-not-is_fine : goal.returns-then-not-is_fine
 returns-then-not-is_fine c q Q e =
-    let j = (goal.at.returns-then-not-is_fine c).After-judge_turn-turn in
-    stops j.judge_turn-turn.result j.judge_turn-turn.ensures (after_turn (start j) q) (sym c.is_fine.ensures ∙ not-true _ c.if-not-is_fine.true)
+    let j = (goal.at.returns-then-not-is_fine c).Start in
+    stops j.judge_turn-turn.result j.judge_turn-turn.ensures (after_turn j q) (sym c.is_fine.ensures ∙ not-true _ c.if-not-is_fine.true)
 
 pub returns-then-p-y : goal.returns-then-p-y
 unfolding word_refusal
 returns-then-p-y c q Q e =
     let d = (goal.at.returns-then-p-y c).Else-not-is_fine in
-    let j = d.before.before in
-    let s = start j in
+    let j = d in
+    let s = j.before.before.before.before.before in
     goes_on j.judge_turn-turn.result j.judge_turn-turn.ensures (after_turn s q) (fine d)
     (fails_first 6 0 (after-word s q) (le-ltb s.args.y q.p (omega arith)))
 
 pub is_inside-requires : goal.is_inside-requires
 is_inside-requires c =
     let d = (goal.at.is_inside-requires c).Else-not-is_fine in
-    let j = d.before.before in
-    let s = start j in
+    let j = d in
+    let s = j in
     let a = s.args in
     record {
       lt_p = search rules;
-      n_value = s.pre.1.0 (turn_allowed a.taken a.stage (sizes a.s) j.judge_turn-turn.result j.judge_turn-turn.ensures (fine d));
+      n_value = s.requires.n_value (turn_allowed a.taken a.stage (sizes a.s) j.judge_turn-turn.result j.judge_turn-turn.ensures (fine d));
     }
 
 pub returns-then-is_inside : goal.returns-then-is_inside
@@ -66,8 +63,8 @@ unfolding word_refusal challenge_refusal
 returns-then-is_inside c q Q e =
     let i = (goal.at.returns-then-is_inside c).Else-p-y in
     let d = i.before in
-    let j = d.before.before in
-    let s = start j in
+    let j = d in
+    let s = j.before.before.before.before.before in
     goes_on j.judge_turn-turn.result j.judge_turn-turn.ensures (after_turn s q) (fine d)
     (passes 6 0 (after-word s q) (below q i e)
     (fails_first 10 s.args.position (after-domain s) (ap not (sym (i.is_inside.ensures q Q e) ∙ c.if-is_inside.true))))
@@ -78,8 +75,8 @@ returns c q Q e =
     let n = c in
     let i = n.before.before.before in
     let d = i.before in
-    let j = d.before.before in
-    let s = start j in
+    let j = d in
+    let s = j.before.before.before.before.before in
     goes_on j.judge_turn-turn.result j.judge_turn-turn.ensures (after_turn s q) (fine d)
     (passes 6 0 (after-word s q) (below q i e)
     (passes 10 s.args.position (after-domain s) (ap not (sym (i.is_inside.ensures q Q e) ∙ n.if-is_inside.false)) (last_answer_lem c.judge_lengths.ensures)))

@@ -12,7 +12,7 @@ use Rattle.protocol.specs.Session.{open_refusal}
 use Rattle.shared.proofs.EarlyReturns.{stops, goes_on, last_answer_lem, fails_first, passes}
 use Rattle.protocol.proofs.Rows.{word_row}
 use Rattle.step_refusals.proofs.refusals.judge_open.Goals as goal
-use Rattle.step_refusals.proofs.refusals.judge_open.Goals.{After-judge_words-in_words, Else-not-is_fine, Else-x-s, Start}
+use Rattle.step_refusals.proofs.refusals.judge_open.Goals.{Else-not-is_fine, Else-x-s, Start}
 
 -- the rows after the length, and after the sizes
 abbrev after-length : Prime → Start → List (Option Refusal)
@@ -35,10 +35,6 @@ past_length q c y =
     let d = c.before.before.before.before.before.before in
     past_sizes q d (passes 5 0 (after-length q d) (eq-eqb _ _ c.if-x-s.false) y)
 
--- the start, from the place of the words' answer
-abbrev from-words : After-judge_words-in_words → Start
-from-words c = c.before.before.before.before.before.before.before
-
 pub returns-then-not-is_fine : goal.returns-then-not-is_fine
 unfolding open_refusal size_refusal
 returns-then-not-is_fine c q e =
@@ -54,7 +50,7 @@ returns-then-x-s c q e =
 pub returns-then-not-is_fine-2 : goal.returns-then-not-is_fine-2
 returns-then-not-is_fine-2 c q e =
     let w = (goal.at.returns-then-not-is_fine-2 c).Else-x-s in
-    let x = (from-words w).args.x.now in
+    let x = w.args.x.now in
     past_length q w
     (stops w.judge_words-in_words.result {o = word_refusal q x} (w.judge_words-in_words.ensures ∙ word_row q e x) (constant_refusal x ∷ [])
     (sym c.is_fine-2.ensures ∙ not-true _ c.if-not-is_fine-2.true))
@@ -63,7 +59,7 @@ pub returns : goal.returns
 returns c q e =
     let d = c in
     let w = d.before.before.before.before in
-    let x = (from-words w).args.x.now in
+    let x = w.args.x.now in
     past_length q w
     (goes_on w.judge_words-in_words.result {o = word_refusal q x} (w.judge_words-in_words.ensures ∙ word_row q e x) (constant_refusal x ∷ [])
     (sym d.is_fine-2.ensures ∙ not-false _ d.if-not-is_fine-2.false) (last_answer_lem c.judge_constant.ensures))

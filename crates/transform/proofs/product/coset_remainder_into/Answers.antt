@@ -14,35 +14,7 @@ use Rattle.poly.proofs.LentParts.{parts_order, returned, lent_length, back_holds
 use Rattle.transform.specs.Reading.{ValueTables}
 use Rattle.transform.proofs.TableLaws.{values-lent}
 use Rattle.transform.proofs.product.coset_remainder_into.Goals as goal
-use Rattle.transform.proofs.product.coset_remainder_into.Goals.{After-coset_values_into, After-coset_values_into-2, After-fill_tables, After-remainder_from, Start}
-
--- the way back from a place in the code to an earlier one
-abbrev start-from-fill-tables : After-fill_tables → Start
-start-from-fill-tables c = c.before.before.before.before.before.before.before.before
-
-abbrev fill-tables-from-coset-values-into : After-coset_values_into → After-fill_tables
-fill-tables-from-coset-values-into c = c.before.before.before.before.before.before
-
-abbrev fill-tables-from-coset-values-into2 : After-coset_values_into-2 → After-fill_tables
-fill-tables-from-coset-values-into2 c = fill-tables-from-coset-values-into c.before.before.before.before.before
-
-abbrev start-from-coset-values-into : After-coset_values_into → Start
-start-from-coset-values-into c = start-from-fill-tables c.before.before.before.before.before.before
-
-abbrev coset-values-into-from-coset-values-into2 : After-coset_values_into-2 → After-coset_values_into
-coset-values-into-from-coset-values-into2 c = c.before.before.before.before.before
-
-abbrev start-from-coset-values-into2 : After-coset_values_into-2 → Start
-start-from-coset-values-into2 c = start-from-coset-values-into c.before.before.before.before.before
-
-abbrev fill-tables-from-remainder-from : After-remainder_from → After-fill_tables
-fill-tables-from-remainder-from c = fill-tables-from-coset-values-into2 c.before.before.before.before.before
-
-abbrev coset-values-into-from-remainder-from : After-remainder_from → After-coset_values_into
-coset-values-into-from-remainder-from c = coset-values-into-from-coset-values-into2 c.before.before.before.before.before
-
-abbrev coset-values-into2-from-remainder-from : After-remainder_from → After-coset_values_into-2
-coset-values-into2-from-remainder-from c = c.before.before.before.before.before
+use Rattle.transform.proofs.product.coset_remainder_into.Goals.{After-coset_values_into, After-coset_values_into-2, After-fill_tables, Start}
 
 bound : (c : Start) → length c.args.out.now ≤ 1024
 bound c = size_bound (length c.args.out.now) c.requires.out_value
@@ -50,7 +22,7 @@ bound c = size_bound (length c.args.out.now) c.requires.out_value
 -- the tables for values, and what the two calls left, each in its array
 module _ (c : After-fill_tables) where
   abbrev start : Start
-  start = start-from-fill-tables c
+  start = c.before.before.before.before.before.before.before.before
 
   abbrev n : ℕ
   n = length start.args.out.now
@@ -75,7 +47,7 @@ module _ (c : After-fill_tables) where
 
 module _ (c : After-coset_values_into) where
   abbrev first-tables : After-fill_tables
-  first-tables = fill-tables-from-coset-values-into c
+  first-tables = c.before.before.before.before.before.before
 
   abbrev first : List ℕ
   first = c.coset_values_into.new.out
@@ -85,7 +57,7 @@ module _ (c : After-coset_values_into) where
 
 module _ (c : After-coset_values_into-2) where
   abbrev second-tables : After-fill_tables
-  second-tables = fill-tables-from-coset-values-into2 c
+  second-tables = c.before.before.before.before.before.before.before.before.before.before.before
 
   abbrev second : List ℕ
   second = c.coset_values_into-2.new.out
@@ -115,67 +87,67 @@ pub slice_bounds-value_quotients-end-2 : goal.slice_bounds-value_quotients-end-2
 slice_bounds-value_quotients-end-2 c = value-quotients_holds (goal.at.slice_bounds-value_quotients-end-2 c).After-fill_tables
 
 pub slice_bounds-left-end : goal.slice_bounds-left-end
-slice_bounds-left-end c = bound (start-from-fill-tables (goal.at.slice_bounds-left-end c).After-fill_tables)
+slice_bounds-left-end c = bound (goal.at.slice_bounds-left-end c).Start
 
 pub coset_values_into-requires : goal.coset_values_into-requires
 coset_values_into-requires c =
-    let s = start-from-fill-tables (goal.at.coset_values_into-requires c).After-fill_tables in
+    let s = (goal.at.coset_values_into-requires c).Start in
     let t = (goal.at.coset_values_into-requires c).After-fill_tables in
     let part = lent_length 1024 (bound s) in record {
-      lt_p = s.pre.0;
-      out_value = ap is_size (sym part) ∙ s.pre.1.0;
-      f_len = s.pre.1.1.0.0 ∙ part;
+      lt_p = s.requires.lt_p;
+      out_value = ap is_size (sym part) ∙ s.requires.out_value;
+      f_len = s.requires.f_len.0 ∙ part;
       out_in_bounds = (parts_order part (value-powers-length t) (le_refl _), parts_order part (value-quotients-length t) (le_refl _));
     }
 
 pub slice_bounds-value_powers-end-3 : goal.slice_bounds-value_powers-end-3
-slice_bounds-value_powers-end-3 c = value-powers_holds (fill-tables-from-coset-values-into (goal.at.slice_bounds-value_powers-end-3 c).After-coset_values_into)
+slice_bounds-value_powers-end-3 c = value-powers_holds (goal.at.slice_bounds-value_powers-end-3 c).After-fill_tables
 
 pub slice_bounds-value_quotients-end-3 : goal.slice_bounds-value_quotients-end-3
-slice_bounds-value_quotients-end-3 c = value-quotients_holds (fill-tables-from-coset-values-into (goal.at.slice_bounds-value_quotients-end-3 c).After-coset_values_into)
+slice_bounds-value_quotients-end-3 c = value-quotients_holds (goal.at.slice_bounds-value_quotients-end-3 c).After-fill_tables
 
 pub slice_bounds-right-end : goal.slice_bounds-right-end
-slice_bounds-right-end c = bound (start-from-coset-values-into (goal.at.slice_bounds-right-end c).After-coset_values_into)
+slice_bounds-right-end c = bound (goal.at.slice_bounds-right-end c).Start
 
 pub coset_values_into-requires-2 : goal.coset_values_into-requires-2
 coset_values_into-requires-2 c =
-    let s = start-from-coset-values-into (goal.at.coset_values_into-requires-2 c).After-coset_values_into in
-    let t = fill-tables-from-coset-values-into (goal.at.coset_values_into-requires-2 c).After-coset_values_into in
+    let s = (goal.at.coset_values_into-requires-2 c).Start in
+    let t = (goal.at.coset_values_into-requires-2 c).After-fill_tables in
     let part = lent_length 1024 (bound s) in record {
-      lt_p = s.pre.0;
-      out_value = ap is_size (sym part) ∙ s.pre.1.0;
-      f_len = s.pre.1.1.0.1 ∙ part;
+      lt_p = s.requires.lt_p;
+      out_value = ap is_size (sym part) ∙ s.requires.out_value;
+      f_len = s.requires.f_len.1 ∙ part;
       out_in_bounds = (parts_order part (value-powers-length t) (le_refl _), parts_order part (value-quotients-length t) (le_refl _));
     }
 
 pub slice_bounds-left-end-2 : goal.slice_bounds-left-end-2
 slice_bounds-left-end-2 c =
-    let l = coset-values-into-from-coset-values-into2 (goal.at.slice_bounds-left-end-2 c).After-coset_values_into-2 in
-    back_holds 1024 (bound (start-from-coset-values-into2 (goal.at.slice_bounds-left-end-2 c).After-coset_values_into-2)) (first l) l.coset-values-into.kept.1.1.1.1.1.0
+    let l = (goal.at.slice_bounds-left-end-2 c).After-coset_values_into in
+    back_holds 1024 (bound (goal.at.slice_bounds-left-end-2 c).Start) (first l) l.coset_values_into.kept.1.1.1.1.1.0
 
 pub slice_bounds-right-end-2 : goal.slice_bounds-right-end-2
 slice_bounds-right-end-2 c =
     let r = (goal.at.slice_bounds-right-end-2 c).After-coset_values_into-2 in
-    back_holds 1024 (bound (start-from-coset-values-into2 (goal.at.slice_bounds-right-end-2 c).After-coset_values_into-2)) (second r) r.coset_values_into-2.auto.out
+    back_holds 1024 (bound (goal.at.slice_bounds-right-end-2 c).Start) (second r) r.coset_values_into-2.auto.out
 
 pub remainder_from-requires : goal.remainder_from-requires
 remainder_from-requires c =
-    let s = start-from-coset-values-into2 (goal.at.remainder_from-requires c).After-coset_values_into-2 in record {
-      lt_p = s.pre.0;
-      out_value = s.pre.1.0;
+    let s = c in record {
+      lt_p = s.requires.lt_p;
+      out_value = s.requires.out_value;
       left_len = (
-        sym (first-length (coset-values-into-from-coset-values-into2 (goal.at.remainder_from-requires c).After-coset_values_into-2)),
+        sym (first-length (goal.at.remainder_from-requires c).After-coset_values_into),
         sym
             (second-length (goal.at.remainder_from-requires c).After-coset_values_into-2),
       );
-      out_in_bounds = s.pre.1.1.1;
+      out_in_bounds = s.requires.out_in_bounds;
     }
 
 pub returns : goal.returns
 returns c q Q e root-word tables =
-    let t = fill-tables-from-remainder-from (goal.at.returns c).After-remainder_from in
-    let l = coset-values-into-from-remainder-from (goal.at.returns c).After-remainder_from in
-    let r = coset-values-into2-from-remainder-from (goal.at.returns c).After-remainder_from in
+    let t = (goal.at.returns c).After-fill_tables in
+    let l = (goal.at.returns c).After-coset_values_into in
+    let r = (goal.at.returns c).After-coset_values_into-2 in
     let s = start t in
     let a = s.args in
     let m : ℕ = n t in
@@ -184,11 +156,11 @@ returns c q Q e root-word tables =
     let twisted : List ℕ → Poly q = λ f. twist (prime_ring q) (of a.s) (map of f) in
     let here : ValueTables q _ (take m (returned 1024 m (value-powers t))) (take m (returned 1024 m (value-quotients t))) =
     subst (λ (k : ℕ). ValueTables q k (take m (returned 1024 m (value-powers t))) (take m (returned 1024 m (value-quotients t)))) part
-    (values-lent q 1024 fits (value-powers t) (value-quotients t) t.fill-tables.kept.1.1.0 t.fill-tables.kept.1.1.1.0
+    (values-lent q 1024 fits (value-powers t) (value-quotients t) t.fill_tables.kept.1.1.0 t.fill_tables.kept.1.1.1.0
     a.root root-word
-    (t.fill-tables.ensures q e)) in
+    (t.fill_tables.ensures q e)) in
     c.remainder_from.ensures q Q e tables (twisted a.f.now) (twisted a.g.now)
-    (back_list 1024 fits (first l) l.coset-values-into.kept.1.1.1.1.1.0 (values_on m (twisted a.f.now))
-    (l.coset-values-into.ensures q Q e here ∙ ap (λ (k : ℕ). words (values_on k (twisted a.f.now))) (sym part)))
-    (back_list 1024 fits (second r) r.coset-values-into2.kept.1.1.1.1.1.0 (values_on m (twisted a.g.now))
-    (r.coset-values-into2.ensures q Q e here ∙ ap (λ (k : ℕ). words (values_on k (twisted a.g.now))) (sym part)))
+    (back_list 1024 fits (first l) l.coset_values_into.kept.1.1.1.1.1.0 (values_on m (twisted a.f.now))
+    (l.coset_values_into.ensures q Q e here ∙ ap (λ (k : ℕ). words (values_on k (twisted a.f.now))) (sym part)))
+    (back_list 1024 fits (second r) r.coset_values_into-2.kept.1.1.1.1.1.0 (values_on m (twisted a.g.now))
+    (r.coset_values_into-2.ensures q Q e here ∙ ap (λ (k : ℕ). words (values_on k (twisted a.g.now))) (sym part)))

@@ -12,21 +12,14 @@ use Rattle.domain.proofs.SizeLaws.{size_bound}
 use Rattle.poly.proofs.LentParts.{part_order, returned, lent_length, back_holds, back_length, back_list}
 use Rattle.transform.specs.Reading.{ValueTables}
 use Rattle.transform.proofs.product.coset_values_into.Goals as goal
-use Rattle.transform.proofs.product.coset_values_into.Goals.{After-evaluate_with, After-twist_into, Start}
-
--- the way back from a place in the code to an earlier one
-abbrev start-from-twist-into : After-twist_into → Start
-start-from-twist-into c = c.before.before.before.before.before.before
-
-abbrev twist-into-from-evaluate-with : After-evaluate_with → After-twist_into
-twist-into-from-evaluate-with c = c.before.before.before.before
+use Rattle.transform.proofs.product.coset_values_into.Goals.{After-twist_into, Start}
 
 bound : (c : Start) → length c.args.out.now ≤ 1024
 bound c = size_bound (length c.args.out.now) c.requires.out_value
 
 -- the start, from the twist, and the twist's length
 abbrev start : After-twist_into → Start
-start c = start-from-twist-into c
+start c = c.before.before.before.before.before.before
 
 module _ (c : After-twist_into) where
   abbrev n : ℕ
@@ -66,11 +59,11 @@ evaluate_with-requires c =
 
 pub returns : goal.returns
 returns c q Q e tables =
-    let t = twist-into-from-evaluate-with (goal.at.returns c).After-evaluate_with in
+    let t = (goal.at.returns c).After-twist_into in
     let s = start t in
     let a = s.args in
     let f : Poly q = twist (prime_ring q) (of a.s) (map of a.f.now) in
     c.evaluate_with.ensures q Q e (subst (λ (k : ℕ). ValueTables q k a.powers.now a.quotients.now)
     (made_length t) tables)
     ∙ ap₂ (λ (k : ℕ) (f : Poly q). words (values_on k f)) (sym (made_length t))
-    (back_list 1024 (bound s) (made t) t.twist-into.kept.1.1.1.0 f (t.twist-into.ensures q e))
+    (back_list 1024 (bound s) (made t) t.twist_into.kept.1.1.1.0 f (t.twist_into.ensures q e))

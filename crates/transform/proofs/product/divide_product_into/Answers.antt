@@ -10,23 +10,7 @@ use Rattle.domain.proofs.SizeLaws.{size_bound}
 use Rattle.poly.proofs.LentParts.{returned, lent_length, back_holds, back_length}
 use Rattle.transform.proofs.TableLaws.{coefficients_lent}
 use Rattle.transform.proofs.product.divide_product_into.Goals as goal
-use Rattle.transform.proofs.product.divide_product_into.Goals.{After-divide_with, After-fill_inverse_tables, After-root_of-root, Start}
-
--- the way back from a place in the code to an earlier one
-abbrev start-from-root-of : After-root_of-root → Start
-start-from-root-of c = c.before.before.before.before.before.before
-
-abbrev start-from-fill-inverse-tables : After-fill_inverse_tables → Start
-start-from-fill-inverse-tables c = start-from-root-of c.before.before.before
-
-abbrev fill-inverse-tables-from-divide-with : After-divide_with → After-fill_inverse_tables
-fill-inverse-tables-from-divide-with c = c.before.before.before.before.before.before.before.before
-
-abbrev root-of-from-fill-inverse-tables : After-fill_inverse_tables → After-root_of-root
-root-of-from-fill-inverse-tables c = c.before.before.before
-
-abbrev root-of-from-divide-with : After-divide_with → After-root_of-root
-root-of-from-divide-with c = root-of-from-fill-inverse-tables c.before.before.before.before.before.before.before.before
+use Rattle.transform.proofs.product.divide_product_into.Goals.{After-fill_inverse_tables, Start}
 
 bound : (c : Start) → length c.args.left.now ≤ 1024
 bound c = size_bound (length c.args.left.now) c.requires.left_value
@@ -34,7 +18,7 @@ bound c = size_bound (length c.args.left.now) c.requires.left_value
 -- the tables in their arrays
 module _ (c : After-fill_inverse_tables) where
   abbrev start : Start
-  start = start-from-fill-inverse-tables c
+  start = c.before.before.before.before.before.before.before.before.before
 
   abbrev n : ℕ
   n = length start.args.left.now
@@ -55,18 +39,18 @@ pub overflow_cast-n : goal.overflow_cast-n
 overflow_cast-n c = omega (arith, bound (goal.at.overflow_cast-n c).Start)
 
 pub slice_bounds-powers-end : goal.slice_bounds-powers-end
-slice_bounds-powers-end c = bound (start-from-root-of (goal.at.slice_bounds-powers-end c).After-root_of-root)
+slice_bounds-powers-end c = bound (goal.at.slice_bounds-powers-end c).Start
 
 pub slice_bounds-quotients-end : goal.slice_bounds-quotients-end
-slice_bounds-quotients-end c = bound (start-from-root-of (goal.at.slice_bounds-quotients-end c).After-root_of-root)
+slice_bounds-quotients-end c = bound (goal.at.slice_bounds-quotients-end c).Start
 
 pub fill_inverse_tables-requires : goal.fill_inverse_tables-requires
 fill_inverse_tables-requires c =
-    let s = start-from-root-of (goal.at.fill_inverse_tables-requires c).After-root_of-root in
+    let s = (goal.at.fill_inverse_tables-requires c).Start in
     let part = lent_length 1024 (bound s) in
     record {
-      lt_p = s.pre.0.0;
-      quotients_len = (sym part ∙ part, ap is_size (sym part) ∙ s.pre.1.0);
+      lt_p = s.requires.modulus.0;
+      quotients_len = (sym part ∙ part, ap is_size (sym part) ∙ s.requires.left_value);
     }
 
 pub slice_bounds-powers-end-2 : goal.slice_bounds-powers-end-2
@@ -81,16 +65,16 @@ slice_bounds-quotients-end-2 c =
 
 pub divide_with-requires : goal.divide_with-requires
 divide_with-requires c =
-    let s = start-from-fill-inverse-tables (goal.at.divide_with-requires c).After-fill_inverse_tables in
+    let s = c in
     let t = (goal.at.divide_with-requires c).After-fill_inverse_tables in
-    (s.pre.0, (s.pre.1.0, ((omega (arith, powers-length t), omega (arith, quotients-length t)), s.pre.1.1)))
+    (s.requires.modulus, (s.requires.left_value, ((omega (arith, powers-length t), omega (arith, quotients-length t)), s.requires.1.1)))
 
 pub returns : goal.returns
 returns c q known =
-    let t = fill-inverse-tables-from-divide-with (goal.at.returns c).After-divide_with in
-    let call = t.fill-inverse-tables in
+    let t = (goal.at.returns c).After-fill_inverse_tables in
+    let call = t.fill_inverse_tables in
     let fits = bound (start t) in
-    let root-word = (root-of-from-divide-with (goal.at.returns c).After-divide_with).root_of-root.ensures q known in
+    let root-word = c.root_of-root.ensures q known in
     c.divide_with.ensures q known root-word
     (coefficients_lent q 1024 fits (powers t) (quotients t) call.kept.1.1.0 call.kept.1.1.1.0
     (call.ensures q known.value (root-word ∙ ap (λ (m : ℕ). (root {q = q} m).word) (lent_length 1024 fits))))

@@ -21,47 +21,7 @@ use Rattle.poly.proofs.LentParts.{part_order, returned, lent_length, back_holds,
 use Rattle.transform.specs.Reading.{CoefficientTables}
 use Rattle.transform.proofs.CosetWords.{known_shift, shift_outside, shift_not-zero}
 use Rattle.transform.proofs.product.divide_with.Goals as goal
-use Rattle.transform.proofs.product.divide_with.Goals.{After-coset_remainder_into, After-interpolate_with, After-interpolate_with-2, After-quotient_from, After-remainder_from, Start}
-
--- the way back from a place in the code to an earlier one
-abbrev start-from-interpolate-with : After-interpolate_with → Start
-start-from-interpolate-with c = c.before.before.before.before.before.before.before.before.before
-
-abbrev start-from-interpolate-with2 : After-interpolate_with-2 → Start
-start-from-interpolate-with2 c = start-from-interpolate-with c.before.before.before.before
-
-abbrev interpolate-with2-from-remainder-from : After-remainder_from → After-interpolate_with-2
-interpolate-with2-from-remainder-from c = c.before.before.before
-
-abbrev interpolate-with2-from-coset-remainder-into : After-coset_remainder_into → After-interpolate_with-2
-interpolate-with2-from-coset-remainder-into c = interpolate-with2-from-remainder-from c.before.before.before.before.before
-
-abbrev start-from-remainder-from : After-remainder_from → Start
-start-from-remainder-from c = start-from-interpolate-with2 c.before.before.before
-
-abbrev interpolate-with-from-remainder-from : After-remainder_from → After-interpolate_with
-interpolate-with-from-remainder-from c = c.before.before.before.before.before.before.before
-
-abbrev start-from-coset-remainder-into : After-coset_remainder_into → Start
-start-from-coset-remainder-into c = start-from-remainder-from c.before.before.before.before.before
-
-abbrev remainder-from-from-coset-remainder-into : After-coset_remainder_into → After-remainder_from
-remainder-from-from-coset-remainder-into c = c.before.before.before.before.before
-
-abbrev interpolate-with2-from-quotient-from : After-quotient_from → After-interpolate_with-2
-interpolate-with2-from-quotient-from c = interpolate-with2-from-coset-remainder-into c.before.before.before.before
-
-abbrev interpolate-with-from-coset-remainder-into : After-coset_remainder_into → After-interpolate_with
-interpolate-with-from-coset-remainder-into c = interpolate-with-from-remainder-from c.before.before.before.before.before
-
-abbrev interpolate-with-from-quotient-from : After-quotient_from → After-interpolate_with
-interpolate-with-from-quotient-from c = interpolate-with-from-coset-remainder-into c.before.before.before.before
-
-abbrev remainder-from-from-quotient-from : After-quotient_from → After-remainder_from
-remainder-from-from-quotient-from c = remainder-from-from-coset-remainder-into c.before.before.before.before
-
-abbrev coset-remainder-into-from-quotient-from : After-quotient_from → After-coset_remainder_into
-coset-remainder-into-from-quotient-from c = c.before.before.before.before
+use Rattle.transform.proofs.product.divide_with.Goals.{After-coset_remainder_into, After-interpolate_with-2, Start}
 
 bound : (c : Start) → length c.args.left.now ≤ 1024
 bound c = size_bound (length c.args.left.now) c.requires.left_value
@@ -75,7 +35,7 @@ product-length {q} f g k m f_length g-length positive e = omega (arith, length-p
 -- the coefficients of g in their array, and their length
 module _ (c : After-interpolate_with-2) where
   abbrev start : Start
-  start = start-from-interpolate-with2 c
+  start = c.before.before.before.before.before.before.before.before.before.before.before.before.before
 
   abbrev n : ℕ
   n = length start.args.left.now
@@ -89,7 +49,7 @@ module _ (c : After-interpolate_with-2) where
 -- the remainder on the coset, and its length
 module _ (c : After-coset_remainder_into) where
   abbrev at_other : After-interpolate_with-2
-  at_other = interpolate-with2-from-coset-remainder-into c
+  at_other = c.before.before.before.before.before.before.before.before
 
   abbrev turned : List ℕ
   turned = c.coset_remainder_into.new.out
@@ -98,76 +58,76 @@ module _ (c : After-coset_remainder_into) where
   turned_length = back_length 1024 (bound (start at_other)) turned c.coset_remainder_into.auto.out
 
 pub slice_bounds-other-end : goal.slice_bounds-other-end
-slice_bounds-other-end c = bound (start-from-interpolate-with (goal.at.slice_bounds-other-end c).After-interpolate_with)
+slice_bounds-other-end c = bound (goal.at.slice_bounds-other-end c).Start
 
 pub interpolate_with-requires-2 : goal.interpolate_with-requires-2
 interpolate_with-requires-2 c =
-    let s = start-from-interpolate-with (goal.at.interpolate_with-requires-2 c).After-interpolate_with in
-    let right : length s.args.right.now ≡ length s.args.left.now = s.pre.1.1.1.0.0 in record {
-      lt_p = s.pre.0.0;
-      out_len = (sym (lent_length 1024 (bound s)) ∙ sym right, ap is_size right ∙ s.pre.1.0);
-      values_in_bounds = (part_order (sym right) s.pre.1.1.0.0, part_order (sym right) s.pre.1.1.0.1);
+    let s = (goal.at.interpolate_with-requires-2 c).Start in
+    let right : length s.args.right.now ≡ length s.args.left.now = s.requires.right_len.0 in record {
+      lt_p = s.requires.modulus.0;
+      out_len = (sym (lent_length 1024 (bound s)) ∙ sym right, ap is_size right ∙ s.requires.left_value);
+      values_in_bounds = (part_order (sym right) s.requires.left_in_bounds.0, part_order (sym right) s.requires.left_in_bounds.1);
     }
 
 pub remainder_from-requires : goal.remainder_from-requires
 remainder_from-requires c =
-    let s = start-from-interpolate-with2 (goal.at.remainder_from-requires c).After-interpolate_with-2 in
-    let rest : length s.args.rest.now ≡ length s.args.left.now = s.pre.1.1.1.1.0 in record {
-      lt_p = s.pre.0.0;
-      out_value = ap is_size rest ∙ s.pre.1.0;
-      left_len = (sym rest, s.pre.1.1.1.0.0 ∙ sym rest);
-      out_in_bounds = (part_order (sym rest) s.pre.1.1.0.0, part_order (sym rest) s.pre.1.1.0.1);
+    let s = c in
+    let rest : length s.args.rest.now ≡ length s.args.left.now = s.requires.rest_len.0 in record {
+      lt_p = s.requires.modulus.0;
+      out_value = ap is_size rest ∙ s.requires.left_value;
+      left_len = (sym rest, s.requires.right_len.0 ∙ sym rest);
+      out_in_bounds = (part_order (sym rest) s.requires.left_in_bounds.0, part_order (sym rest) s.requires.left_in_bounds.1);
     }
 
 pub slice_bounds-other-end-2 : goal.slice_bounds-other-end-2
 slice_bounds-other-end-2 c =
-    let o = interpolate-with2-from-remainder-from (goal.at.slice_bounds-other-end-2 c).After-remainder_from in
-    back_holds 1024 (bound (start o)) (other o) o.interpolate-with2.kept.1.1.1.1.0
+    let o = (goal.at.slice_bounds-other-end-2 c).After-interpolate_with-2 in
+    back_holds 1024 (bound (start o)) (other o) o.interpolate_with-2.kept.1.1.1.1.0
 
 pub slice_bounds-turned-end : goal.slice_bounds-turned-end
-slice_bounds-turned-end c = bound (start-from-remainder-from (goal.at.slice_bounds-turned-end c).After-remainder_from)
+slice_bounds-turned-end c = bound (goal.at.slice_bounds-turned-end c).Start
 
 pub coset_remainder_into-requires : goal.coset_remainder_into-requires
 coset_remainder_into-requires c =
-    let s = start-from-remainder-from (goal.at.coset_remainder_into-requires c).After-remainder_from in
+    let s = (goal.at.coset_remainder_into-requires c).Start in
     let part = lent_length 1024 (bound s) in record {
-      lt_p = s.pre.0.0;
-      out_value = ap is_size (sym part) ∙ s.pre.1.0;
+      lt_p = s.requires.modulus.0;
+      out_value = ap is_size (sym part) ∙ s.requires.left_value;
       f_len = (
-        (interpolate-with-from-remainder-from (goal.at.coset_remainder_into-requires c).After-remainder_from).interpolate_with.auto.out
-            ∙ s.pre.1.1.1.0.1 ∙ part,
-        sym (other_length (interpolate-with2-from-remainder-from (goal.at.coset_remainder_into-requires c).After-remainder_from)) ∙ part,
+        c.interpolate_with.auto.out
+            ∙ s.requires.right_len.1 ∙ part,
+        sym (other_length (goal.at.coset_remainder_into-requires c).After-interpolate_with-2) ∙ part,
       );
-      out_in_bounds = (part_order part s.pre.1.1.0.0, part_order part s.pre.1.1.0.1);
+      out_in_bounds = (part_order part s.requires.left_in_bounds.0, part_order part s.requires.left_in_bounds.1);
     }
 
 pub overflow_cast-n : goal.overflow_cast-n
-overflow_cast-n c = omega (arith, bound (start-from-coset-remainder-into (goal.at.overflow_cast-n c).After-coset_remainder_into))
+overflow_cast-n c = omega (arith, bound (goal.at.overflow_cast-n c).Start)
 
 pub slice_bounds-turned-end-2 : goal.slice_bounds-turned-end-2
 slice_bounds-turned-end-2 c =
     let t = (goal.at.slice_bounds-turned-end-2 c).After-coset_remainder_into in
-    back_holds 1024 (bound (start-from-coset-remainder-into (goal.at.slice_bounds-turned-end-2 c).After-coset_remainder_into)) (turned t)
+    back_holds 1024 (bound (goal.at.slice_bounds-turned-end-2 c).Start) (turned t)
     t.coset_remainder_into.auto.out
 
 pub quotient_from-requires : goal.quotient_from-requires
 quotient_from-requires c =
-    let s = start-from-coset-remainder-into (goal.at.quotient_from-requires c).After-coset_remainder_into in
+    let s = c in
     let m : ℕ = length s.args.out.now in
-    let less : m ≤ length s.args.left.now = fewer s.pre.1.1.1.1.1 in record {
-      lt_p = s.pre.0.0;
-      n_value = s.pre.1.0;
-      outside_domain = (shift_outside s.pre.0.1 _ s.pre.1.0, shift_not-zero s.pre.0.1);
+    let less : m ≤ length s.args.left.now = fewer s.requires.rest_len.1 in record {
+      lt_p = s.requires.modulus.0;
+      n_value = s.requires.left_value;
+      outside_domain = (shift_outside s.requires.modulus.1 _ s.requires.left_value, shift_not-zero s.requires.modulus.1);
       out_in_bounds = (
         subst (λ (k : ℕ). m ≤ k) (sym ((remainder-from-from-coset-remainder-into
-            (goal.at.quotient_from-requires c).After-coset_remainder_into).remainder_from.auto.out ∙ s.pre.1.1.1.1.0)) less,
+            c.before.before.before.before).remainder_from.auto.out ∙ s.requires.rest_len.0)) less,
         subst (λ (k : ℕ). m ≤ k) (turned_length (goal.at.quotient_from-requires c).After-coset_remainder_into) less,
       );
     }
 
 pub returns : goal.returns
 returns c q known root-word tables =
-    let o = interpolate-with2-from-quotient-from (goal.at.returns c).After-quotient_from in
+    let o = (goal.at.returns c).After-interpolate_with-2 in
     let s = start o in
     let a = s.args in
     let m : ℕ = n o in
@@ -182,24 +142,24 @@ returns c q known root-word tables =
     let part : m ≡ _ = lent_length 1024 (bound s) in
     let f : Poly q = interpolate m (map of a.left.now) in
     let g : Poly q = interpolate m (map of a.right.now) in
-    let factor : List ℕ = (interpolate-with-from-quotient-from (goal.at.returns c).After-quotient_from).interpolate_with.new.out in
-    let is_factor : factor ≡ words f = (interpolate-with-from-quotient-from (goal.at.returns c).After-quotient_from).interpolate_with.ensures q Q e tables in
+    let factor : List ℕ = c.interpolate_with.new.out in
+    let is_factor : factor ≡ words f = c.interpolate_with.ensures q Q e tables in
     let is-other : map of (take m (returned 1024 m (other o))) ≡ g =
-    back_list 1024 (bound s) (other o) o.interpolate-with2.kept.1.1.1.1.0 g
-    (o.interpolate-with2.ensures q Q e (at _ (sym right-length))
+    back_list 1024 (bound s) (other o) o.interpolate_with-2.kept.1.1.1.1.0 g
+    (o.interpolate_with-2.ensures q Q e (at _ (sym right-length))
     ∙ ap (λ (k : ℕ). words {q = q} (interpolate k (map of a.right.now))) right-length) in
     let is-rest : _ ≡ words (remainder m (f ⊠ g)) =
-    (remainder-from-from-quotient-from (goal.at.returns c).After-quotient_from).remainder_from.ensures q Q e (at _ (sym rest-length)) f g
+    c.remainder_from.ensures q Q e (at _ (sym rest-length)) f g
     (sym (ap (λ (k : ℕ). values_on k f) rest-length ∙ values-interpolate Q m size (map of a.left.now)
     (length-map a.left.now (of {q = q}))))
     (sym (ap (λ (k : ℕ). values_on k g) rest-length
     ∙ values-interpolate Q m size (map of a.right.now) (length-map a.right.now (of {q = q}) ∙ right-length)))
     ∙ ap (λ (k : ℕ). words (remainder k (f ⊠ g))) rest-length in
-    let t = coset-remainder-into-from-quotient-from (goal.at.returns c).After-quotient_from in
+    let t = (goal.at.returns c).After-coset_remainder_into in
     let twisted : Poly q → Poly q = twist (prime_ring q) (of 31) in
     let is_turned : take m (returned 1024 m (turned t)) ≡ words (remainder m (twisted f ⊠ twisted g)) =
-    back_is 1024 (bound s) (turned t) t.coset-remainder-into.kept.1.1.1.1.1.1.1.0
-    ∙ t.coset-remainder-into.ensures q Q e (root-word ∙ ap (λ (k : ℕ). (root {q = q} k).word) part) (at _ part)
+    back_is 1024 (bound s) (turned t) t.coset_remainder_into.kept.1.1.1.1.1.1.1.0
+    ∙ t.coset_remainder_into.ensures q Q e (root-word ∙ ap (λ (k : ℕ). (root {q = q} k).word) part) (at _ part)
     ∙ ap (λ (k : ℕ). words {q = q} (remainder k (twisted (map of factor) ⊠ twisted (map of (take m (returned 1024 m (other o)))))))
     (sym part)
     ∙ ap₂ (λ (x y : Poly q). words (remainder m (twisted x ⊠ twisted y))) (of_results f is_factor) is-other in

@@ -13,21 +13,14 @@ use Rattle.poly.proofs.LentParts.{part_order, returned, lent_length, back_holds,
 use Rattle.transform.specs.Reading.{CoefficientTables}
 use Rattle.transform.proofs.CosetWords.{product-words}
 use Rattle.transform.proofs.product.remainder_from.Goals as goal
-use Rattle.transform.proofs.product.remainder_from.Goals.{After-interpolate_with, After-products_into, Start}
-
--- the way back from a place in the code to an earlier one
-abbrev start-from-products-into : After-products_into → Start
-start-from-products-into c = c.before.before.before.before.before.before.before
-
-abbrev products-into-from-interpolate-with : After-interpolate_with → After-products_into
-products-into-from-interpolate-with c = c.before.before.before.before
+use Rattle.transform.proofs.product.remainder_from.Goals.{After-products_into, Start}
 
 bound : (c : Start) → length c.args.out.now ≤ 1024
 bound c = size_bound (length c.args.out.now) c.requires.out_value
 
 -- the start, from the products, and their length
 abbrev start : After-products_into → Start
-start c = start-from-products-into c
+start c = c.before.before.before.before.before.before.before
 
 module _ (c : After-products_into) where
   abbrev n : ℕ
@@ -68,13 +61,13 @@ interpolate_with-requires c =
 
 pub returns : goal.returns
 returns c q Q e tables f g of_left of_right =
-    let m = products-into-from-interpolate-with (goal.at.returns c).After-interpolate_with in
+    let m = (goal.at.returns c).After-products_into in
     let s = start m in
     let a = s.args in
     let rule : ℕ → Elem q = λ i. of (get_or a.left.now i 0) ⊗ of (get_or a.right.now i 0) in
     let values : map of (take (n m) (returned 1024 (n m) (made m))) ≡ tabulate (n m) rule =
-    back_list 1024 (bound s) (made m) m.products-into.kept.1.1.1.0 (tabulate (n m) rule)
-    (m.products-into.ensures q e ∙ ap (λ (k : ℕ). words (tabulate k rule)) (sym (lent_length 1024 (bound s)))) in
+    back_list 1024 (bound s) (made m) m.products_into.kept.1.1.1.0 (tabulate (n m) rule)
+    (m.products_into.ensures q e ∙ ap (λ (k : ℕ). words (tabulate k rule)) (sym (lent_length 1024 (bound s)))) in
     c.interpolate_with.ensures q Q e (subst (λ (k : ℕ). CoefficientTables q k a.powers.now a.quotients.now)
     (made_length m) tables)
     ∙ ap₂ (λ (k : ℕ) (l : List (Elem q)). words (interpolate k l)) (sym (made_length m)) values

@@ -15,10 +15,6 @@ use Rattle.varuna.proofs.AnswerLaws.{matched, fill_done}
 use Rattle.varuna.proofs.blinder.blind.Goals as goal
 use Rattle.varuna.proofs.blinder.blind.Goals.{After-judge_blind-fault, Start}
 
--- the start, before the judgement; the circuit and the lent slices
-abbrev start : After-judge_blind-fault → Start
-start c = c.before.before.before.before.before.before.before.before.before
-
 abbrev circuit : Start → CircuitWords
 circuit s = let a = s.args in given a.r a.c a.x a.ea.now a.eb.now a.ec.now
 
@@ -26,7 +22,7 @@ abbrev lists : Start → Three (List ℕ)
 lists s = three_of s.args.blindedA.now s.args.blindedB.now s.args.blindedC.now
 
 judgement : (c : After-judge_blind-fault)
-    → let s = start c in
+    → let s = c.before.before.before.before.before.before.before.before.before in
     fault_refusal c.judge_blind-fault.result
     ≡ blind_refusal baby_bear (circuit s) s.args.z.now (three s.args.rho) (map_three length (lists s)) (length s.args.blindedZ.now)
 judgement c = c.judge_blind-fault.ensures baby_bear refl
@@ -35,7 +31,7 @@ pub blind_into-requires : goal.blind_into-requires
 blind_into-requires c =
     let d = c in
     let j = d.before.before.before.before.before.before in
-    let a = (start j).args in
+    let a = j.args in
     call_fits baby_bear a.r a.c a.x a.ea.now a.eb.now a.ec.now a.z.now (three a.rho) a.blindedA.now
     a.blindedB.now a.blindedC.now a.blindedZ.now (matched d.enum_told-1.given.1 (judgement j))
 
@@ -45,7 +41,7 @@ returns-in-Fine c =
     let filled = c in
     let d = filled in
     let j = d.before.before.before.before.before.before.before.before.before.before.before.before.before.before.before in
-    fill_done (lists (start j), (start j).args.blindedZ.now) (matched d.enum_told-1.given.1 (judgement j)) filled.blind_into.ensures
+    fill_done (lists j.before.before.before.before.before.before.before.before.before, j.args.blindedZ.now) (matched d.enum_told-1.given.1 (judgement j)) filled.blind_into.ensures
 
 pub returns-in-Refused : goal.returns-in-Refused
 unfolding blind_call

@@ -18,7 +18,7 @@ use Rattle.circuit.proofs.Fitting.{R-fits, C-fits, X-fits, X-below, shares}
 use Rattle.prover.proofs.CallLaws.{assignment_on-C}
 use Rattle.varuna.proofs.CallRounds.{InputFits, input_fits, known-prime}
 use Rattle.varuna.proofs.rounds.first_round.Goals as goal
-use Rattle.varuna.proofs.rounds.first_round.Goals.{After-judge_round-fault, After-lengths_of-due, In-Fine, Start}
+use Rattle.varuna.proofs.rounds.first_round.Goals.{After-judge_round-fault, In-Fine, Start}
 
 -- what the call is given, the lengths of its lent slices, the lengths that they must have, its challenge words and its points
 abbrev input : Start → ProverInput
@@ -44,12 +44,8 @@ challenges s = []
 abbrev points : Start → List ℕ
 points s = []
 
--- the lengths due, from the judgement, and the start
-abbrev at-lengths : After-judge_round-fault → After-lengths_of-due
-at-lengths c = c.before.before.before
-
 abbrev start : After-judge_round-fault → Start
-start c = (at-lengths c).before.before.before.before.before.before.before.before
+start c = c.before.before.before.before.before.before.before.before.before.before.before
 
 judgement : (c : After-judge_round-fault)
     → fault_refusal c.judge_round-fault.result
@@ -57,7 +53,7 @@ judgement : (c : After-judge_round-fault)
 judgement c =
     let s = start c in
     c.judge_round-fault.ensures baby_bear baby_bear-qualifies refl
-    ∙ ap (λ (l : MessageLengths). round_refusal baby_bear (input s) (lent s) (due_by l) (challenges s) (points s)) (at-lengths c).lengths_of-due.ensures
+    ∙ ap (λ (l : MessageLengths). round_refusal baby_bear (input s) (lent s) (due_by l) (challenges s) (points s)) c.lengths_of-due.ensures
 
 -- nothing was refused
 fits : (c : In-Fine)

@@ -34,26 +34,22 @@ challenges s =
 abbrev points : Start → List ℕ
 points s = s.args.alpha ∷ s.args.beta ∷ s.args.gamma ∷ []
 
--- the start, from the judgement
-abbrev start : After-judge_round-fault → Start
-start c = c.before.before.before.before.before.before.before.before.before
-
 judgement : (c : After-judge_round-fault)
     → fault_refusal c.judge_round-fault.result
-    ≡ round_refusal baby_bear (input (start c)) (lent (start c)) (due (start c)) (challenges (start c)) (points (start c))
+    ≡ round_refusal baby_bear (input c.before.before.before.before.before.before.before.before.before) (lent c.before.before.before.before.before.before.before.before.before) (due c.before.before.before.before.before.before.before.before.before) (challenges c.before.before.before.before.before.before.before.before.before) (points c.before.before.before.before.before.before.before.before.before)
 judgement c = c.judge_round-fault.ensures baby_bear baby_bear-qualifies refl
 
 -- nothing was refused
 fits : (c : In-Fine)
-    → let s = start c.before.before in InputFits (input s) (lent s) (due s) (challenges s) (points s)
+    → let s = c.before.before.before.before.before.before.before.before.before.before.before in InputFits (input s) (lent s) (due s) (challenges s) (points s)
 fits c =
     let j = c.before.before in
-    let s = start j in
+    let s = j.before.before.before.before.before.before.before.before.before in
     input_fits (input s) (lent s) (due s) (challenges s) (points s) j.judge_round-fault.result (judgement j) c.enum_told-1.given.1
 
 pub open_all-all-requires : goal.open_all-all-requires
 open_all-all-requires c =
-    let a = (start (goal.at.open_all-all-requires c).After-judge_round-fault).args in
+    let a = c.args in
     record {
       lt_p = lit< tt;
       fits = (fits (goal.at.open_all-all-requires c).In-Fine).ranges;

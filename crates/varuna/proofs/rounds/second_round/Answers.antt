@@ -38,21 +38,17 @@ challenges s = s.args.alpha ∷ []
 abbrev points : Start → List ℕ
 points s = s.args.alpha ∷ []
 
--- the start, from the judgement
-abbrev start : After-judge_round-fault → Start
-start c = c.before.before.before.before.before.before.before.before.before
-
 judgement : (c : After-judge_round-fault)
     → fault_refusal c.judge_round-fault.result
-    ≡ round_refusal baby_bear (input (start c)) (lent (start c)) (due (start c)) (challenges (start c)) (points (start c))
+    ≡ round_refusal baby_bear (input c.before.before.before.before.before.before.before.before.before) (lent c.before.before.before.before.before.before.before.before.before) (due c.before.before.before.before.before.before.before.before.before) (challenges c.before.before.before.before.before.before.before.before.before) (points c.before.before.before.before.before.before.before.before.before)
 judgement c = c.judge_round-fault.ensures baby_bear baby_bear-qualifies refl
 
 -- nothing was refused
 fits : (c : In-Fine)
-    → let s = start c.before.before in InputFits (input s) (lent s) (due s) (challenges s) (points s)
+    → let s = c.before.before.before.before.before.before.before.before.before.before.before in InputFits (input s) (lent s) (due s) (challenges s) (points s)
 fits c =
     let j = c.before.before in
-    let s = start j in
+    let s = j.before.before.before.before.before.before.before.before.before in
     input_fits (input s) (lent s) (due s) (challenges s) (points s) j.judge_round-fault.result (judgement j) c.enum_told-1.given.1
 
 pub sums_at-requires : goal.sums_at-requires
@@ -68,7 +64,7 @@ pub returns-in-Fine : goal.returns-in-Fine
 unfolding second_round_call circuit_of
 returns-in-Fine c =
     let d = (goal.at.returns-in-Fine c).After-judge_round-fault in
-    let s = start d in
+    let s = d.before.before.before.before.before.before.before.before.before in
     let a = s.args in
     let F = fits d in
     let k : Circuit = circuit_of (given a.r a.c a.x a.ea.now a.eb.now a.ec.now) in
