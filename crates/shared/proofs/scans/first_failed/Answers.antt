@@ -1,6 +1,5 @@
 -- `shared::scans::first_failed` meets its contract: the tests before i passed. Assumes nothing.
 use borrow.Author.Rules.{rules}
-use borrow.Author.Tests.{not-true, not-false}
 use mathlib.Core.Path.{refl, sym}
 use mathlib.Core.Bool.{false}
 use native.Mathlib.Omega.{arith}
@@ -15,7 +14,7 @@ returns-then-not-tests-i c =
     let l = c in
     let a = l.args in
     passed_stop a.number a.position a.tests.now l.loop-i.i l.loop-i.invariant.1 (omega arith) false _ refl
-    (not-true _ c.if-not-tests-i.true)
+    c.if-not-tests-i.true
 
 pub loop-i-preserved : goal.loop-i-preserved
 loop-i-preserved c =
@@ -23,7 +22,7 @@ loop-i-preserved c =
     let a = l.args in (
       search rules,
       passed_turn a.number a.position a.tests.now l.loop-i.i l.loop-i.invariant.1 (omega arith) false
-          (not-false _ c.if-not-tests-i.false),
+          c.if-not-tests-i.false,
     )
 
 pub returns : goal.returns
