@@ -4,7 +4,6 @@ use mathlib.Core.Path.{◌≡◌, refl, sym, ◌∙◌}
 use mathlib.Core.Bool.{true}
 use mathlib.Core.List.{List, [], ◌∷◌}
 use mathlib.Core.Option.{Option}
-use borrow.Author.Tests.{not-true, not-false}
 use Rattle.field.specs.Prime.{Prime}
 use Rattle.shared.specs.Meanings.{is_fine}
 use Rattle.protocol.specs.Refusals.{Refusal}
@@ -25,7 +24,7 @@ abbrev contents : Prime → After-judge_index_shape-shape → List (Option Refus
 contents q j = index_contents_refusal q (circuit_of (circuit j)) ∷ []
 
 shape_fine : (c : Else-not-is_fine) → is_fine c.judge_index_shape-shape.result ≡ true
-shape_fine c = sym c.is_fine.ensures ∙ not-false _ c.if-not-is_fine.false
+shape_fine c = sym c.is_fine.ensures ∙ c.if-not-is_fine.false
 
 pub judge_index_shape-shape-requires : goal.judge_index_shape-shape-requires
 judge_index_shape-shape-requires c = tt
@@ -37,7 +36,7 @@ pub returns-then-not-is_fine : goal.returns-then-not-is_fine
 returns-then-not-is_fine c q e =
     let j = (goal.at.returns-then-not-is_fine c).After-judge_index_shape-shape in
     stops j.judge_index_shape-shape.result {o = index_shape_refusal (circuit j)} j.judge_index_shape-shape.ensures (contents q j)
-    (sym c.is_fine.ensures ∙ not-true _ c.if-not-is_fine.true)
+    (sym c.is_fine.ensures ∙ c.if-not-is_fine.true)
     ∙ sym (circuit_in_parts q (circuit j))
 
 pub judge_index_contents-requires : goal.judge_index_contents-requires
@@ -45,13 +44,13 @@ judge_index_contents-requires c =
     let j = (goal.at.judge_index_contents-requires c).After-judge_index_shape-shape in
     let a = j.args in
     (index_shape_fits a.r a.c a.x a.ea.now a.eb.now a.ec.now
-    (fine_none j.judge_index_shape-shape.result {o = index_shape_refusal (circuit j)} j.judge_index_shape-shape.ensures (shape_fine (goal.at.judge_index_contents-requires c).Else-not-is_fine))).lists
+    (fine_none j.judge_index_shape-shape.result {o = index_shape_refusal (circuit j)} j.judge_index_shape-shape.ensures (shape_fine c))).lists
 
 pub returns : goal.returns
 unfolding circuit_of
 returns c q e =
     let d = (goal.at.returns c).Else-not-is_fine in
-    let j = d.before.before in
+    let j = (goal.at.Else-not-is_fine d).After-judge_index_shape-shape in
     goes_on j.judge_index_shape-shape.result {o = index_shape_refusal (circuit j)} j.judge_index_shape-shape.ensures (contents q j) (shape_fine d)
     (last_answer_lem (c.judge_index_contents.ensures q e (circuit_of (circuit j)) refl refl refl))
     ∙ sym (circuit_in_parts q (circuit j))

@@ -6,7 +6,6 @@ use mathlib.Core.Option.{Option}
 use Prim.Native.Nat.{ℕ}
 use native.Mathlib.Omega.{arith}
 use lib.ListN.{length}
-use borrow.Author.Tests.{not-true, not-false}
 use Rattle.field.specs.Prime.{Prime}
 use Rattle.field.specs.Element.{of}
 use Rattle.domain.specs.Size.{is_size}
@@ -55,41 +54,41 @@ record Given (q : Prime) (k : Circuit) (s : Start) : Type 0 where
 
 -- past the words, the entries, the mask, column 0 and the rows
 module _ (q : Prime) (Q : Qualifies q) (k : Circuit) {x : Option Refusal} where
-  pass_words : (c : Else-not-is_fine) → let s = c.before.before.before.before.before.before.before.before.before.before.before.before.before.before.before.before.before.before.before.before.before.before in Given q k s → x ≡ first (after-words q k s) → x ≡ due q k s
+  pass_words : (c : Else-not-is_fine) → let s = (goal.at.Else-not-is_fine-5 c).Start in Given q k s → x ≡ first (after-words q k s) → x ≡ due q k s
   unfolding contents_refusal
   pass_words c g y =
       let w = c in
-      let s = w.before.before.before.before.before.before.before.before.before.before.before.before.before.before.before.before.before.before.before.before.before.before in
+      let s = (goal.at.Else-not-is_fine-5 w).Start in
       goes_on w.check_call_words-in_words.result {o = words q k s} (w.check_call_words-in_words.ensures q g.prime k g.matrices) (after-words q k s)
-      (sym c.is_fine.ensures ∙ not-false _ c.if-not-is_fine.false) y
+      (sym c.is_fine.ensures ∙ c.if-not-is_fine.false) y
 
-  pass_entries : (c : Else-not-is_fine-2) → let s = c.before.before.before.before.before.before.before.before.before.before.before.before.before.before.before.before.before.before.before.before.before.before in Given q k s → x ≡ first (after-entries q k s) → x ≡ due q k s
+  pass_entries : (c : Else-not-is_fine-2) → let s = (goal.at.Else-not-is_fine-5 c).Start in Given q k s → x ≡ first (after-entries q k s) → x ≡ due q k s
   pass_entries c g y =
-      let e = c.before.before.before.before.before.before.before.before.before.before.before.before.before.before.before.before.before.before.before.before.before.before in
+      let e = c in
       pass_words e.before g
       (goes_on e.check_three_entries-in_entries.result (e.check_three_entries-in_entries.ensures k g.rows g.columns g.matrices)
-      (after-entries q k e) (sym c.is_fine-2.ensures ∙ not-false _ c.if-not-is_fine-2.false) y)
+      (after-entries q k (goal.at.Else-not-is_fine-5 e).Start) (sym c.is_fine-2.ensures ∙ c.if-not-is_fine-2.false) y)
 
-  pass_mask : (c : Else-not-is_fine-3) → let s = c.before.before.before.before.before.before.before.before.before.before.before.before.before.before.before.before.before.before.before.before.before.before in Given q k s → x ≡ first (after-mask q k s) → x ≡ due q k s
+  pass_mask : (c : Else-not-is_fine-3) → let s = (goal.at.Else-not-is_fine-5 c).Start in Given q k s → x ≡ first (after-mask q k s) → x ≡ due q k s
   pass_mask c g y =
-      let m = c.before.before.before.before.before.before.before.before.before.before.before.before.before.before.before.before.before.before.before.before.before.before in
+      let m = c in
       pass_entries m.before g
-      (goes_on m.check_mask-in_mask.result (m.check_mask-in_mask.ensures q Q g.prime k g.columns) (after-mask q k m)
-      (sym c.is_fine-3.ensures ∙ not-false _ c.if-not-is_fine-3.false) y)
+      (goes_on m.check_mask-in_mask.result (m.check_mask-in_mask.ensures q Q g.prime k g.columns) (after-mask q k (goal.at.Else-not-is_fine-5 m).Start)
+      (sym c.is_fine-3.ensures ∙ c.if-not-is_fine-3.false) y)
 
-  pass_constant : (c : Else-not-is_fine-4) → let s = c.before.before.before.before.before.before.before.before.before.before.before.before.before.before.before.before.before.before.before.before.before.before in Given q k s → x ≡ first (after-constant q k s) → x ≡ due q k s
+  pass_constant : (c : Else-not-is_fine-4) → let s = (goal.at.Else-not-is_fine-5 c).Start in Given q k s → x ≡ first (after-constant q k s) → x ≡ due q k s
   pass_constant c g y =
-      let o = c.before.before.before.before.before.before.before.before.before.before.before.before.before.before.before.before.before.before.before.before.before.before in
+      let o = c in
       pass_mask o.before g
-      (goes_on o.judge_constant-in_constant.result o.judge_constant-in_constant.ensures (after-constant q k o)
-      (sym c.is_fine-4.ensures ∙ not-false _ c.if-not-is_fine-4.false) y)
+      (goes_on o.judge_constant-in_constant.result o.judge_constant-in_constant.ensures (after-constant q k (goal.at.Else-not-is_fine-5 o).Start)
+      (sym c.is_fine-4.ensures ∙ c.if-not-is_fine-4.false) y)
 
-  pass_rows : (c : Else-not-is_fine-5) → let s = c.before.before.before.before.before.before.before.before.before.before.before.before.before.before.before.before.before.before.before.before.before.before in Given q k s → x ≡ first (after-rows q k s) → x ≡ due q k s
+  pass_rows : (c : Else-not-is_fine-5) → let s = (goal.at.Else-not-is_fine-5 c).Start in Given q k s → x ≡ first (after-rows q k s) → x ≡ due q k s
   pass_rows c g y =
-      let r = c.before.before.before.before.before.before.before.before.before.before.before.before.before.before.before.before.before.before.before.before.before.before in
+      let r = c in
       pass_constant r.before g
-      (goes_on r.check_assignment-in_rows.result (r.check_assignment-in_rows.ensures q g.prime k g.rows g.matrices) (after-rows q k r)
-      (sym c.is_fine-5.ensures ∙ not-false _ c.if-not-is_fine-5.false) y)
+      (goes_on r.check_assignment-in_rows.result (r.check_assignment-in_rows.ensures q g.prime k g.rows g.matrices) (after-rows q k (goal.at.Else-not-is_fine-5 r).Start)
+      (sym c.is_fine-5.ensures ∙ c.if-not-is_fine-5.false) y)
 
 pub check_call_words-in_words-requires : goal.check_call_words-in_words-requires
 check_call_words-in_words-requires c =
@@ -108,29 +107,29 @@ pub returns-then-not-is_fine : goal.returns-then-not-is_fine
 unfolding contents_refusal
 returns-then-not-is_fine c q Q e k er ec matrices =
     let w = c in
-    let s = w.before.before.before.before.before.before.before.before.before.before in
+    let s = (goal.at.returns-then-not-is_fine w).Start in
     stops w.check_call_words-in_words.result {o = words q k s} (w.check_call_words-in_words.ensures q e k matrices) (after-words q k s)
-    (sym c.is_fine.ensures ∙ not-true _ c.if-not-is_fine.true)
+    (sym c.is_fine.ensures ∙ c.if-not-is_fine.true)
 
 pub is_fine-requires-2 : goal.is_fine-requires-2
 is_fine-requires-2 c = tt
 
 pub returns-then-not-is_fine-2 : goal.returns-then-not-is_fine-2
 returns-then-not-is_fine-2 c q Q e k er ec matrices =
-    let t = (goal.at.returns-then-not-is_fine-2 c).Start in
-    pass_words q Q k t.before (record { prime = e; rows = er; columns = ec; matrices = matrices })
-    (stops t.check_three_entries-in_entries.result (t.check_three_entries-in_entries.ensures k er ec matrices) (after-entries q k t)
-    (sym c.is_fine-2.ensures ∙ not-true _ c.if-not-is_fine-2.true))
+    let t = c in
+    pass_words q Q k (goal.at.returns-then-not-is_fine-2 t).Else-not-is_fine (record { prime = e; rows = er; columns = ec; matrices = matrices })
+    (stops t.check_three_entries-in_entries.result (t.check_three_entries-in_entries.ensures k er ec matrices) (after-entries q k (goal.at.returns-then-not-is_fine-2 t).Start)
+    (sym c.is_fine-2.ensures ∙ c.if-not-is_fine-2.true))
 
 pub is_fine-requires-3 : goal.is_fine-requires-3
 is_fine-requires-3 c = tt
 
 pub returns-then-not-is_fine-3 : goal.returns-then-not-is_fine-3
 returns-then-not-is_fine-3 c q Q e k er ec matrices =
-    let m = (goal.at.returns-then-not-is_fine-3 c).Start in
-    pass_entries q Q k m.before (record { prime = e; rows = er; columns = ec; matrices = matrices })
-    (stops m.check_mask-in_mask.result (m.check_mask-in_mask.ensures q Q e k ec) (after-mask q k m)
-    (sym c.is_fine-3.ensures ∙ not-true _ c.if-not-is_fine-3.true))
+    let m = c in
+    pass_entries q Q k (goal.at.returns-then-not-is_fine-3 m).Else-not-is_fine-2 (record { prime = e; rows = er; columns = ec; matrices = matrices })
+    (stops m.check_mask-in_mask.result (m.check_mask-in_mask.ensures q Q e k ec) (after-mask q k (goal.at.returns-then-not-is_fine-3 m).Start)
+    (sym c.is_fine-3.ensures ∙ c.if-not-is_fine-3.true))
 
 -- the circuit that the call is given; no row tells its public inputs
 abbrev circuit : Start → Circuit
@@ -141,10 +140,10 @@ within : (c : Else-not-is_fine-2) → let a = c.args in EachWithin a.r a.c a.ea.
 unfolding circuit_of
 within c =
     let e = c in
-    let s = e.before.before.before.before.before.before.before.before.before.before.before.before.before in
+    let s = (goal.at.Else-not-is_fine-2 e).Start in
     entries-within s.args.r s.args.c 0 s.args.ea.now s.args.eb.now s.args.ec.now
     (fine_none e.check_three_entries-in_entries.result (e.check_three_entries-in_entries.ensures (circuit s) refl refl refl)
-    (sym c.is_fine-2.ensures ∙ not-false _ c.if-not-is_fine-2.false))
+    (sym c.is_fine-2.ensures ∙ c.if-not-is_fine-2.false))
 
 pub judge_constant-in_constant-requires : goal.judge_constant-in_constant-requires
 judge_constant-in_constant-requires c = tt
@@ -154,20 +153,20 @@ is_fine-requires-4 c = tt
 
 pub returns-then-not-is_fine-4 : goal.returns-then-not-is_fine-4
 returns-then-not-is_fine-4 c q Q e k er ec matrices =
-    let o = (goal.at.returns-then-not-is_fine-4 c).Start in
-    pass_mask q Q k o.before (record { prime = e; rows = er; columns = ec; matrices = matrices })
-    (stops o.judge_constant-in_constant.result o.judge_constant-in_constant.ensures (after-constant q k o)
-    (sym c.is_fine-4.ensures ∙ not-true _ c.if-not-is_fine-4.true))
+    let o = c in
+    pass_mask q Q k (goal.at.returns-then-not-is_fine-4 o).Else-not-is_fine-3 (record { prime = e; rows = er; columns = ec; matrices = matrices })
+    (stops o.judge_constant-in_constant.result o.judge_constant-in_constant.ensures (after-constant q k (goal.at.returns-then-not-is_fine-4 o).Start)
+    (sym c.is_fine-4.ensures ∙ c.if-not-is_fine-4.true))
 
 pub check_assignment-in_rows-requires : goal.check_assignment-in_rows-requires
 check_assignment-in_rows-requires c =
     let o = c in
-    let m = o.before.before.before.before.before.before in
+    let m = o in
     let s = m in
     let h = s.requires.shaped in record {
       p_nonzero = omega arith;
       r_le_max_size = size_bound s.args.r h.circuit.R-size;
-      each_within = subst⁻¹ (λ (n : ℕ). EachWithin s.args.r n s.args.ea.now s.args.eb.now s.args.ec.now) h.z-length (within m);
+      each_within = subst⁻¹ (λ (n : ℕ). EachWithin s.args.r n s.args.ea.now s.args.eb.now s.args.ec.now) h.z-length (within (goal.at.check_assignment-in_rows-requires m).Else-not-is_fine-2);
     }
 
 pub is_fine-requires-5 : goal.is_fine-requires-5
@@ -175,10 +174,10 @@ is_fine-requires-5 c = tt
 
 pub returns-then-not-is_fine-5 : goal.returns-then-not-is_fine-5
 returns-then-not-is_fine-5 c q Q e k er ec matrices =
-    let r = (goal.at.returns-then-not-is_fine-5 c).Start in
-    pass_constant q Q k r.before (record { prime = e; rows = er; columns = ec; matrices = matrices })
-    (stops r.check_assignment-in_rows.result (r.check_assignment-in_rows.ensures q e k er matrices) (after-rows q k r)
-    (sym c.is_fine-5.ensures ∙ not-true _ c.if-not-is_fine-5.true))
+    let r = c in
+    pass_constant q Q k (goal.at.returns-then-not-is_fine-5 r).Else-not-is_fine-4 (record { prime = e; rows = er; columns = ec; matrices = matrices })
+    (stops r.check_assignment-in_rows.result (r.check_assignment-in_rows.ensures q e k er matrices) (after-rows q k (goal.at.returns-then-not-is_fine-5 r).Start)
+    (sym c.is_fine-5.ensures ∙ c.if-not-is_fine-5.true))
 
 pub largest_size-requires : goal.largest_size-requires
 largest_size-requires c = tt
@@ -199,9 +198,9 @@ check_points-requires c =
 
 pub returns : goal.returns
 returns c q Q e k er ec matrices =
-    let l = (goal.at.returns c).Else-not-is_fine-5 in
+    let l = c in
     let a = l.args in
     let same : a.r ∷ a.c ∷ l.largest_size.result ∷ [] ≡ k.|R| ∷ k.|C| ∷ largest (sizes_of k).|K| ∷ [] =
     ap₂ ◌∷◌ (sym er) (ap₂ ◌∷◌ (sym ec) (ap (λ (n : ℕ). n ∷ []) (l.largest_size.ensures k matrices))) in
-    pass_rows q Q k l (record { prime = e; rows = er; columns = ec; matrices = matrices })
+    pass_rows q Q k (goal.at.returns l).Else-not-is_fine-5 (record { prime = e; rows = er; columns = ec; matrices = matrices })
     (last_answer_lem (c.check_points.ensures q Q e ∙ ap (λ (ns : List ℕ). challenge_refusal {q = q} 0 ns (map of a.points.now)) same))

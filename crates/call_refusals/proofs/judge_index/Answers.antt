@@ -6,7 +6,6 @@ use mathlib.Core.Option.{Option}
 use Prim.Native.Nat.{ℕ}
 use native.Mathlib.Omega.{arith}
 use lib.Dec.{eqb}
-use borrow.Author.Tests.{not-true, not-false}
 use Rattle.field.specs.Prime.{Prime}
 use Rattle.shared.specs.Meanings.{fault_refusal, is_fine}
 use Rattle.protocol.specs.Refusals.{Refusal, first, refuse, pairs}
@@ -24,7 +23,7 @@ module _ (s : Start) where
   circuit = given s.args.r s.args.c s.args.x s.args.ea.now s.args.eb.now s.args.ec.now
 
   abbrev lengths : List ℕ
-  lengths = s.args.t8
+  lengths = s.args.lent
 
   abbrev tests : List Bool
   tests = pairs eqb lengths (index_due (circuit_of circuit).matrices)
@@ -42,22 +41,22 @@ module _ (s : Start) where
 
 -- past the shape
 shape_fine : (c : Else-not-is_fine) → is_fine c.judge_index_shape-shape.result ≡ true
-shape_fine c = sym c.is_fine.ensures ∙ not-false _ c.if-not-is_fine.false
+shape_fine c = sym c.is_fine.ensures ∙ c.if-not-is_fine.false
 
-pass_shape : (q : Prime) (c : Else-not-is_fine) {x : Option Refusal} → let s = c.before.before.before.before.before.before in
+pass_shape : (q : Prime) (c : Else-not-is_fine) {x : Option Refusal} → let s = (goal.at.Else-not-is_fine c).Start in
     x ≡ first (after_shape s q) → x ≡ index_refusal q (circuit s) (lengths s)
 pass_shape q c y =
     let j = c in
-    let s = j.before.before.before.before.before.before in
+    let s = (goal.at.Else-not-is_fine j).Start in
     goes_on j.judge_index_shape-shape.result {o = index_shape_refusal (circuit s)} j.judge_index_shape-shape.ensures (after_shape s q) (shape_fine c) y
     ∙ in_parts s q
 
 -- the slices are judged by the lengths that are due
-slices : (c : After-check_lent-slices) → fault_refusal c.check_lent-slices.result ≡ refuse 5 3 (tests c.before.before.before.before.before.before.before.before.before.before)
+slices : (c : After-check_lent-slices) → fault_refusal c.check_lent-slices.result ≡ refuse 5 3 (tests (goal.at.After-check_lent-slices c).Start)
 unfolding circuit_of
 slices c =
     c.check_lent-slices.ensures
-    ∙ ap (λ (due : List ℕ). refuse 5 3 (pairs eqb (lengths c.before.before.before.before.before.before.before.before.before.before) due)) c.index_lengths-due.ensures
+    ∙ ap (λ (due : List ℕ). refuse 5 3 (pairs eqb (lengths (goal.at.After-check_lent-slices c).Start) due)) c.index_lengths-due.ensures
 
 pub judge_index_shape-shape-requires : goal.judge_index_shape-shape-requires
 judge_index_shape-shape-requires c = tt
@@ -68,9 +67,9 @@ is_fine-requires c = tt
 pub returns-then-not-is_fine : goal.returns-then-not-is_fine
 returns-then-not-is_fine c q e =
     let j = c in
-    let s = j.before.before.before.before.before.before in
+    let s = (goal.at.returns-then-not-is_fine j).Start in
     stops j.judge_index_shape-shape.result {o = index_shape_refusal (circuit s)} j.judge_index_shape-shape.ensures (after_shape s q)
-    (sym c.is_fine.ensures ∙ not-true _ c.if-not-is_fine.true)
+    (sym c.is_fine.ensures ∙ c.if-not-is_fine.true)
     ∙ in_parts s q
 
 pub index_lengths-due-requires : goal.index_lengths-due-requires
@@ -84,15 +83,15 @@ is_fine-requires-2 c = tt
 
 pub returns-then-not-is_fine-2 : goal.returns-then-not-is_fine-2
 returns-then-not-is_fine-2 c q e =
-    let l = (goal.at.returns-then-not-is_fine-2 c).Start in
-    pass_shape q l.before.before.before.before
-    (stops l.check_lent-slices.result (slices l) (contents l q ∷ []) (sym c.is_fine-2.ensures ∙ not-true _ c.if-not-is_fine-2.true))
+    let l = (goal.at.returns-then-not-is_fine-2 c).After-check_lent-slices in
+    pass_shape q (goal.at.After-check_lent-slices l).Else-not-is_fine
+    (stops l.check_lent-slices.result (slices l) (contents (goal.at.After-check_lent-slices l).Start q ∷ []) (sym c.is_fine-2.ensures ∙ c.if-not-is_fine-2.true))
 
 pub judge_index_contents-requires : goal.judge_index_contents-requires
 judge_index_contents-requires c =
     let d = (goal.at.judge_index_contents-requires c).Else-not-is_fine in
     let j = d in
-    let s = j.before.before.before.before.before.before in
+    let s = (goal.at.Else-not-is_fine j).Start in
     (index_shape_fits s.args.r s.args.c s.args.x s.args.ea.now s.args.eb.now s.args.ec.now
     (fine_none j.judge_index_shape-shape.result {o = index_shape_refusal (circuit s)} j.judge_index_shape-shape.ensures (shape_fine d))).lists
 
@@ -100,8 +99,8 @@ pub returns : goal.returns
 unfolding circuit_of
 returns c q e =
     let d = c in
-    let l = d.before.before.before in
-    let s = l.before.before.before.before.before.before.before.before.before.before in
-    pass_shape q l.before.before.before.before
-    (goes_on l.check_lent-slices.result (slices l) (contents s q ∷ []) (sym d.is_fine-2.ensures ∙ not-false _ d.if-not-is_fine-2.false)
+    let l = (goal.at.returns d).After-check_lent-slices in
+    let s = (goal.at.After-check_lent-slices l).Start in
+    pass_shape q (goal.at.After-check_lent-slices l).Else-not-is_fine
+    (goes_on l.check_lent-slices.result (slices l) (contents s q ∷ []) (sym d.is_fine-2.ensures ∙ d.if-not-is_fine-2.false)
     (last_answer_lem (c.judge_index_contents.ensures q e (circuit_of (circuit s)) refl refl refl)))

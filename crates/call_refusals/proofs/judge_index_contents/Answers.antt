@@ -1,7 +1,6 @@
 -- `call_refusals::judge_index_contents` meets its contract. Assumes nothing.
 use mathlib.Core.Path.{sym, ◌∙◌}
 use mathlib.Core.List.{[], ◌∷◌}
-use borrow.Author.Tests.{not-true, not-false}
 use Rattle.protocol.specs.Refusals.{entry_refusal}
 use Rattle.circuit.specs.Judgement.{index_contents_refusal}
 use Rattle.shared.proofs.EarlyReturns.{stops, goes_on, last_answer_lem}
@@ -16,7 +15,7 @@ unfolding index_contents_refusal
 returns-then-not-is_fine c q e k er ec matrices =
     let v = c in
     stops v.check_three_values-fault.result (v.check_three_values-fault.ensures k matrices ∙ circuit-words q k e) (entry_refusal k ∷ [])
-    (sym c.is_fine.ensures ∙ not-true _ c.if-not-is_fine.true)
+    (sym c.is_fine.ensures ∙ c.if-not-is_fine.true)
 
 pub returns : goal.returns
 unfolding index_contents_refusal
@@ -24,4 +23,4 @@ returns c q e k er ec matrices =
     let d = c in
     let v = d in
     goes_on v.check_three_values-fault.result (v.check_three_values-fault.ensures k matrices ∙ circuit-words q k e) (entry_refusal k ∷ [])
-    (sym d.is_fine.ensures ∙ not-false _ d.if-not-is_fine.false) (last_answer_lem (c.check_three_entries.ensures k er ec matrices))
+    (sym d.is_fine.ensures ∙ d.if-not-is_fine.false) (last_answer_lem (c.check_three_entries.ensures k er ec matrices))

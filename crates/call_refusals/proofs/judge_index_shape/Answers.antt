@@ -1,7 +1,6 @@
 -- `call_refusals::judge_index_shape` meets its contract. Assumes nothing.
 use mathlib.Core.Path.{sym, ◌∙◌}
 use mathlib.Core.List.{[], ◌∷◌}
-use borrow.Author.Tests.{not-true, not-false}
 use Rattle.protocol.specs.Refusals.{list_refusal}
 use Rattle.protocol.specs.Calls.{entry_list_tests}
 use Rattle.circuit.specs.Given.{given}
@@ -21,7 +20,7 @@ returns-then-not-is_fine c =
     let a = c.args in
     stops c.check_sizes-fault.result c.check_sizes-fault.ensures
     (list_refusal (entry_list_tests (given a.r a.c a.x a.ea.now a.eb.now a.ec.now)) ∷ [])
-    (sym c.is_fine.ensures ∙ not-true _ c.if-not-is_fine.true)
+    (sym c.is_fine.ensures ∙ c.if-not-is_fine.true)
 
 pub check_entry_lists-requires : goal.check_entry_lists-requires
 check_entry_lists-requires c = tt
@@ -32,4 +31,4 @@ returns c =
     let a = c.args in
     goes_on c.check_sizes-fault.result c.check_sizes-fault.ensures
     (list_refusal (entry_list_tests (given a.r a.c a.x a.ea.now a.eb.now a.ec.now)) ∷ [])
-    (sym c.is_fine.ensures ∙ not-false _ c.if-not-is_fine.false) (last_answer_lem c.check_entry_lists.ensures)
+    (sym c.is_fine.ensures ∙ c.if-not-is_fine.false) (last_answer_lem c.check_entry_lists.ensures)

@@ -5,7 +5,6 @@ use mathlib.Core.List.{List, [], ◌∷◌}
 use mathlib.Core.Option.{Option}
 use native.Mathlib.Omega.{arith}
 use lib.Dec.{eqb}
-use borrow.Author.Tests.{not-true, not-false}
 use Rattle.field.specs.Prime.{Prime}
 use Rattle.shared.specs.Meanings.{is_fine}
 use Rattle.protocol.specs.Refusals.{Refusal, first, refuse, pairs}
@@ -47,13 +46,13 @@ module _ (q : Prime) (s : Start) where
 
 -- past the shape
 shape_fine : (c : Else-not-is_fine) → is_fine c.judge_shape-shape.result ≡ true
-shape_fine c = sym c.is_fine.ensures ∙ not-false _ c.if-not-is_fine.false
+shape_fine c = sym c.is_fine.ensures ∙ c.if-not-is_fine.false
 
-pass_shape : (q : Prime) (c : Else-not-is_fine) {x : Option Refusal} → let s = c.before.before.before.before.before.before.before.before.before.before.before.before in x ≡ first (after_shape q s) → x ≡ due q s
+pass_shape : (q : Prime) (c : Else-not-is_fine) {x : Option Refusal} → let s = (goal.at.Else-not-is_fine c).Start in x ≡ first (after_shape q s) → x ≡ due q s
 pass_shape q c y =
-    let j = c.before.before.before.before.before.before.before.before.before.before.before.before in
-    goes_on j.judge_shape-shape.result {o = shape j} j.judge_shape-shape.ensures (after_shape q j) (shape_fine c) y
-    ∙ in_parts q j
+    let j = c in
+    goes_on j.judge_shape-shape.result {o = shape (goal.at.Else-not-is_fine j).Start} j.judge_shape-shape.ensures (after_shape q (goal.at.Else-not-is_fine j).Start) (shape_fine c) y
+    ∙ in_parts q (goal.at.Else-not-is_fine j).Start
 
 pub judge_shape-shape-requires : goal.judge_shape-shape-requires
 judge_shape-shape-requires c = tt
@@ -63,10 +62,10 @@ is_fine-requires c = tt
 
 pub returns-then-not-is_fine : goal.returns-then-not-is_fine
 returns-then-not-is_fine c q Q e =
-    let j = (goal.at.returns-then-not-is_fine c).Start in
-    stops j.judge_shape-shape.result {o = shape j} j.judge_shape-shape.ensures (after_shape q j)
-    (sym c.is_fine.ensures ∙ not-true _ c.if-not-is_fine.true)
-    ∙ in_parts q j
+    let j = c in
+    stops j.judge_shape-shape.result {o = shape (goal.at.returns-then-not-is_fine j).Start} j.judge_shape-shape.ensures (after_shape q (goal.at.returns-then-not-is_fine j).Start)
+    (sym c.is_fine.ensures ∙ c.if-not-is_fine.true)
+    ∙ in_parts q (goal.at.returns-then-not-is_fine j).Start
 
 pub check_lent-slices-requires : goal.check_lent-slices-requires
 check_lent-slices-requires c = omega arith
@@ -76,14 +75,14 @@ is_fine-requires-2 c = tt
 
 pub returns-then-not-is_fine-2 : goal.returns-then-not-is_fine-2
 returns-then-not-is_fine-2 c q Q e =
-    let l = (goal.at.returns-then-not-is_fine-2 c).Start in
-    pass_shape q l.before
-    (stops l.check_lent-slices.result l.check_lent-slices.ensures (contents q l ∷ []) (sym c.is_fine-2.ensures ∙ not-true _ c.if-not-is_fine-2.true))
+    let l = c in
+    pass_shape q (goal.at.returns-then-not-is_fine-2 l).Else-not-is_fine
+    (stops l.check_lent-slices.result l.check_lent-slices.ensures (contents q (goal.at.returns-then-not-is_fine-2 l).Start ∷ []) (sym c.is_fine-2.ensures ∙ c.if-not-is_fine-2.true))
 
 pub judge_contents-requires : goal.judge_contents-requires
 judge_contents-requires c =
     let j = c in
-    let s = j.before.before.before.before.before.before.before.before.before.before.before.before.before.before.before in
+    let s = (goal.at.judge_contents-requires j).Start in
     let a = s.args in
     let fits =
     shape_fits a.r a.c a.x a.ea.now a.eb.now a.ec.now a.z.now a.m.now
@@ -98,8 +97,8 @@ pub returns : goal.returns
 unfolding circuit_of
 returns c q Q e =
     let d = c in
-    let l = d.before.before.before.before in
-    let s = l.before.before.before.before.before.before.before.before.before.before.before.before in
-    pass_shape q l
-    (goes_on l.check_lent-slices.result l.check_lent-slices.ensures (contents q s ∷ []) (sym d.is_fine-2.ensures ∙ not-false _ d.if-not-is_fine-2.false)
+    let l = d in
+    let s = (goal.at.returns l).Start in
+    pass_shape q (goal.at.returns l).Else-not-is_fine
+    (goes_on l.check_lent-slices.result l.check_lent-slices.ensures (contents q s ∷ []) (sym d.is_fine-2.ensures ∙ d.if-not-is_fine-2.false)
     (last_answer_lem {o = contents q s} (c.judge_contents.ensures q Q e (circuit_of (circuit s)) refl refl refl)))

@@ -2,7 +2,6 @@
 use mathlib.Core.Path.{sym, ◌∙◌}
 use mathlib.Core.List.{List, [], ◌∷◌}
 use mathlib.Core.Option.{Option}
-use borrow.Author.Tests.{not-true, not-false}
 use Rattle.protocol.specs.Refusals.{Refusal, refuse}
 use Rattle.protocol.specs.Admission.{assignment_tests}
 use Rattle.protocol.specs.Calls.{CircuitWords, circuit_of}
@@ -28,9 +27,9 @@ is_fine-requires c = tt
 pub returns-then-not-is_fine : goal.returns-then-not-is_fine
 returns-then-not-is_fine c =
     let j = c in
-    let s = j.before.before.before.before.before.before.before.before in
+    let s = (goal.at.returns-then-not-is_fine j).Start in
     stops j.judge_index_shape-fault.result {o = index_shape_refusal (circuit s)} j.judge_index_shape-fault.ensures (after-circuit s)
-    (sym c.is_fine.ensures ∙ not-true _ c.if-not-is_fine.true)
+    (sym c.is_fine.ensures ∙ c.if-not-is_fine.true)
     ∙ sym (shape_in_parts (circuit s) s.args.z.now s.args.m.now)
 
 pub check_assignment_lists-requires : goal.check_assignment_lists-requires
@@ -41,7 +40,7 @@ unfolding assignment_tests circuit_of
 returns c =
     let d = c in
     let j = d in
-    let s = j.before.before.before.before.before.before.before.before.before in
+    let s = (goal.at.returns j).Start in
     goes_on j.judge_index_shape-fault.result {o = index_shape_refusal (circuit s)} j.judge_index_shape-fault.ensures (after-circuit s)
-    (sym d.is_fine.ensures ∙ not-false _ d.if-not-is_fine.false) (last_answer_lem c.check_assignment_lists.ensures)
+    (sym d.is_fine.ensures ∙ d.if-not-is_fine.false) (last_answer_lem c.check_assignment_lists.ensures)
     ∙ sym (shape_in_parts (circuit s) s.args.z.now s.args.m.now)

@@ -106,12 +106,12 @@ loop-i-preserved c =
     let a = (c.before.before.before.before.before.before.before.before.before.before.before.before.before.before.before.before).args in
     let n : ℕ = length a.row.now in
     let lists : Index (List ℕ) = index_lists l.row l.col l.rowcol l.rowcolval in
-    let kept = stored-lengths n lists l.i (made (goal.at.loop-i-preserved c).After-multiply) l.invariant.1 in (
+    let kept = stored-lengths n lists l.i (made c) l.invariant.1 in (
       omega (arith, l, c.loop-i-test),
       kept,
       λ q Q e k listed.
-          made_turn n (values q k a.entries.now) lists l.i l.invariant.1 (l.invariant.2 q Q e k listed) (omega arith) (made (goal.at.loop-i-preserved c).After-multiply)
-          (made_words (goal.at.loop-i-preserved c).After-multiply q Q e k listed),
+          made_turn n (values q k a.entries.now) lists l.i l.invariant.1 (l.invariant.2 q Q e k listed) (omega arith) (made c)
+          (made_words c q Q e k listed),
     )
 
 pub returns : goal.returns

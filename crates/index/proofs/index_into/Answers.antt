@@ -22,7 +22,7 @@ columns_fit : (s : Start) → s.args.c ≤ 1024
 columns_fit s = size_bound _ s.requires.circuit_shaped.C-size
 
 abbrev begun : After-fill_powers-2 → Start
-begun c = c.before.before.before.before.before.before.before.before.before.before.before.before.before.before.before.before.before.before.before.before.before.before
+begun c = (goal.at.After-fill_powers-2 c).Start
 
 module _ (c : After-fill_powers-2) where
   abbrev m : ℕ
@@ -160,8 +160,8 @@ shape_of-rowcolvalC c = c.index_matrix_into-3.auto.rowcolval
 pub returns : goal.returns
 returns c q known k er ec matrices =
     let l = c in
-    let a = l.before.before.before.before.before.before.before.before.before.before.before.before.before.before.before.before.before.before.before.before.before.before.before.before.before.before.before.before.before.before.before.before.before.before.before.before.before.before.before.before.before.before in
-    let both = both_listed a q known k er ec in
+    let a = l in
+    let both = both_listed (goal.at.returns a).After-fill_powers-2 q known k er ec in
     record {
       of-a = a.index_matrix_into.ensures q known k A both (ap (λ m. m.a) matrices);
       of-b = l.index_matrix_into-2.ensures q known k B both (ap (λ m. m.b) matrices);

@@ -21,7 +21,7 @@ columns_fit s = size_bound _ s.requires.r_value.1
 -- the lists as they are lent the second time
 rows-length : (c : After-fill_powers) → let n : ℕ = c.args.r in
     n ≡ length (take n (returned 1024 n c.fill_powers.new.out))
-rows-length c = back_length 1024 (rows_fit c.before.before.before.before.before.before.before.before) c.fill_powers.new.out c.fill_powers.auto.out
+rows-length c = back_length 1024 (rows_fit (goal.at.After-fill_powers c).Start) c.fill_powers.new.out c.fill_powers.auto.out
 
 columns-length : (c : After-fill_powers-2) → let n : ℕ = (c.before.before.before.before.before.before.before.before.before.before.before.before).args.c in
     n ≡ length (take n (returned 1024 n c.fill_powers-2.new.out))
@@ -35,12 +35,12 @@ slice_bounds-columns-end c = columns_fit (goal.at.slice_bounds-columns-end c).St
 
 pub slice_bounds-rows-end-2 : goal.slice_bounds-rows-end-2
 slice_bounds-rows-end-2 c =
-    let f = (goal.at.slice_bounds-rows-end-2 c).Start in
-    back_holds 1024 (rows_fit f) f.fill_powers.new.out f.fill_powers.auto.out
+    let f = c in
+    back_holds 1024 (rows_fit (goal.at.slice_bounds-rows-end-2 f).Start) f.fill_powers.new.out f.fill_powers.auto.out
 
 pub slice_bounds-columns-end-2 : goal.slice_bounds-columns-end-2
 slice_bounds-columns-end-2 c =
-    let f = c.before.before in
+    let f = c in
     back_holds 1024 (columns_fit (f.before.before.before.before.before.before.before.before.before.before.before.before)) f.fill_powers-2.new.out f.fill_powers-2.auto.out
 
 pub fill_index_values-requires : goal.fill_index_values-requires
@@ -49,7 +49,7 @@ fill_index_values-requires c =
     let h = (f.before.before.before.before.before.before.before.before.before.before.before.before).requires in record {
       p_nonzero = omega (arith, h.0);
       rows_nonzero = (
-        subst (λ (n : ℕ). 0 < n) (rows-length f.before.before.before.before) (size_positive _ h.1.0.0),
+        subst (λ (n : ℕ). 0 < n) (rows-length (goal.at.After-fill_powers-2 f).After-fill_powers) (size_positive _ h.1.0.0),
         subst (λ (n : ℕ). 0 < n) (columns-length f) (size_positive _ h.1.0.1),
       );
       index_lengths = h.1.1;
@@ -60,7 +60,7 @@ returns c q known k er ec =
     let v = c in
     let f = v in
     let e = f in
-    let s = e.before.before.before.before.before.before.before.before.before.before.before.before.before.before.before.before.before.before.before.before.before.before.before.before.before.before.before.before in
+    let s = (goal.at.returns e).Start in
     v.fill_index_values.ensures q (known-qualifies known) known.value k
     (record {
       R-size = ap is_size er ∙ s.requires.r_value.0;

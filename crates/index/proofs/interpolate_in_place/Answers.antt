@@ -17,7 +17,7 @@ use Rattle.index.proofs.interpolate_in_place.Goals.{After-copy_front, Start}
 
 -- the start, from the copy
 abbrev start : After-copy_front → Start
-start c = c.before.before.before.before.before
+start c = (goal.at.After-copy_front c).Start
 
 -- the first words of the array are the values
 copied : (c : After-copy_front) → let l : List ℕ = (start c).args.out.now in take (length l) c.copy_front.new.out ≡ l

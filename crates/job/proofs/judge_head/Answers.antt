@@ -5,7 +5,6 @@ use mathlib.Core.Option.{Option}
 use Prim.Native.Nat.{ℕ}
 use lib.Dec.{leb}
 use lib.ListN.{get_or}
-use borrow.Author.Tests.{not-true, not-false}
 use Rattle.domain.specs.Size.{max_size}
 use Rattle.protocol.specs.Refusals.{Refusal, list_refusal}
 use Rattle.shared.proofs.EarlyReturns.{stops, goes_on, last_answer_lem}
@@ -21,7 +20,7 @@ unfolding head_refusal
 returns-then-not-is_fine c =
     let ws = c.args.words.now in
     let d = c.check_sizes-fault in
-    stops d.result d.ensures (counts ws) (sym c.is_fine.ensures ∙ not-true _ c.if-not-is_fine.true)
+    stops d.result d.ensures (counts ws) (sym c.is_fine.ensures ∙ c.if-not-is_fine.true)
 
 pub returns : goal.returns
 unfolding head_refusal
@@ -29,5 +28,5 @@ returns c =
     let at-if1 = c in
     let d = at-if1.check_sizes-fault in
     let ws = at-if1.args.words.now in
-    goes_on d.result d.ensures (counts ws) (sym at-if1.is_fine.ensures ∙ not-false _ at-if1.if-not-is_fine.false)
+    goes_on d.result d.ensures (counts ws) (sym at-if1.is_fine.ensures ∙ at-if1.if-not-is_fine.false)
     (last_answer_lem c.check_counts.ensures)

@@ -30,7 +30,7 @@ columns_fit s = size_bound s.args.c (C-fits s.requires.fits)
 
 -- the three lists as they were made
 rows_made : (c : After-lagrange_values_into) → MadeIn 1024 c.args.r c.lagrange_values_into.new.out
-rows_made c = record { fits = rows_fit c.before.before.before.before.before.before.before; kept = c.lagrange_values_into.auto.out }
+rows_made c = record { fits = rows_fit (goal.at.After-lagrange_values_into c).Start; kept = c.lagrange_values_into.auto.out }
 
 columns_made : (c : After-lagrange_values_into-2) → MadeIn 1024 (c.before.before.before.before.before.before.before.before.before.before).args.c c.lagrange_values_into-2.new.out
 columns_made c = record { fits = columns_fit (c.before.before.before.before.before.before.before.before.before.before); kept = c.lagrange_values_into-2.auto.out }
@@ -71,7 +71,7 @@ slice_bounds-weights-end c = columns_fit (c.before.before.before.before.before.b
 pub weights_from-requires : goal.weights_from-requires
 weights_from-requires c =
     let l = (goal.at.weights_from-requires c).After-lagrange_values_into in
-    let s = l.before.before.before.before.before.before.before in
+    let s = (goal.at.After-lagrange_values_into l).Start in
     record {
       p_nonzero = omega (arith, s.requires.lt_p);
       each_within = each_within (made_length (rows_made l)) (lent_length 1024 (columns_fit s)) s.requires.fits.within;
@@ -89,9 +89,9 @@ slice_bounds-weights-end-2 c = made_holds (weights_made (goal.at.slice_bounds-we
 pub opened_from-requires : goal.opened_from-requires
 opened_from-requires c =
     let w = (goal.at.opened_from-requires c).After-weights_from in
-    let l = w.before.before.before.before in
+    let l = (goal.at.After-weights_from w).After-lagrange_values_into-2 in
     let h = (l.before.before.before.before.before.before.before.before.before.before).requires in
-    let long = made_length (rows_made l.before.before.before) in
+    let long = made_length (rows_made (goal.at.After-lagrange_values_into-2 l).After-lagrange_values_into) in
     record {
       lt_p = h.0;
       fits = h.1.0;
@@ -103,9 +103,9 @@ pub returns : goal.returns
 unfolding circuit_of
 returns c q K =
     let w = (goal.at.returns c).After-weights_from in
-    let l = w.before.before.before.before in
-    let m = l.before.before.before in
-    let s = m.before.before.before.before.before.before.before in
+    let l = (goal.at.After-weights_from w).After-lagrange_values_into-2 in
+    let m = (goal.at.After-lagrange_values_into-2 l).After-lagrange_values_into in
+    let s = (goal.at.After-lagrange_values_into m).Start in
     let a = s.args in
     let k : Circuit = circuit_of (given a.r a.c a.x a.ea.now a.eb.now a.ec.now) in
     let α : Elem q = of a.alpha in

@@ -11,7 +11,7 @@ pub returns : goal.returns
 unfolding denominator_value
 returns c q e =
     let a = c.args in
-    let index = map_index (of {q = q}) (index_words a.t5) in
+    let index = map_index (of {q = q}) (index_words a.index) in
     let α : Elem q = of a.alpha in
     let β : Elem q = of a.beta in
     let product = of-result (α ⊗ β) (c.multiply.ensures q e) in

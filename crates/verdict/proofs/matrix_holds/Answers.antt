@@ -40,11 +40,11 @@ unfolding joined_left joined_right
 returns c q Q e is-scale x =
     let d = c in
     let chosen = d in
-    let v = chosen.before in
+    let v = (goal.at.returns chosen).After-add-left in
     let a = v.args in
     let s = sizes a.s in
     let t = map_transcript (of {q = q}) (transcript a.t) in
-    let o = map_openings (of {q = q}) (openings a.o a.t5) in
+    let o = map_openings (of {q = q}) (openings a.o a.index) in
     let whole = v.vanishing_value-whole.ensures q e ∙ ap (λ k. (vanishing k t.γ).word) v.largest.ensures in
     let shares = chosen.selectors-share.ensures q Q e whole in
     let left : MatrixName → Elem q = λ M. matrix_left s t M (at o.index M) (at o.matrix_remainders M) in

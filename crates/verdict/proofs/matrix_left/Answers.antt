@@ -18,7 +18,7 @@ returns c q Q e is-scale M k v =
     let a = d.args in
     let s = sizes a.s in
     let t = map_transcript (of {q = q}) (transcript a.t) in
-    let index = map_index (of {q = q}) (index_words a.t7) in
+    let index = map_index (of {q = q}) (index_words a.index) in
     let scale = of-result (vanishing s.|R| t.α ⊗ vanishing s.|C| t.β) is-scale in
     let numerator = of-result (of {q = q} a.scale ⊗ index.rowcolval) (d.multiply-numerator.ensures q e)
     ∙ ap (λ u. u ⊗ index.rowcolval) scale in

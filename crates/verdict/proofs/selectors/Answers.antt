@@ -65,11 +65,11 @@ module _ (c : After-vanishing_value-c) (q : Prime) (e : q.p ≡ c.args.p) where
   both_some = mul-not-zero (prime_ring q) (prime_field q)
 
 product_is : (c : After-multiply-product) (q : Prime) (e : q.p ≡ c.args.p)
-    → of {q = q} c.multiply-product.result ≡ a c.before.before q e ⊗ b c.before.before q e ⊗ d c.before.before q e
+    → of {q = q} c.multiply-product.result ≡ a (goal.at.After-multiply-product c).After-vanishing_value-c q e ⊗ b (goal.at.After-multiply-product c).After-vanishing_value-c q e ⊗ d (goal.at.After-multiply-product c).After-vanishing_value-c q e
 product_is c q e =
-    of-result (of {q = q} _ ⊗ d c.before.before q e) (c.multiply-product.ensures q e)
-    ∙ ap (λ (x : Elem q). x ⊗ d c.before.before q e)
-    (of-result (a c.before.before q e ⊗ b c.before.before q e) (c.multiply-both.ensures q e))
+    of-result (of {q = q} _ ⊗ d (goal.at.After-multiply-product c).After-vanishing_value-c q e) (c.multiply-product.ensures q e)
+    ∙ ap (λ (x : Elem q). x ⊗ d (goal.at.After-multiply-product c).After-vanishing_value-c q e)
+    (of-result (a (goal.at.After-multiply-product c).After-vanishing_value-c q e ⊗ b (goal.at.After-multiply-product c).After-vanishing_value-c q e) (c.multiply-both.ensures q e))
 
 pub size_inverse-requires : goal.size_inverse-requires
 size_inverse-requires c =
@@ -82,7 +82,7 @@ size_inverse-requires c =
 pub divide-share-requires : goal.divide-share-requires
 divide-share-requires c =
     let m = (goal.at.divide-share-requires c).After-multiply-product in
-    let v = m.before.before in record {
+    let v = (goal.at.After-multiply-product m).After-vanishing_value-c in record {
       lt_p = search rules;
       b_nonzero = λ q e z.
           let two = both_some v q e (a v q e) (b v q e) (a-some v q e) (b-some v q e) in
@@ -94,8 +94,8 @@ unfolding selector
 returns c q Q e is_whole =
     let divided = c in
     let inverse = divided in
-    let m = inverse.before.before.before.before.before.before.before.before.before in
-    let v = m.before.before in
+    let m = (goal.at.returns inverse).After-multiply-product in
+    let v = (goal.at.After-multiply-product m).After-vanishing_value-c in
     let s = start v q e in
     let k = s.args.s.k in
     let γ : Elem q = of s.args.gamma in

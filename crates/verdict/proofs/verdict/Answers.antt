@@ -52,7 +52,7 @@ test s q =
 
 -- past the check Row
 row_passed : (c : Else-not-row_holds) (q : Prime) → Known q c.args.p
-    → test c.before.before.before.before q Row ≡ true
+    → test (goal.at.Else-not-row_holds c).Start q Row ≡ true
 row_passed c q K =
     let v = c in
     let s = sizes v.args.s in
@@ -61,14 +61,14 @@ row_passed c q K =
 pub returns-then-not-line_holds : goal.returns-then-not-line_holds
 unfolding verdict
 returns-then-not-line_holds c q K Q =
-    let v = (goal.at.returns-then-not-line_holds c).Else-not-row_holds in
+    let v = c in
     sym
-    (pick_true _ _ (row_passed v q K)
+    (pick_true _ _ (row_passed (goal.at.returns-then-not-line_holds v).Else-not-row_holds q K)
     ∙ pick-false _ _ (fails (c.line_holds.ensures q K Q [] (v.vanishing_value-columns.ensures q K.value)) c.if-not-line_holds.true))
 
 -- past the check Line
 line_passed : (c : Else-not-line_holds) (q : Prime) → Known q c.args.p → Qualifies q
-    → test c.before.before.before.before.before.before.before q Line ≡ true
+    → test (goal.at.Else-not-line_holds c).Start q Line ≡ true
 line_passed c q K Q =
     holds (c.line_holds.ensures q K Q [] (c.vanishing_value-columns.ensures q K.value)) c.if-not-line_holds.false
 
@@ -87,16 +87,16 @@ pub returns-then-not-matrix_holds : goal.returns-then-not-matrix_holds
 unfolding verdict
 returns-then-not-matrix_holds c q K Q =
     let m = (goal.at.returns-then-not-matrix_holds c).After-multiply-scale in
-    let line = m.before in
+    let line = (goal.at.After-multiply-scale m).Else-not-line_holds in
     sym
-    (pick_true _ _ (row_passed line.before.before.before q K) ∙ pick_true _ _ (line_passed line q K Q)
+    (pick_true _ _ (row_passed (goal.at.Else-not-line_holds line).Else-not-row_holds q K) ∙ pick_true _ _ (line_passed line q K Q)
     ∙ pick-false _ _ (fails (c.matrix_holds.ensures q Q K.value (scaled m q K.value) []) c.if-not-matrix_holds.true))
 
 pub returns : goal.returns
 unfolding verdict
 returns c q K Q =
     let m = (goal.at.returns c).After-multiply-scale in
-    let line = m.before in
+    let line = (goal.at.After-multiply-scale m).Else-not-line_holds in
     sym
-    (pick_true _ _ (row_passed line.before.before.before q K) ∙ pick_true _ _ (line_passed line q K Q)
+    (pick_true _ _ (row_passed (goal.at.Else-not-line_holds line).Else-not-row_holds q K) ∙ pick_true _ _ (line_passed line q K Q)
     ∙ pick_true _ _ (holds (c.matrix_holds.ensures q Q K.value (scaled m q K.value) []) c.if-not-matrix_holds.false))

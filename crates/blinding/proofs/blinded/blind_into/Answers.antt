@@ -49,7 +49,7 @@ returns c =
     let third = filled in
     let second = third in
     let first = second in
-    let r = first.before.before.before.before.before.before.before.before.before.before.before.before.before.before.before.before in
+    let r = (goal.at.returns first).After-reserved_columns-columns in
     let F = r.requires.shaped in
     all_filled (circuit r) r.args.z.now (three r.args.rho) (three r.reserved_columns-columns.result) (columns r)
     F.list-a.whole F.list-b.whole F.list-c.whole

@@ -14,10 +14,10 @@ abbrev written : After-slice_known-2-1 → List ℕ
 written c = c.copy_front.new.out
 
 pub bounds-out-n-2 : goal.bounds-out-n-2
-bounds-out-n-2 c = lt-length-set (written (goal.at.bounds-out-n-2 c).After-slice_known-2-1) _ _ (omega arith)
+bounds-out-n-2 c = lt-length-set (written c) _ _ (omega arith)
 
 pub bounds-out-n-3 : goal.bounds-out-n-3
-bounds-out-n-3 c = lt-length-set (set (written (goal.at.bounds-out-n-3 c).After-slice_known-2-1) _ _) _ _ (lt-length-set (written (goal.at.bounds-out-n-3 c).After-slice_known-2-1) _ _ (omega arith))
+bounds-out-n-3 c = lt-length-set (set (written c) _ _) _ _ (lt-length-set (written c) _ _ (omega arith))
 
 pub returns : goal.returns
 returns c =

@@ -32,16 +32,16 @@ overflow_sub-last c = omega (arith, size_positive _ c.requires.R-size)
 
 pub returns-then-any_reserved : goal.returns-then-any_reserved
 returns-then-any_reserved c k rows columns publics matrices =
-    let found = (goal.at.returns-then-any_reserved c).After-reserved_columns-columns in
+    let found = c in
     let s = found in
     found_in_a k columns publics s.requires s.args.ea.now s.args.eb.now s.args.ec.now matrices (omega arith)
-    (sym (found.any_reserved.ensures k (row k rows) (reserved found k columns publics)) ∙ c.if-any_reserved.true)
+    (sym (found.any_reserved.ensures k (row k rows) (reserved (goal.at.returns-then-any_reserved found).After-reserved_columns-columns k columns publics)) ∙ c.if-any_reserved.true)
 
 pub returns-then-any_reserved-2 : goal.returns-then-any_reserved-2
 returns-then-any_reserved-2 c k rows columns publics matrices =
     let found = c in
     let not_a = found in
-    let r = not_a.before.before.before.before in
+    let r = (goal.at.returns-then-any_reserved-2 not_a).After-reserved_columns-columns in
     let s = r in
     let same = reserved r k columns publics in
     found_in_b k columns publics s.requires s.args.ea.now s.args.eb.now s.args.ec.now matrices (omega arith)
@@ -52,7 +52,7 @@ pub returns : goal.returns
 returns c k rows columns publics matrices =
     let not-b = c in
     let not_a = not-b in
-    let r = not_a.before.before.before.before.before in
+    let r = (goal.at.returns not_a).After-reserved_columns-columns in
     let s = r in
     let same = reserved r k columns publics in
     found_in_c k columns publics s.requires s.args.ea.now s.args.eb.now s.args.ec.now matrices (omega arith)

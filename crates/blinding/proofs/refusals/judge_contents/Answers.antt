@@ -4,7 +4,6 @@ use mathlib.Core.List.{List, [], ◌∷◌, ◌++◌}
 use mathlib.Core.Option.{Option}
 use Prim.Native.Nat.{ℕ}
 use native.Mathlib.Omega.{arith}
-use borrow.Author.Tests.{not-true, not-false}
 use Rattle.field.specs.Prime.{Prime}
 use Rattle.domain.proofs.SizeLaws.{size_bound}
 use Rattle.protocol.specs.Three.{listed}
@@ -44,19 +43,19 @@ record Given (q : Prime) (k : Circuit) (s : Start) : Type 0 where
 
 -- past the words and the entries
 module _ (q : Prime) (k : Circuit) {x : Option Refusal} where
-  pass_words : (c : Else-not-is_fine) → let s = c.before.before.before.before.before.before.before.before.before.before.before.before in Given q k s → x ≡ first (after-words q k s) → x ≡ due q k s
+  pass_words : (c : Else-not-is_fine) → let s = (goal.at.Else-not-is_fine-2 c).Start in Given q k s → x ≡ first (after-words q k s) → x ≡ due q k s
   unfolding contents_refusal
   pass_words c g y =
-      let w = c.before.before.before.before.before.before.before.before.before.before.before.before in
-      goes_on w.check_call_words-in_words.result {o = words q k w} (w.check_call_words-in_words.ensures q g.prime k g.matrices)
-      (after-words q k w) (sym c.is_fine.ensures ∙ not-false _ c.if-not-is_fine.false) y
+      let w = c in
+      goes_on w.check_call_words-in_words.result {o = words q k (goal.at.Else-not-is_fine-2 w).Start} (w.check_call_words-in_words.ensures q g.prime k g.matrices)
+      (after-words q k (goal.at.Else-not-is_fine-2 w).Start) (sym c.is_fine.ensures ∙ c.if-not-is_fine.false) y
 
-  pass_entries : (c : Else-not-is_fine-2) → let s = c.before.before.before.before.before.before.before.before.before.before.before.before in Given q k s → x ≡ first (after-entries q k s) → x ≡ due q k s
+  pass_entries : (c : Else-not-is_fine-2) → let s = (goal.at.Else-not-is_fine-2 c).Start in Given q k s → x ≡ first (after-entries q k s) → x ≡ due q k s
   pass_entries c g y =
-      let e = c.before.before.before.before.before.before.before.before.before.before.before.before in
+      let e = c in
       pass_words e.before g
       (goes_on e.check_three_entries-in_entries.result (e.check_three_entries-in_entries.ensures k g.rows g.columns g.matrices)
-      (after-entries q k e) (sym c.is_fine-2.ensures ∙ not-false _ c.if-not-is_fine-2.false) y)
+      (after-entries q k (goal.at.Else-not-is_fine-2 e).Start) (sym c.is_fine-2.ensures ∙ c.if-not-is_fine-2.false) y)
 
 -- a list with room for one more entry has not too many
 few : {l : List ℕ} → Roomy l → EntryWords l
@@ -72,30 +71,30 @@ check_call_words-in_words-requires c =
 pub returns-then-not-is_fine : goal.returns-then-not-is_fine
 unfolding contents_refusal
 returns-then-not-is_fine c q prime k rows columns publics matrices =
-    let w = (goal.at.returns-then-not-is_fine c).Start in
-    stops w.check_call_words-in_words.result {o = words q k w} (w.check_call_words-in_words.ensures q prime k matrices)
-    (after-words q k w) (sym c.is_fine.ensures ∙ not-true _ c.if-not-is_fine.true)
+    let w = c in
+    stops w.check_call_words-in_words.result {o = words q k (goal.at.returns-then-not-is_fine w).Start} (w.check_call_words-in_words.ensures q prime k matrices)
+    (after-words q k (goal.at.returns-then-not-is_fine w).Start) (sym c.is_fine.ensures ∙ c.if-not-is_fine.true)
 
 pub returns-then-not-is_fine-2 : goal.returns-then-not-is_fine-2
 returns-then-not-is_fine-2 c q prime k rows columns publics matrices =
-    let e = (goal.at.returns-then-not-is_fine-2 c).Start in
-    pass_words q k e.before (record { prime = prime; rows = rows; columns = columns; publics = publics; matrices = matrices })
-    (stops e.check_three_entries-in_entries.result (e.check_three_entries-in_entries.ensures k rows columns matrices) (after-entries q k e)
-    (sym c.is_fine-2.ensures ∙ not-true _ c.if-not-is_fine-2.true))
+    let e = c in
+    pass_words q k (goal.at.returns-then-not-is_fine-2 e).Else-not-is_fine (record { prime = prime; rows = rows; columns = columns; publics = publics; matrices = matrices })
+    (stops e.check_three_entries-in_entries.result (e.check_three_entries-in_entries.ensures k rows columns matrices) (after-entries q k (goal.at.returns-then-not-is_fine-2 e).Start)
+    (sym c.is_fine-2.ensures ∙ c.if-not-is_fine-2.true))
 
 pub returns-then-not-is_reservable : goal.returns-then-not-is_reservable
 unfolding blinding_refusal
 returns-then-not-is_reservable c q prime k rows columns publics matrices =
-    let r = (goal.at.returns-then-not-is_reservable c).Else-not-is_fine-2 in
-    pass_entries q k r (record { prime = prime; rows = rows; columns = columns; publics = publics; matrices = matrices })
+    let r = c in
+    pass_entries q k (goal.at.returns-then-not-is_reservable r).Else-not-is_fine-2 (record { prime = prime; rows = rows; columns = columns; publics = publics; matrices = matrices })
     (fails_first 15 0 (constant_refusal r.args.z.now ∷ [])
-    (sym (r.is_reservable.ensures k rows columns publics matrices) ∙ not-true _ c.if-not-is_reservable.true))
+    (sym (r.is_reservable.ensures k rows columns publics matrices) ∙ c.if-not-is_reservable.true))
 
 pub returns : goal.returns
 unfolding blinding_refusal
 returns c q prime k rows columns publics matrices =
-    let r = (goal.at.returns c).Else-not-is_fine-2 in
-    pass_entries q k r (record { prime = prime; rows = rows; columns = columns; publics = publics; matrices = matrices })
+    let r = c in
+    pass_entries q k (goal.at.returns r).Else-not-is_fine-2 (record { prime = prime; rows = rows; columns = columns; publics = publics; matrices = matrices })
     (passes 15 0 (constant_refusal r.args.z.now ∷ [])
-    (sym (r.is_reservable.ensures k rows columns publics matrices) ∙ not-false _ c.if-not-is_reservable.false)
+    (sym (r.is_reservable.ensures k rows columns publics matrices) ∙ c.if-not-is_reservable.false)
     (last_answer_lem c.judge_constant.ensures))

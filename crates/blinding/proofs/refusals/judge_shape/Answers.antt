@@ -4,7 +4,6 @@ use mathlib.Core.List.{[], ◌∷◌, ◌++◌}
 use mathlib.Core.Option.{Option}
 use lib.Dec.{eqb}
 use lib.ListN.{length}
-use borrow.Author.Tests.{not-true, not-false}
 use Rattle.protocol.specs.Refusals.{Refusal, list_refusal}
 use Rattle.protocol.specs.Blinded.{roomy_list_tests}
 use Rattle.circuit.specs.Given.{given}
@@ -24,11 +23,11 @@ pub returns-then-not-is_fine : goal.returns-then-not-is_fine
 unfolding shape_refusal
 returns-then-not-is_fine c =
     let s = (goal.at.returns-then-not-is_fine c).After-check_sizes-fault in
-    stops s.check_sizes-fault.result s.check_sizes-fault.ensures (lists s ∷ []) (sym c.is_fine.ensures ∙ not-true _ c.if-not-is_fine.true)
+    stops s.check_sizes-fault.result s.check_sizes-fault.ensures (lists s ∷ []) (sym c.is_fine.ensures ∙ c.if-not-is_fine.true)
 
 pub returns : goal.returns
 unfolding shape_refusal list_refusal roomy_list_tests
 returns c =
     let s = (goal.at.returns c).After-check_sizes-fault in
     goes_on s.check_sizes-fault.result s.check_sizes-fault.ensures (lists s ∷ [])
-    (sym c.is_fine.ensures ∙ not-false _ c.if-not-is_fine.false) (last_answer_lem c.check_lists.ensures)
+    (sym c.is_fine.ensures ∙ c.if-not-is_fine.false) (last_answer_lem c.check_lists.ensures)

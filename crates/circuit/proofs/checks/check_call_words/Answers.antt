@@ -6,7 +6,6 @@ use Prim.Native.Nat.{ℕ, ◌+◌, ◌/◌}
 use native.Mathlib.Omega.{arith}
 use lib.Dec.{ltb}
 use lib.ListN.{length}
-use borrow.Author.Tests.{not-true, not-false}
 use Rattle.field.specs.Prime.{Prime}
 use Rattle.protocol.specs.Circuit.{Circuit}
 use Rattle.protocol.specs.Refusals.{Refusal, first, refuse, word_refusal}
@@ -38,10 +37,10 @@ is_fine-requires c = tt
 
 pub returns-then-not-is_fine : goal.returns-then-not-is_fine
 returns-then-not-is_fine c q e k matrices =
-    let v = (goal.at.returns-then-not-is_fine c).Start in
-    stops v.check_three_values-fault.result (v.check_three_values-fault.ensures k matrices) (part v ∷ [])
-    (sym c.is_fine.ensures ∙ not-true _ c.if-not-is_fine.true)
-    ∙ in_parts v q k e matrices
+    let v = c in
+    stops v.check_three_values-fault.result (v.check_three_values-fault.ensures k matrices) (part (goal.at.returns-then-not-is_fine v).Start ∷ [])
+    (sym c.is_fine.ensures ∙ c.if-not-is_fine.true)
+    ∙ in_parts (goal.at.returns-then-not-is_fine v).Start q k e matrices
 
 pub overflow_add-start : goal.overflow_add-start
 overflow_add-start c = omega arith
@@ -55,7 +54,7 @@ check_prover_words-requires c = omega arith
 pub returns : goal.returns
 returns c q e k matrices =
     let d = c in
-    let v = d.before.before.before.before.before.before.before.before.before.before in
-    goes_on v.check_three_values-fault.result (v.check_three_values-fault.ensures k matrices) (part v ∷ [])
-    (sym d.is_fine.ensures ∙ not-false _ d.if-not-is_fine.false) (last_answer_lem {o = part v} c.check_prover_words.ensures)
-    ∙ in_parts v q k e matrices
+    let v = d in
+    goes_on v.check_three_values-fault.result (v.check_three_values-fault.ensures k matrices) (part (goal.at.returns v).Start ∷ [])
+    (sym d.is_fine.ensures ∙ d.if-not-is_fine.false) (last_answer_lem {o = part (goal.at.returns v).Start} c.check_prover_words.ensures)
+    ∙ in_parts (goal.at.returns v).Start q k e matrices

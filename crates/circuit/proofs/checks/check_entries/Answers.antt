@@ -5,7 +5,6 @@ use mathlib.Core.List.{List}
 use Prim.Native.Nat.{ℕ, ◌/◌}
 use native.Mathlib.Omega.{arith}
 use lib.ListN.{length}
-use borrow.Author.Tests.{not-true, not-false}
 use Rattle.protocol.specs.Circuit.{Circuit}
 use Rattle.protocol.specs.Calls.{entries_of}
 use Rattle.protocol.proofs.EntryLists.{length-entries_of}
@@ -31,7 +30,7 @@ returns-then-not-entry_passes c k er ec =
     let l = c.loop-i in
     let a = c.args in
     passed_stop 7 a.start (tests k a.entries.now) l.i (l.invariant.1 k er ec) (omega (arith, tests_count k a.entries.now)) true _ refl
-    (sym (c.entry_passes.ensures k er ec) ∙ not-true _ c.if-not-entry_passes.true)
+    (sym (c.entry_passes.ensures k er ec) ∙ c.if-not-entry_passes.true)
 
 pub overflow_add-i : goal.overflow_add-i
 overflow_add-i c = omega arith
@@ -46,7 +45,7 @@ loop-i-preserved c =
       omega arith,
       λ k er ec.
           passed_turn 7 a.start (tests k a.entries.now) l.i (l.invariant.1 k er ec) (omega (arith, tests_count k a.entries.now)) true
-          (sym (c.entry_passes.ensures k er ec) ∙ not-false _ c.if-not-entry_passes.false),
+          (sym (c.entry_passes.ensures k er ec) ∙ c.if-not-entry_passes.false),
     )
 
 pub returns : goal.returns

@@ -38,7 +38,7 @@ due-count : (q : Prime) (s : Start) → length (due q s) ≡ length s.args.point
 due-count q s = tests_count q (s.args.r ∷ s.args.c ∷ s.args.k ∷ []) s.args.points.now s.requires.points_len_bound
 
 turn_test : (c : After-is_inside) (q : Prime) → Qualifies q → q.p ≡ c.args.p
-    → get_or (due q c.before.before.before.before.before) c.loop-i.i true ≡ not c.is_inside.result
+    → get_or (due q (goal.at.After-is_inside c).Start) c.loop-i.i true ≡ not c.is_inside.result
 turn_test c q Q e =
     let s = c in
     test_at q (s.args.r ∷ s.args.c ∷ s.args.k ∷ []) s.args.points.now c.loop-i.i c.is_inside.result
@@ -74,7 +74,7 @@ unfolding challenge_refusal
 returns-then-is_inside c q Q e =
     let t = (goal.at.returns-then-is_inside c).After-is_inside in
     let l = t.loop-i in
-    passed_stop 10 0 (due q t.before.before.before.before.before) l.i (l.invariant.1 q Q e) (omega (arith, due-count q t.before.before.before.before.before)) true l.i (omega arith)
+    passed_stop 10 0 (due q (goal.at.After-is_inside t).Start) l.i (l.invariant.1 q Q e) (omega (arith, due-count q (goal.at.After-is_inside t).Start)) true l.i (omega arith)
     (turn_test t q Q e ∙ ap not c.if-is_inside.true)
 
 pub overflow_add-i : goal.overflow_add-i
@@ -89,7 +89,7 @@ loop-i-preserved c =
     let l = t.loop-i in (
       omega arith,
       λ q Q e.
-          passed_turn 10 0 (due q t.before.before.before.before.before) l.i (l.invariant.1 q Q e) (omega (arith, due-count q t.before.before.before.before.before)) true
+          passed_turn 10 0 (due q (goal.at.After-is_inside t).Start) l.i (l.invariant.1 q Q e) (omega (arith, due-count q (goal.at.After-is_inside t).Start)) true
           (turn_test t q Q e ∙ ap not c.if-is_inside.false),
     )
 

@@ -7,7 +7,7 @@ use Prim.Native.Nat.{ℕ, ◌+◌}
 use native.Mathlib.Omega.{arith}
 use lib.Dec.{ltb}
 use lib.ListN.{length}
-use borrow.Author.Tests.{lt-ltb, le-ltb, not-true, not-false}
+use borrow.Author.Tests.{lt-ltb, le-ltb}
 use Rattle.protocol.specs.Refusals.{Refusal, first, refuse}
 use Rattle.shared.proofs.EarlyReturns.{stops, goes_on, passes, fails_first, last_answer_lem}
 use Rattle.circuit.proofs.Parts.{prover-words}
@@ -38,16 +38,16 @@ module _ (s : Start) where
   in_parts = sym (prover-words s.args.p s.args.start s.args.z.now s.args.mask s.args.m.now s.args.challenges.now)
 
 -- past z, and past the mask word
-pass_z : (c : Else-not-is_fine) {x : Option Refusal} → let s = c.before.before.before.before.before.before in x ≡ first (after-z s) → x ≡ due s
+pass_z : (c : Else-not-is_fine) {x : Option Refusal} → let s = (goal.at.Else-not-is_fine c).Start in x ≡ first (after-z s) → x ≡ due s
 pass_z c y =
-    let j = c.before.before.before.before.before.before in
-    goes_on j.judge_words-fault.result j.judge_words-fault.ensures (after-z j) (sym c.is_fine.ensures ∙ not-false _ c.if-not-is_fine.false) y
-    ∙ in_parts j
+    let j = c in
+    goes_on j.judge_words-fault.result j.judge_words-fault.ensures (after-z (goal.at.Else-not-is_fine j).Start) (sym c.is_fine.ensures ∙ c.if-not-is_fine.false) y
+    ∙ in_parts (goal.at.Else-not-is_fine j).Start
 
-pass_mask : (c : Else-mask-p) {x : Option Refusal} → let s = c.before.before.before.before.before.before.before in x ≡ first (after-mask s) → x ≡ due s
+pass_mask : (c : Else-mask-p) {x : Option Refusal} → let s = (goal.at.Else-mask-p c).Start in x ≡ first (after-mask s) → x ≡ due s
 pass_mask c y =
-    let s = c.before.before.before.before.before.before.before in
-    pass_z c.before (passes 6 (place s) (after-mask s) (lt-ltb _ _ c.if-mask-p.false) y)
+    let s = (goal.at.Else-mask-p c).Start in
+    pass_z (goal.at.Else-mask-p c).Else-not-is_fine (passes 6 (place s) (after-mask s) (lt-ltb _ _ c.if-mask-p.false) y)
 
 pub judge_words-fault-requires : goal.judge_words-fault-requires
 judge_words-fault-requires c = omega arith
@@ -57,9 +57,9 @@ is_fine-requires c = tt
 
 pub returns-then-not-is_fine : goal.returns-then-not-is_fine
 returns-then-not-is_fine c =
-    let j = (goal.at.returns-then-not-is_fine c).Start in
-    stops j.judge_words-fault.result j.judge_words-fault.ensures (after-z j) (sym c.is_fine.ensures ∙ not-true _ c.if-not-is_fine.true)
-    ∙ in_parts j
+    let j = c in
+    stops j.judge_words-fault.result j.judge_words-fault.ensures (after-z (goal.at.returns-then-not-is_fine j).Start) (sym c.is_fine.ensures ∙ c.if-not-is_fine.true)
+    ∙ in_parts (goal.at.returns-then-not-is_fine j).Start
 
 pub overflow_add-place : goal.overflow_add-place
 overflow_add-place c = omega arith
@@ -80,10 +80,10 @@ is_fine-requires-2 c = tt
 
 pub returns-then-not-is_fine-2 : goal.returns-then-not-is_fine-2
 returns-then-not-is_fine-2 c =
-    let j = (goal.at.returns-then-not-is_fine-2 c).Else-mask-p in
-    let s = j.before.before.before.before.before.before.before in
-    pass_mask j
-    (stops j.judge_words-fault2.result j.judge_words-fault2.ensures (after-m s) (sym c.is_fine-2.ensures ∙ not-true _ c.if-not-is_fine-2.true))
+    let j = c in
+    let s = (goal.at.returns-then-not-is_fine-2 j).Start in
+    pass_mask (goal.at.returns-then-not-is_fine-2 j).Else-mask-p
+    (stops j.judge_words-fault2.result j.judge_words-fault2.ensures (after-m s) (sym c.is_fine-2.ensures ∙ c.if-not-is_fine-2.true))
 
 pub overflow_add-place-3 : goal.overflow_add-place-3
 overflow_add-place-3 c = omega arith
@@ -97,8 +97,8 @@ judge_words-requires c = omega arith
 pub returns : goal.returns
 returns c =
     let d = c in
-    let j = d.before.before.before.before in
-    let s = j.before.before.before.before.before.before.before in
-    pass_mask j
-    (goes_on j.judge_words-fault2.result j.judge_words-fault2.ensures (after-m s) (sym d.is_fine-2.ensures ∙ not-false _ d.if-not-is_fine-2.false)
+    let j = d in
+    let s = (goal.at.returns j).Start in
+    pass_mask (goal.at.returns j).Else-mask-p
+    (goes_on j.judge_words-fault2.result j.judge_words-fault2.ensures (after-m s) (sym d.is_fine-2.ensures ∙ d.if-not-is_fine-2.false)
     (last_answer_lem c.judge_words.ensures))

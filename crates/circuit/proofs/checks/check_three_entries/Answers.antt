@@ -5,7 +5,6 @@ use mathlib.Core.Option.{Option}
 use Prim.Native.Nat.{◌+◌, ◌/◌}
 use native.Mathlib.Omega.{arith}
 use lib.ListN.{length}
-use borrow.Author.Tests.{not-true, not-false}
 use Rattle.protocol.specs.Circuit.{Circuit}
 use Rattle.protocol.specs.Refusals.{Refusal, first, refuse, entry_tests, entry_refusal}
 use Rattle.protocol.specs.Calls.{entries_of}
@@ -30,12 +29,12 @@ module _ (k : Circuit) where
     in_parts : Same → first (refuse 7 0 (entry_tests k (entries_of s.args.ea.now)) ∷ after-a) ≡ entry_refusal k
     in_parts matrices = sym (entries_in_parts k s.args.ea.now s.args.eb.now s.args.ec.now matrices _ _ refl refl)
 
-  pass_a : (c : Else-not-is_fine) {x : Option Refusal} → let s = c.before.before.before.before.before.before in
+  pass_a : (c : Else-not-is_fine) {x : Option Refusal} → let s = (goal.at.Else-not-is_fine c).Start in
       k.|R| ≡ s.args.r → k.|C| ≡ s.args.c → Same s → x ≡ first (after-a s) → x ≡ entry_refusal k
   pass_a c er ec matrices y =
-      let v = c.before.before in
+      let v = c in
       goes_on v.check_entries-fault.result (v.check_entries-fault.ensures k er ec) (after-a v.before.before.before.before)
-      (sym c.is_fine.ensures ∙ not-false _ c.if-not-is_fine.false) y
+      (sym c.is_fine.ensures ∙ c.if-not-is_fine.false) y
       ∙ in_parts v.before.before.before.before matrices
 
 pub check_entries-fault-requires : goal.check_entries-fault-requires
@@ -46,8 +45,8 @@ is_fine-requires c = tt
 
 pub returns-then-not-is_fine : goal.returns-then-not-is_fine
 returns-then-not-is_fine c k er ec matrices =
-    let v = c.before.before in
-    stops v.check_entries-fault.result (v.check_entries-fault.ensures k er ec) (after-a k v.before.before.before.before) (sym c.is_fine.ensures ∙ not-true _ c.if-not-is_fine.true)
+    let v = c in
+    stops v.check_entries-fault.result (v.check_entries-fault.ensures k er ec) (after-a k v.before.before.before.before) (sym c.is_fine.ensures ∙ c.if-not-is_fine.true)
     ∙ in_parts k v.before.before.before.before matrices
 
 pub check_entries-fault2-requires : goal.check_entries-fault2-requires
@@ -58,10 +57,10 @@ is_fine-requires-2 c = tt
 
 pub returns-then-not-is_fine-2 : goal.returns-then-not-is_fine-2
 returns-then-not-is_fine-2 c k er ec matrices =
-    let v = (goal.at.returns-then-not-is_fine-2 c).Else-not-is_fine in
-    pass_a k v er ec matrices
+    let v = c in
+    pass_a k (goal.at.returns-then-not-is_fine-2 v).Else-not-is_fine er ec matrices
     (stops v.check_entries-fault2.result (v.check_entries-fault2.ensures k er ec) (after-b k v.before.before.before.before.before.before.before)
-    (sym c.is_fine-2.ensures ∙ not-true _ c.if-not-is_fine-2.true))
+    (sym c.is_fine-2.ensures ∙ c.if-not-is_fine-2.true))
 
 pub overflow_add-second : goal.overflow_add-second
 overflow_add-second c = omega arith
@@ -72,7 +71,7 @@ check_entries-requires c = omega arith
 pub returns : goal.returns
 returns c k er ec matrices =
     let d = c in
-    let v = d.before.before.before.before in
-    pass_a k v er ec matrices
+    let v = d in
+    pass_a k (goal.at.returns v).Else-not-is_fine er ec matrices
     (goes_on v.check_entries-fault2.result (v.check_entries-fault2.ensures k er ec) (after-b k v.before.before.before.before.before.before.before)
-    (sym d.is_fine-2.ensures ∙ not-false _ d.if-not-is_fine-2.false) (last_answer_lem (c.check_entries.ensures k er ec)))
+    (sym d.is_fine-2.ensures ∙ d.if-not-is_fine-2.false) (last_answer_lem (c.check_entries.ensures k er ec)))

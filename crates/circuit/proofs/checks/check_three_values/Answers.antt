@@ -6,7 +6,6 @@ use Prim.Native.Nat.{◌+◌, ◌/◌}
 use native.Mathlib.Omega.{arith}
 use lib.Dec.{ltb}
 use lib.ListN.{length}
-use borrow.Author.Tests.{not-true, not-false}
 use Rattle.protocol.specs.Circuit.{Circuit}
 use Rattle.protocol.specs.Refusals.{Refusal, first, refuse}
 use Rattle.protocol.specs.Admission.{entry_values}
@@ -35,10 +34,10 @@ module _ (k : Circuit) where
   in_parts : (s : Start) → Same s → first (refuse 6 0 (value_tests s.args.p s.args.ea.now) ∷ after-a s) ≡ due s
   in_parts s matrices = sym (values_in_parts k s.args.ea.now s.args.eb.now s.args.ec.now matrices s.args.p _ _ refl refl)
 
-  pass_a : (c : Else-not-is_fine) {x : Option Refusal} → let s = c.before.before.before.before.before.before in Same s → x ≡ first (after-a s) → x ≡ due s
+  pass_a : (c : Else-not-is_fine) {x : Option Refusal} → let s = (goal.at.Else-not-is_fine c).Start in Same s → x ≡ first (after-a s) → x ≡ due s
   pass_a c matrices y =
-      let v = c.before.before.before.before.before.before in
-      goes_on v.check_values-fault.result v.check_values-fault.ensures (after-a v) (sym c.is_fine.ensures ∙ not-false _ c.if-not-is_fine.false) y
+      let v = c in
+      goes_on v.check_values-fault.result v.check_values-fault.ensures (after-a (goal.at.Else-not-is_fine v).Start) (sym c.is_fine.ensures ∙ c.if-not-is_fine.false) y
       ∙ in_parts v.before.before.before.before matrices
 
 pub check_values-fault-requires : goal.check_values-fault-requires
@@ -49,9 +48,9 @@ is_fine-requires c = tt
 
 pub returns-then-not-is_fine : goal.returns-then-not-is_fine
 returns-then-not-is_fine c k matrices =
-    let v = (goal.at.returns-then-not-is_fine c).Start in
-    stops v.check_values-fault.result v.check_values-fault.ensures (after-a v) (sym c.is_fine.ensures ∙ not-true _ c.if-not-is_fine.true)
-    ∙ in_parts k v matrices
+    let v = c in
+    stops v.check_values-fault.result v.check_values-fault.ensures (after-a (goal.at.returns-then-not-is_fine v).Start) (sym c.is_fine.ensures ∙ c.if-not-is_fine.true)
+    ∙ in_parts k (goal.at.returns-then-not-is_fine v).Start matrices
 
 pub check_values-fault2-requires : goal.check_values-fault2-requires
 check_values-fault2-requires c = omega arith
@@ -61,10 +60,10 @@ is_fine-requires-2 c = tt
 
 pub returns-then-not-is_fine-2 : goal.returns-then-not-is_fine-2
 returns-then-not-is_fine-2 c k matrices =
-    let v = (goal.at.returns-then-not-is_fine-2 c).Start in
-    pass_a k v.before matrices
-    (stops v.check_values-fault2.result v.check_values-fault2.ensures (after-b v)
-    (sym c.is_fine-2.ensures ∙ not-true _ c.if-not-is_fine-2.true))
+    let v = c in
+    pass_a k (goal.at.returns-then-not-is_fine-2 v).Else-not-is_fine matrices
+    (stops v.check_values-fault2.result v.check_values-fault2.ensures (after-b (goal.at.returns-then-not-is_fine-2 v).Start)
+    (sym c.is_fine-2.ensures ∙ c.if-not-is_fine-2.true))
 
 pub overflow_add-second : goal.overflow_add-second
 overflow_add-second c = omega arith
@@ -75,7 +74,7 @@ check_values-requires c = omega arith
 pub returns : goal.returns
 returns c k matrices =
     let d = c in
-    let v = d.before.before.before.before.before.before.before.before.before.before in
-    pass_a k v.before matrices
-    (goes_on v.check_values-fault2.result v.check_values-fault2.ensures (after-b v)
-    (sym d.is_fine-2.ensures ∙ not-false _ d.if-not-is_fine-2.false) (last_answer_lem c.check_values.ensures))
+    let v = d in
+    pass_a k (goal.at.returns v).Else-not-is_fine matrices
+    (goes_on v.check_values-fault2.result v.check_values-fault2.ensures (after-b (goal.at.returns v).Start)
+    (sym d.is_fine-2.ensures ∙ d.if-not-is_fine-2.false) (last_answer_lem c.check_values.ensures))

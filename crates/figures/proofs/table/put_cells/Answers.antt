@@ -30,7 +30,7 @@ loop-k-preserved c =
     let start = l in
     let a = start.args in (
       search rules,
-      cell_turn (figure_at baby_bear a.row) a.t2 l.loop-k.k _ (omega (arith, l.loop-k.invariant.0, start.requires.count_le_most_circuits, start.well_formed.1.0.1.0.1)) l.loop-k.invariant.1 c.put_cell-place.ensures,
+      cell_turn (figure_at baby_bear a.row) a.array l.loop-k.k _ (omega (arith, l.loop-k.invariant.0, start.requires.count_le_most_circuits, start.well_formed.1.0.1.0.1)) l.loop-k.invariant.1 c.put_cell-place.ensures,
     )
 
 pub shape_of-out : goal.shape_of-out

@@ -1,6 +1,5 @@
 -- `grown::beginnings::begin` meets its contract: the sizes are judged, then put over zeros. Assumes nothing.
 use mathlib.Core.Path.{sym, ◌∙◌}
-use borrow.Author.Tests.{not-true, not-false}
 use lib.ListN.{length}
 use Rattle.protocol.specs.Grown.{stored, empty_circuit, begin_call}
 use Rattle.shared.proofs.LentAnswers.{lent-refused, lent_filled}
@@ -13,7 +12,7 @@ returns-then-not-is_fine c =
     let j = c in
     let a = j.args in
     lent-refused j.check_sizes-fault.result j.check_sizes-fault.ensures (stored (empty_circuit a.r a.c a.x)) a.circuit.now
-    (sym c.is_fine.ensures ∙ not-true _ c.if-not-is_fine.true)
+    (sym c.is_fine.ensures ∙ c.if-not-is_fine.true)
 
 pub returns : goal.returns
 unfolding begin_call
@@ -24,5 +23,5 @@ returns c =
     let s = j in
     let a = s.args in
     lent_filled j.check_sizes-fault.result j.check_sizes-fault.ensures (stored (empty_circuit a.r a.c a.x)) a.circuit.now
-    (sym d.is_fine.ensures ∙ not-false _ d.if-not-is_fine.false)
+    (sym d.is_fine.ensures ∙ d.if-not-is_fine.false)
     (nothing_stored cleared.clear.new.out a.r a.c a.x (length a.circuit.now) cleared.clear.ensures s.requires)

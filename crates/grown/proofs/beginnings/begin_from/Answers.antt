@@ -2,7 +2,6 @@
 -- Assumes nothing.
 use mathlib.Core.Path.{◌≡◌, sym, ◌∙◌}
 use mathlib.Core.Bool.{true}
-use borrow.Author.Tests.{not-true, not-false}
 use Rattle.domain.proofs.SizeLaws.{size_bound}
 use Rattle.shared.specs.Meanings.{is_fine}
 use Rattle.protocol.specs.Calls.{CircuitWords, entries_of, circuit_of}
@@ -30,7 +29,7 @@ module _ (c : Else-not-is_fine) where
   judged = c.before.before
 
   fine : is_fine judged.judge-circuit.result ≡ true
-  fine = sym c.is_fine.ensures ∙ not-false _ c.if-not-is_fine.false
+  fine = sym c.is_fine.ensures ∙ c.if-not-is_fine.false
 
   fits : let a = (start judged).args in CircuitFits a.r a.c a.x a.ea.now a.eb.now a.ec.now
   fits =
@@ -45,7 +44,7 @@ unfolding begin_from_call circuit_refusal
 returns-then-not-is_fine c q e =
     let j = (goal.at.returns-then-not-is_fine c).After-judge_circuit-fault in
     lent-refused j.judge_circuit-fault.result {o = circuit_refusal q (circuit j)} (j.judge_circuit-fault.ensures q e)
-    (stored (circuit_of (circuit j))) (start j).args.circuit.now (sym c.is_fine.ensures ∙ not-true _ c.if-not-is_fine.true)
+    (stored (circuit_of (circuit j))) (start j).args.circuit.now (sym c.is_fine.ensures ∙ c.if-not-is_fine.true)
 
 pub store-requires : goal.store-requires
 store-requires c =
@@ -64,7 +63,7 @@ pub returns : goal.returns
 unfolding begin_from_call circuit_refusal
 returns c q e =
     let filled = c in
-    let d = filled.before.before.before.before in
+    let d = (goal.at.returns filled).Else-not-is_fine in
     let j = judged d in
     lent_filled j.judge-circuit.result {o = circuit_refusal q (circuit j)} (j.judge-circuit.ensures q e)
     (stored (circuit_of (circuit j))) (start j).args.circuit.now (fine d) filled.store.ensures

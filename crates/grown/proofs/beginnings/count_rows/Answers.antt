@@ -17,7 +17,7 @@ use Rattle.grown.proofs.beginnings.count_rows.Goals as goal
 use Rattle.grown.proofs.beginnings.count_rows.Goals.{In-loop-i, Start}
 
 abbrev start : In-loop-i → Start
-start c = c.before.before.before.before.before.before.before.before
+start c = (goal.at.In-loop-i c).Start
 
 row_below : (c : In-loop-i)
     → let a = (start c).args in get_or a.entries.now (3 * c.loop-i.i) 0 < length a.out.now

@@ -5,7 +5,6 @@ use mathlib.Core.List.{List}
 use Prim.Native.Nat.{ℕ, ◌<◌}
 use native.Mathlib.Omega.{arith}
 use lib.ListN.{get_or}
-use borrow.Author.Tests.{not-true, not-false}
 use Rattle.domain.specs.Size.{max_size}
 use Rattle.protocol.specs.Circuit.{Entry}
 use Rattle.protocol.specs.Grown.{total_place, put_at, with_entry}
@@ -24,7 +23,7 @@ module _ (s : Start) where
 
 -- past the count, the value and the entry
 fine : (c : Else-not-is_fine) → is_fine c.judge_entry-fault.result ≡ true
-fine c = sym c.is_fine.ensures ∙ not-false _ c.if-not-is_fine.false
+fine c = sym c.is_fine.ensures ∙ c.if-not-is_fine.false
 
 -- what is known once the place is found
 module _ (f : After-find_entry-found) where
@@ -32,18 +31,18 @@ module _ (f : After-find_entry-found) where
   start = f.before.before.before.before.before.before.before
 
   room : (start.args.matrix < 3) × ((get_or (words start) (total_place start.args.matrix) 0 < max_size) × (start.args.row < max_size))
-  room = f.judge_entry-fault.ensures.matrix_bound (fine f.before)
+  room = f.judge_entry-fault.ensures.matrix_bound (fine (goal.at.After-find_entry-found f).Else-not-is_fine)
 
 pub returns-then-not-is_fine : goal.returns-then-not-is_fine
 returns-then-not-is_fine c q e =
     let j = c in
-    let s = j.before.before.before.before in
+    let s = (goal.at.returns-then-not-is_fine j).Start in
     add_stops q (words s) s.args.matrix (given s) j.judge_entry-fault.result (j.judge_entry-fault.ensures.result_value q e)
-    (sym c.is_fine.ensures ∙ not-true _ c.if-not-is_fine.true)
+    (sym c.is_fine.ensures ∙ c.if-not-is_fine.true)
 
 pub find_entry-found-requires : goal.find_entry-found-requires
 find_entry-found-requires c =
-    let there = c.judge_entry-fault.ensures.matrix_bound (fine (goal.at.find_entry-found-requires c).Else-not-is_fine) in
+    let there = c.judge_entry-fault.ensures.matrix_bound (fine c) in
     record {
       circuit_len = omega arith;
       matrix_bound = (there.0, there.1.1);
@@ -51,10 +50,10 @@ find_entry-found-requires c =
 
 pub returns-then-found : goal.returns-then-found
 returns-then-found c q e =
-    let found = (goal.at.returns-then-found c).Else-not-is_fine in
+    let found = c in
     let j = found in
-    let s = j.before.before.before.before in
-    add-taken q (words s) s.args.matrix (given s) j.judge_entry-fault.result (j.judge_entry-fault.ensures.result_value q e) (fine found)
+    let s = (goal.at.returns-then-found j).Start in
+    add-taken q (words s) s.args.matrix (given s) j.judge_entry-fault.result (j.judge_entry-fault.ensures.result_value q e) (fine (goal.at.returns-then-found found).Else-not-is_fine)
     (sym found.find_entry-found.ensures.0 ∙ c.if-found.true)
 
 pub put_entry-requires : goal.put_entry-requires
@@ -76,11 +75,11 @@ put_entry-requires c =
 pub returns : goal.returns
 unfolding with_entry
 returns c q e =
-    let f = (goal.at.returns c).Else-not-is_fine in
+    let f = (goal.at.returns c).After-find_entry-found in
     let s = start f in
     let a = s.args in
     let j = f in
-    add_done q (words s) a.matrix (given s) j.judge_entry-fault.result (j.judge_entry-fault.ensures.result_value q e) (fine f) _
+    add_done q (words s) a.matrix (given s) j.judge_entry-fault.result (j.judge_entry-fault.ensures.result_value q e) (fine (goal.at.After-find_entry-found f).Else-not-is_fine) _
     (sym f.find_entry-found.ensures.0 ∙ c.if-found.false)
     (c.put_entry.ensures
     ∙ ap₂ (λ (place before : ℕ). put_at (words s) a.matrix place before (given s))

@@ -15,7 +15,7 @@ within c = let a = c.args in span_within a.circuit.now a.matrix a.row c.find_row
 pub find_place-place-requires : goal.find_place-place-requires
 find_place-place-requires c = record {
   circuit_len = omega arith;
-  matrix_bound = (omega arith, within (goal.at.find_place-place-requires c).After-find_row-span);
+  matrix_bound = (omega arith, within c);
 }
 
 pub is_taken-requires : goal.is_taken-requires

@@ -4,7 +4,6 @@ use mathlib.Core.Bool.{true, true≢false}
 use mathlib.Core.List.{List}
 use Prim.Native.Nat.{ℕ}
 use native.Mathlib.Omega.{arith}
-use borrow.Author.Tests.{not-true, not-false}
 use Rattle.protocol.specs.Circuit.{Entry}
 use Rattle.grown.proofs.ChangeLaws.{room, no_room, no_word, no_entry_lem, entry-passes, room_there, row_there}
 use Rattle.grown.proofs.changes.judge_entry.Goals as goal
@@ -18,13 +17,13 @@ abbrev words : Start → List ℕ
 words s = s.args.circuit.now
 
 -- past the first test
-free : (c : Else-not-has_room) → let s = c.before.before.before in room (words s) s.args.matrix (given s) ≡ true
-free c = sym c.has_room.ensures ∙ not-false _ c.if-not-has_room.false
+free : (c : Else-not-has_room) → let s = (goal.at.Else-not-has_room c).Start in room (words s) s.args.matrix (given s) ≡ true
+free c = sym c.has_room.ensures ∙ c.if-not-has_room.false
 
 pub returns-then-not-has_room : goal.returns-then-not-has_room
 returns-then-not-has_room c =
     let s = (goal.at.returns-then-not-has_room c).Start in record {
-      result_value = λ q e. no_room (words s) s.args.matrix (given s) q (sym c.has_room.ensures ∙ not-true _ c.if-not-has_room.true);
+      result_value = λ q e. no_room (words s) s.args.matrix (given s) q (sym c.has_room.ensures ∙ c.if-not-has_room.true);
       matrix_bound = λ fine. absurd (true≢false (sym fine));
     }
 
@@ -37,21 +36,21 @@ returns-then-value-p c =
 
 pub returns-then-not-fits_circuit : goal.returns-then-not-fits_circuit
 returns-then-not-fits_circuit c =
-    let word = (goal.at.returns-then-not-fits_circuit c).Else-not-has_room in
-    let s = word.before.before.before in record {
+    let word = c in
+    let s = (goal.at.returns-then-not-fits_circuit word).Start in record {
       result_value = λ q e.
-          no_entry_lem (words s) s.args.matrix (given s) q (free word) (omega (arith, e, word.if-value-p.false))
-          (sym c.fits_circuit.ensures ∙ not-true _ c.if-not-fits_circuit.true);
+          no_entry_lem (words s) s.args.matrix (given s) q (free (goal.at.returns-then-not-fits_circuit word).Else-not-has_room) (omega (arith, e, word.if-value-p.false))
+          (sym c.fits_circuit.ensures ∙ c.if-not-fits_circuit.true);
       matrix_bound = λ fine. absurd (true≢false (sym fine));
     }
 
 pub returns : goal.returns
 returns c =
-    let word = (goal.at.returns c).Else-not-has_room in
-    let s = word.before.before.before in
-    let fit = sym c.fits_circuit.ensures ∙ not-false _ c.if-not-fits_circuit.false in record {
-      result_value = λ q e. entry-passes (words s) s.args.matrix (given s) q (free word) (omega (arith, e, word.if-value-p.false)) fit;
+    let word = c in
+    let s = (goal.at.returns word).Start in
+    let fit = sym c.fits_circuit.ensures ∙ c.if-not-fits_circuit.false in record {
+      result_value = λ q e. entry-passes (words s) s.args.matrix (given s) q (free (goal.at.returns word).Else-not-has_room) (omega (arith, e, word.if-value-p.false)) fit;
       matrix_bound = λ fine.
-          let there = room_there (words s) s.args.matrix (given s) (free word) in
+          let there = room_there (words s) s.args.matrix (given s) (free (goal.at.returns word).Else-not-has_room) in
           (there.0, (there.1, row_there (words s) s.args.matrix (given s) fit));
     }

@@ -3,7 +3,6 @@ use mathlib.Core.Path.{◌≡◌, sym, ap₂, ◌∙◌}
 use mathlib.Core.Bool.{true}
 use Prim.Native.Nat.{ℕ, ◌<◌}
 use native.Mathlib.Omega.{arith}
-use borrow.Author.Tests.{not-true, not-false}
 use Rattle.domain.specs.Size.{max_size}
 use Rattle.protocol.specs.Grown.{occupied, taken_at, without_entry}
 use Rattle.grown.proofs.ChangeLaws.{taken-within, row-few, remove_no_matrix, remove_no_row, remove_vacant, remove_done}
@@ -22,8 +21,8 @@ module _ (f : After-find_entry-found) where
   row = f.if-row-ge-MAX_ROWS.false
 
 -- past the last test: an entry stands there
-there : (c : Else-not-found) → let a = (start c.before.before).args in occupied a.circuit.now a.matrix a.row a.column ≡ true
-there c = sym c.find_entry-found.ensures.0 ∙ not-false _ c.if-not-found.false
+there : (c : Else-not-found) → let a = (start (goal.at.Else-not-found c).After-find_entry-found).args in occupied a.circuit.now a.matrix a.row a.column ≡ true
+there c = sym c.find_entry-found.ensures.0 ∙ c.if-not-found.false
 
 pub returns-then-matrix-ge-MATRICES : goal.returns-then-matrix-ge-MATRICES
 returns-then-matrix-ge-MATRICES c =
@@ -40,7 +39,7 @@ returns-then-not-found c =
     let f = (goal.at.returns-then-not-found c).After-find_entry-found in
     let a = (start f).args in
     remove_vacant a.circuit.now a.matrix a.row a.column (matrix f) (row f)
-    (sym f.find_entry-found.ensures.0 ∙ not-true _ c.if-not-found.true)
+    (sym f.find_entry-found.ensures.0 ∙ c.if-not-found.true)
 
 pub take_entry-requires : goal.take_entry-requires
 take_entry-requires c =

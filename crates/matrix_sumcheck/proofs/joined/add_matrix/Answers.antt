@@ -34,7 +34,7 @@ made c = c.product_quotient_into.new.out
 made_length :
     (c : After-product_quotient_into)
     → let n : ℕ = c.size_of-size.result - 1 in n ≡ length (take n (returned 1024 n (made c)))
-made_length c = back_length 1024 (fits c.before.before.before.before) (made c) c.product_quotient_into.auto.out
+made_length c = back_length 1024 (fits (goal.at.After-product_quotient_into c).After-size_of-size) (made c) c.product_quotient_into.auto.out
 
 pub overflow_cast-out : goal.overflow_cast-out
 overflow_cast-out c = omega (arith, size_bound (length c.args.out.now + 1) c.requires.entries_in_bounds.1)
@@ -59,7 +59,7 @@ product_quotient_into-requires c =
 pub slice_bounds-quotient-end-2 : goal.slice_bounds-quotient-end-2
 slice_bounds-quotient-end-2 c =
     let h = (goal.at.slice_bounds-quotient-end-2 c).After-product_quotient_into in
-    back_holds 1024 (fits h.before.before.before.before) (made h) h.product_quotient_into.auto.out
+    back_holds 1024 (fits (goal.at.After-product_quotient_into h).After-size_of-size) (made h) h.product_quotient_into.auto.out
 
 pub add_scaled-requires : goal.add_scaled-requires
 add_scaled-requires c =
@@ -76,9 +76,9 @@ returns c q k M r n alpha beta G H L D =
     let added = c in
     let minus = added in
     let product = minus in
-    let h = product.before.before.before.before.before.before.before.before in
+    let h = (goal.at.returns product).After-product_quotient_into in
     let share = h in
-    let size = h.before.before.before.before in
+    let size = (goal.at.After-product_quotient_into h).After-size_of-size in
     let a = size.args in
     let e = G.known.value in
     let α : Elem q = of alpha in

@@ -32,7 +32,7 @@ kept_by_first c = c.add_matrix.auto.out ∙ c.clear.auto.out
 kept_by_second :
     (c : After-add_matrix-2)
     → length c.add_matrix-2.new.out ≡ length (start (c.before.before.before.before.before.before.before.before)).args.out.now
-kept_by_second c = c.add_matrix-2.auto.out ∙ kept_by_first c.before.before.before.before
+kept_by_second c = c.add_matrix-2.auto.out ∙ kept_by_first (goal.at.After-add_matrix-2 c).After-add_matrix
 
 -- each |K_M| is at most |K|, which is a size
 fit :
@@ -45,7 +45,7 @@ fit s = joined-fits s.args.ea.now s.args.eb.now s.args.ec.now (length s.args.out
 pub add_matrix-requires : goal.add_matrix-requires
 add_matrix-requires c =
     let z = c in
-    let s = z.before.before.before.before.before.before.before.before.before.before.before.before.before in
+    let s = (goal.at.add_matrix-requires z).Start in
     let kept = z.clear.auto.out in
     record {
       modulus = s.requires.modulus;
@@ -57,7 +57,7 @@ add_matrix-requires c =
 pub add_matrix-requires-2 : goal.add_matrix-requires-2
 add_matrix-requires-2 c =
     let f = (goal.at.add_matrix-requires-2 c).After-add_matrix in
-    let s = f.before.before.before.before.before.before.before.before.before.before.before.before.before.before in
+    let s = (goal.at.After-add_matrix f).Start in
     let kept = kept_by_first f in
     record {
       modulus = s.requires.modulus;
@@ -81,8 +81,8 @@ add_matrix-requires-3 c =
 pub returns : goal.returns
 returns c q k r m alpha beta G H L D =
     let third = c in
-    let second = third.before.before.before.before.before.before in
-    let first = second.before.before.before.before in
+    let second = (goal.at.returns third).After-add_matrix-2 in
+    let first = (goal.at.After-add_matrix-2 second).After-add_matrix in
     let cleared = first in
     let s = cleared in
     let a = s.args in

@@ -45,7 +45,7 @@ abbrev column-distances : After-distances_into-2 → List ℕ
 column-distances c = c.distances_into-2.new.out
 
 rows-length : (c : After-lagrange_values_into) → let n : ℕ = c.args.r in n ≡ length (take n (returned 1024 n (rows c)))
-rows-length c = back_length 1024 (rows_fit c.before.before.before.before.before.before) (rows c) c.lagrange_values_into.auto.out
+rows-length c = back_length 1024 (rows_fit (goal.at.After-lagrange_values_into c).Start) (rows c) c.lagrange_values_into.auto.out
 
 columns-length :
     (c : After-lagrange_values_into-2)
@@ -121,11 +121,11 @@ slice_bounds-columnDistances-end-2 c =
 pub joined_by_lists-requires : goal.joined_by_lists-requires
 joined_by_lists-requires c =
     let d = (goal.at.joined_by_lists-requires c).After-distances_into-2 in
-    let e = d.before.before.before in
-    let l = e.before.before.before in
+    let e = (goal.at.After-distances_into-2 d).After-distances_into in
+    let l = (goal.at.After-distances_into e).After-lagrange_values_into-2 in
     let pre = (outset d).requires in record {
       modulus = pre.0;
-      three_within = three-within pre.1.0 pre.1.1.0 (rows-length l.before.before.before) (columns-length l);
+      three_within = three-within pre.1.0 pre.1.1.0 (rows-length (goal.at.After-lagrange_values_into-2 l).After-lagrange_values_into) (columns-length l);
       three_within_2 = three-within pre.1.0 pre.1.1.0 (row-distances-length e) (column-distances-length d);
       out_len = pre.1.1.1;
     }
@@ -133,11 +133,11 @@ joined_by_lists-requires c =
 pub returns : goal.returns
 returns c q k G H =
     let j = c in
-    let d = j.before.before.before.before.before.before.before.before.before in
-    let e = d.before.before.before in
-    let l = e.before.before.before in
-    let r = l.before.before.before in
-    let s = r.before.before.before.before.before.before in
+    let d = (goal.at.returns j).After-distances_into-2 in
+    let e = (goal.at.After-distances_into-2 d).After-distances_into in
+    let l = (goal.at.After-distances_into e).After-lagrange_values_into-2 in
+    let r = (goal.at.After-lagrange_values_into-2 l).After-lagrange_values_into in
+    let s = (goal.at.After-lagrange_values_into r).Start in
     let a = s.args in
     let known = (G A).known in
     j.joined_by_lists.ensures q k a.r a.c a.alpha a.beta G H

@@ -41,7 +41,7 @@ made c = c.terms_into.new.out
 below_length :
     (c : After-products_into)
     → let n : ℕ = length c.args.out.now + 1 in n ≡ length (take n (returned 1024 n (below c)))
-below_length c = back_length 1024 (fits c.before.before.before.before.before.before.before.before) (below c) c.products_into.auto.out
+below_length c = back_length 1024 (fits (goal.at.After-products_into c).Start) (below c) c.products_into.auto.out
 
 made_length :
     (c : After-terms_into)
@@ -75,7 +75,7 @@ terms_into-requires c =
 pub slice_bounds-below-end-2 : goal.slice_bounds-below-end-2
 slice_bounds-below-end-2 c =
     let b = (goal.at.slice_bounds-below-end-2 c).After-products_into in
-    back_holds 1024 (fits b.before.before.before.before.before.before.before.before) (below b) b.products_into.kept.1.1.1.1.0
+    back_holds 1024 (fits (goal.at.After-products_into b).Start) (below b) b.products_into.kept.1.1.1.1.0
 
 pub slice_bounds-terms-end-2 : goal.slice_bounds-terms-end-2
 slice_bounds-terms-end-2 c =
@@ -91,8 +91,8 @@ slice_bounds-rest-end c = fits (c.before.before.before.before.before.before.befo
 pub divide_product_into-requires : goal.divide_product_into-requires
 divide_product_into-requires c =
     let t = (goal.at.divide_product_into-requires c).After-terms_into in
-    let b = t.before.before.before in
-    let s = b.before.before.before.before.before.before.before.before in
+    let b = (goal.at.After-terms_into t).After-products_into in
+    let s = (goal.at.After-products_into b).Start in
     let long = below_length b in
     let lent = sym (lent_length 1024 (fits s)) ∙ long in record {
       modulus = s.requires.modulus;
@@ -104,9 +104,9 @@ divide_product_into-requires c =
 pub returns : goal.returns
 returns c q k M r m alpha beta G H L D =
     let d = c in
-    let t = d.before.before.before.before.before.before.before.before.before.before.before in
-    let b = t.before.before.before in
-    let s = b.before.before.before.before.before.before.before.before in
+    let t = (goal.at.returns d).After-terms_into in
+    let b = (goal.at.After-terms_into t).After-products_into in
+    let s = (goal.at.After-products_into b).Start in
     let a = s.args in
     let n : ℕ = length a.out.now + 1 in
     let size = s.requires.out_len in

@@ -34,7 +34,7 @@ made c = c.terms_into.new.out
 
 -- the terms as they are lent the second time
 made_length : (c : After-terms_into) → let n : ℕ = length c.args.out.now in n ≡ length (take n (returned 1024 n (made c)))
-made_length c = back_length 1024 (fits c.before.before.before.before.before.before) (made c) c.terms_into.auto.out
+made_length c = back_length 1024 (fits (goal.at.After-terms_into c).Start) (made c) c.terms_into.auto.out
 
 pub slice_bounds-values-end : goal.slice_bounds-values-end
 slice_bounds-values-end c = fits (goal.at.slice_bounds-values-end c).Start
@@ -57,7 +57,7 @@ root_of-root-requires c = size_is _ c.requires.out_len
 pub slice_bounds-values-end-2 : goal.slice_bounds-values-end-2
 slice_bounds-values-end-2 c =
     let t = (goal.at.slice_bounds-values-end-2 c).After-terms_into in
-    back_holds 1024 (fits t.before.before.before.before.before.before) (made t) t.terms_into.auto.out
+    back_holds 1024 (fits (goal.at.After-terms_into t).Start) (made t) t.terms_into.auto.out
 
 pub interpolate_into-requires : goal.interpolate_into-requires
 interpolate_into-requires c =
@@ -72,8 +72,8 @@ pub returns : goal.returns
 returns c q k M m n alpha beta G H L =
     let i = c in
     let root = i in
-    let t = root.before.before.before.before.before.before.before in
-    let s = t.before.before.before.before.before.before in
+    let t = (goal.at.returns root).After-terms_into in
+    let s = (goal.at.After-terms_into t).Start in
     let a = s.args in
     let l : ℕ = length a.out.now in
     let target : List (Elem q) = padded l (terms m n (of alpha) (of beta) a.entries.now) in

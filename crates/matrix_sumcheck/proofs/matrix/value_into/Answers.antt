@@ -22,13 +22,13 @@ made c = c.ratio_into.new.out
 made_length :
     (c : After-ratio_into)
     → let n : ℕ = length c.args.out.now + 1 in n ≡ length (take n (returned 1024 n (made c)))
-made_length c = back_length 1024 (fits c.before.before.before.before.before.before) (made c) c.ratio_into.auto.out
+made_length c = back_length 1024 (fits (goal.at.After-ratio_into c).Start) (made c) c.ratio_into.auto.out
 
 -- its first word
 made_first : (c : After-ratio_into) → get_or (returned 1024 (length c.args.out.now + 1) (made c)) 0 0 ≡ get_or (made c) 0 0
 made_first c =
     get_or-append (made c) (drop (length c.args.out.now + 1) (array 1024)) 0 0
-    (omega (arith, lent_length 1024 (fits c.before.before.before.before.before.before), c.ratio_into.auto.out))
+    (omega (arith, lent_length 1024 (fits (goal.at.After-ratio_into c).Start), c.ratio_into.auto.out))
 
 pub slice_bounds-ratio-end : goal.slice_bounds-ratio-end
 slice_bounds-ratio-end c = fits (goal.at.slice_bounds-ratio-end c).Start
@@ -45,7 +45,7 @@ ratio_into-requires c =
 pub slice_bounds-ratio-end-2 : goal.slice_bounds-ratio-end-2
 slice_bounds-ratio-end-2 c =
     let t = (goal.at.slice_bounds-ratio-end-2 c).After-ratio_into in
-    back_holds 1024 (fits t.before.before.before.before.before.before) (made t) t.ratio_into.auto.out
+    back_holds 1024 (fits (goal.at.After-ratio_into t).Start) (made t) t.ratio_into.auto.out
 
 pub copy_tail-requires : goal.copy_tail-requires
 copy_tail-requires c = sym (made_length (goal.at.copy_tail-requires c).After-ratio_into)
@@ -56,8 +56,8 @@ overflow_cast-size c = omega (arith, fits (goal.at.overflow_cast-size c).Start)
 pub returns : goal.returns
 returns c q k M m n alpha beta G H L =
     let copied = c in
-    let t = copied.before.before.before.before.before.before.before in
-    let s = t.before.before.before.before.before.before in
+    let t = (goal.at.returns copied).After-ratio_into in
+    let s = (goal.at.After-ratio_into t).Start in
     let ratio = t.ratio_into.ensures q k M m n alpha beta G H L in
     record {
       is-remainder =

@@ -29,7 +29,7 @@ abbrev columns : After-lagrange_values_into-2 → List ℕ
 columns c = c.lagrange_values_into-2.new.out
 
 rows-length : (c : After-lagrange_values_into) → let n : ℕ = c.args.r in n ≡ length (take n (returned 1024 n (rows c)))
-rows-length c = back_length 1024 (rows_fit c.before.before.before.before.before.before.before.before) (rows c) c.lagrange_values_into.auto.out
+rows-length c = back_length 1024 (rows_fit (goal.at.After-lagrange_values_into c).Start) (rows c) c.lagrange_values_into.auto.out
 
 columns-length :
     (c : After-lagrange_values_into-2)
@@ -61,7 +61,7 @@ lagrange_values_into-requires-2 c =
 pub slice_bounds-rows-end-2 : goal.slice_bounds-rows-end-2
 slice_bounds-rows-end-2 c =
     let r = (goal.at.slice_bounds-rows-end-2 c).After-lagrange_values_into in
-    back_holds 1024 (rows_fit r.before.before.before.before.before.before.before.before) (rows r) r.lagrange_values_into.kept.1.1.0
+    back_holds 1024 (rows_fit (goal.at.After-lagrange_values_into r).Start) (rows r) r.lagrange_values_into.kept.1.1.0
 
 pub slice_bounds-columns-end-2 : goal.slice_bounds-columns-end-2
 slice_bounds-columns-end-2 c =
@@ -72,21 +72,21 @@ pub values_by_lists-requires : goal.values_by_lists-requires
 values_by_lists-requires c =
     let l = (goal.at.values_by_lists-requires c).After-lagrange_values_into-2 in
     let pre = (l.before.before.before.before.before.before.before.before.before.before.before).requires in
-    (pre.0, (three-within pre.1.0 pre.1.1.0 (rows-length l.before.before.before) (columns-length l), pre.1.1.1))
+    (pre.0, (three-within pre.1.0 pre.1.1.0 (rows-length (goal.at.After-lagrange_values_into-2 l).After-lagrange_values_into) (columns-length l), pre.1.1.1))
 
 pub returns : goal.returns
 returns c q k G H =
     let v = c in
-    let l = v.before.before.before.before.before.before.before.before.before.before.before.before.before in
-    let r = l.before.before.before.before.before.before.before.before.before.before.before in
+    let l = (goal.at.returns v).After-lagrange_values_into-2 in
+    let r = (goal.at.After-lagrange_values_into-2 l).After-lagrange_values_into in
     let a = r.args in
     let known = (G A).known in
     v.values_by_lists.ensures q k a.r a.c a.alpha a.beta G H
     (record {
       by_row =
-          lent-list (λ (n : ℕ). lagrange_values {q = q} n (of a.alpha)) (rows_fit r) (rows r)
+          lent-list (λ (n : ℕ). lagrange_values {q = q} n (of a.alpha)) (rows_fit (goal.at.After-lagrange_values_into r).Start) (rows r)
           r.lagrange_values_into.kept.1.1.0 (r.lagrange_values_into.ensures q known);
       by_column =
-          lent-list (λ (n : ℕ). lagrange_values {q = q} n (of a.beta)) (columns_fit r) (columns l)
+          lent-list (λ (n : ℕ). lagrange_values {q = q} n (of a.beta)) (columns_fit (goal.at.After-lagrange_values_into r).Start) (columns l)
           l.lagrange_values_into-2.auto.out (l.lagrange_values_into-2.ensures q known);
     })

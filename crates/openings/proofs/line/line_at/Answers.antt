@@ -23,7 +23,7 @@ room s = size_bound s.args.c s.requires.c_value.0
 
 -- the remainder as it was made, and as it is read
 made : (c : After-rest_into) → MadeIn 1024 c.args.c c.rest_into.new.out
-made c = record { fits = room c.before.before.before.before.before.before; kept = c.rest_into.auto.out }
+made c = record { fits = room (goal.at.After-rest_into c).Start; kept = c.rest_into.auto.out }
 
 abbrev left : After-rest_into → List ℕ
 left c = take c.args.c (returned 1024 c.args.c c.rest_into.new.out)
@@ -58,7 +58,7 @@ returns c q K lagrange k W eC α η weighed ẑ assigned =
     let w = c in
     let e = w in
     let parts = e in
-    let m = parts.before.before.before.before.before.before.before.before in
+    let m = (goal.at.returns parts).After-rest_into in
     let s = m in
     let a = s.args in
     let v = K.value in

@@ -25,7 +25,7 @@ room s = size_bound (length s.args.out.now) s.requires.out_value
 
 -- the products and their polynomial as they were made
 products_made : (c : After-products_into) → MadeIn 1024 (length c.args.out.now) c.products_into.new.out
-products_made c = record { fits = room c.before.before.before.before.before.before; kept = c.products_into.auto.out }
+products_made c = record { fits = room (goal.at.After-products_into c).Start; kept = c.products_into.auto.out }
 
 product_made : (c : After-interpolate_into)
     → MadeIn 1024 (length (c.before.before.before.before.before.before.before.before.before.before.before).args.out.now) c.interpolate_into.new.out
@@ -55,7 +55,7 @@ slice_bounds-product-end c = room (goal.at.slice_bounds-product-end c).Start
 pub interpolate_into-requires : goal.interpolate_into-requires
 interpolate_into-requires c =
     let m = (goal.at.interpolate_into-requires c).After-products_into in
-    let s = m.before.before.before.before.before.before in
+    let s = (goal.at.After-products_into m).Start in
     let long = made_length (products_made m) in
     record {
       lt_p = s.requires.lt_p;
@@ -75,18 +75,18 @@ slice_bounds-product-end-2 c = made_holds (product_made (goal.at.slice_bounds-pr
 
 pub add_scaled-requires : goal.add_scaled-requires
 add_scaled-requires c =
-    let r = (goal.at.add_scaled-requires c).After-interpolate_into in
+    let r = c in
     let s = start (r.before.before.before.before.before.before.before.before) in record {
       p_nonzero = omega (arith, s.pre.0);
-      g_in_bounds = parts_order (made_length (product_made r)) (sym r.remainder_into.auto.out) (le_refl _);
+      g_in_bounds = parts_order (made_length (product_made (goal.at.add_scaled-requires r).After-interpolate_into)) (sym r.remainder_into.auto.out) (le_refl _);
     }
 
 pub returns : goal.returns
 returns c q K =
     let d = c in
     let r = d in
-    let i = r.before.before.before.before.before.before.before.before.before.before in
-    let m = i.before.before.before.before.before in
+    let i = (goal.at.returns r).After-interpolate_into in
+    let m = (goal.at.After-interpolate_into i).After-products_into in
     let s = m in
     let a = s.args in
     let n : ℕ = length a.out.now in

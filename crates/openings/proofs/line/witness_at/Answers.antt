@@ -29,7 +29,7 @@ room s = size_bound s.args.x s.requires.c_value.1
 
 -- the Lagrange values and the public words as they were made
 lagrange_made : (c : After-lagrange_values_into) → MadeIn 1024 c.args.x c.lagrange_values_into.new.out
-lagrange_made c = record { fits = room c.before.before.before; kept = c.lagrange_values_into.auto.out }
+lagrange_made c = record { fits = room (goal.at.After-lagrange_values_into c).Start; kept = c.lagrange_values_into.auto.out }
 
 public_made : (c : After-public_words_into) → MadeIn 1024 (c.before.before.before.before.before.before).args.x c.public_words_into.new.out
 public_made c = record { fits = room (c.before.before.before.before.before.before); kept = c.public_words_into.auto.out }
@@ -72,18 +72,18 @@ slice_bounds-public-end-2 c = made_holds (public_made (goal.at.slice_bounds-publ
 
 pub interpolated_at-known-requires : goal.interpolated_at-known-requires
 interpolated_at-known-requires c =
-    let w = (goal.at.interpolated_at-known-requires c).After-lagrange_values_into in
+    let w = (goal.at.interpolated_at-known-requires c).After-public_words_into in
     record {
       p_nonzero = omega (arith, (w.before.before.before.before.before.before).requires.lt_p);
-      values_len = sym (made_length (public_made w)) ∙ made_length (lagrange_made w);
+      values_len = sym (made_length (public_made w)) ∙ made_length (lagrange_made (goal.at.After-public_words_into w).After-lagrange_values_into);
     }
 
 pub returns : goal.returns
 returns c q K k W eC eX r assigned =
-    let i = c.before.before in
-    let w = i.before.before.before.before in
-    let l = w.before.before.before in
-    let s = l.before.before.before in
+    let i = (goal.at.returns c).After-interpolated_at-known in
+    let w = (goal.at.After-interpolated_at-known i).After-public_words_into in
+    let l = (goal.at.After-public_words_into w).After-lagrange_values_into in
+    let s = (goal.at.After-lagrange_values_into l).Start in
     let a = s.args in
     let v = K.value in
     let Q = known-qualifies K in

@@ -25,17 +25,17 @@ room : (s : Start) → count s ≤ 1024
 room s = size_fits _ s.requires.places_len
 
 -- the four lists of values as they were made
-row_made : (c : After-index_values_into) → MadeIn 1024 (count c.before.before.before.before.before.before.before) c.index_values_into.new.row
-row_made c = record { fits = room c.before.before.before.before.before.before.before; kept = c.index_values_into.auto.row }
+row_made : (c : After-index_values_into) → MadeIn 1024 (count (goal.at.After-index_values_into c).Start) c.index_values_into.new.row
+row_made c = record { fits = room (goal.at.After-index_values_into c).Start; kept = c.index_values_into.auto.row }
 
-col_made : (c : After-index_values_into) → MadeIn 1024 (count c.before.before.before.before.before.before.before) c.index_values_into.new.col
-col_made c = record { fits = room c.before.before.before.before.before.before.before; kept = c.index_values_into.auto.col }
+col_made : (c : After-index_values_into) → MadeIn 1024 (count (goal.at.After-index_values_into c).Start) c.index_values_into.new.col
+col_made c = record { fits = room (goal.at.After-index_values_into c).Start; kept = c.index_values_into.auto.col }
 
-rowcol_made : (c : After-index_values_into) → MadeIn 1024 (count c.before.before.before.before.before.before.before) c.index_values_into.new.rowcol
-rowcol_made c = record { fits = room c.before.before.before.before.before.before.before; kept = c.index_values_into.auto.rowcol }
+rowcol_made : (c : After-index_values_into) → MadeIn 1024 (count (goal.at.After-index_values_into c).Start) c.index_values_into.new.rowcol
+rowcol_made c = record { fits = room (goal.at.After-index_values_into c).Start; kept = c.index_values_into.auto.rowcol }
 
-rowcolval_made : (c : After-index_values_into) → MadeIn 1024 (count c.before.before.before.before.before.before.before) c.index_values_into.new.rowcolval
-rowcolval_made c = record { fits = room c.before.before.before.before.before.before.before; kept = c.index_values_into.auto.rowcolval }
+rowcolval_made : (c : After-index_values_into) → MadeIn 1024 (count (goal.at.After-index_values_into c).Start) c.index_values_into.new.rowcolval
+rowcolval_made c = record { fits = room (goal.at.After-index_values_into c).Start; kept = c.index_values_into.auto.rowcolval }
 
 -- an opening asks that its two lists are as long as each other
 lengths_same : (s : Start) {m : ℕ} → count s ≡ m → (0 < s.args.p) × (m ≡ count s)
@@ -68,7 +68,7 @@ slice_bounds-row-end-2 c = made_holds (row_made (goal.at.slice_bounds-row-end-2 
 pub interpolated_at-requires : goal.interpolated_at-requires
 interpolated_at-requires c =
     let v = (goal.at.interpolated_at-requires c).After-index_values_into in
-    lengths_same v.before.before.before.before.before.before.before (made_length (row_made v))
+    lengths_same (goal.at.After-index_values_into v).Start (made_length (row_made v))
 
 pub slice_bounds-col-end-2 : goal.slice_bounds-col-end-2
 slice_bounds-col-end-2 c = made_holds (col_made (goal.at.slice_bounds-col-end-2 c).After-index_values_into)
@@ -76,7 +76,7 @@ slice_bounds-col-end-2 c = made_holds (col_made (goal.at.slice_bounds-col-end-2 
 pub interpolated_at-requires-2 : goal.interpolated_at-requires-2
 interpolated_at-requires-2 c =
     let v = (goal.at.interpolated_at-requires-2 c).After-index_values_into in
-    lengths_same v.before.before.before.before.before.before.before (made_length (col_made v))
+    lengths_same (goal.at.After-index_values_into v).Start (made_length (col_made v))
 
 pub slice_bounds-rowcol-end-2 : goal.slice_bounds-rowcol-end-2
 slice_bounds-rowcol-end-2 c = made_holds (rowcol_made (goal.at.slice_bounds-rowcol-end-2 c).After-index_values_into)
@@ -84,7 +84,7 @@ slice_bounds-rowcol-end-2 c = made_holds (rowcol_made (goal.at.slice_bounds-rowc
 pub interpolated_at-requires-3 : goal.interpolated_at-requires-3
 interpolated_at-requires-3 c =
     let v = (goal.at.interpolated_at-requires-3 c).After-index_values_into in
-    lengths_same v.before.before.before.before.before.before.before (made_length (rowcol_made v))
+    lengths_same (goal.at.After-index_values_into v).Start (made_length (rowcol_made v))
 
 pub slice_bounds-rowcolval-end-2 : goal.slice_bounds-rowcolval-end-2
 slice_bounds-rowcolval-end-2 c = made_holds (rowcolval_made (goal.at.slice_bounds-rowcolval-end-2 c).After-index_values_into)
@@ -92,13 +92,13 @@ slice_bounds-rowcolval-end-2 c = made_holds (rowcolval_made (goal.at.slice_bound
 pub interpolated_at-requires-4 : goal.interpolated_at-requires-4
 interpolated_at-requires-4 c =
     let v = (goal.at.interpolated_at-requires-4 c).After-index_values_into in
-    lengths_same v.before.before.before.before.before.before.before (made_length (rowcolval_made v))
+    lengths_same (goal.at.After-index_values_into v).Start (made_length (rowcolval_made v))
 
 pub returns : goal.returns
 returns c q K k M eR eC matrix y lagrange =
     let r = c in
-    let v = r.before.before.before.before.before.before.before.before.before.before.before.before in
-    let s = v.before.before.before.before.before.before.before in
+    let v = (goal.at.returns r).After-index_values_into in
+    let s = (goal.at.After-index_values_into v).Start in
     let a = s.args in
     let n : ℕ = count s in
     let e = K.value in

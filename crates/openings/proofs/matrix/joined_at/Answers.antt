@@ -33,7 +33,7 @@ inverted c =
 pub size_inverse-requires : goal.size_inverse-requires
 size_inverse-requires c = record {
   lt_p = search rules;
-  n_value = inverted (goal.at.size_inverse-requires c).After-largest_size;
+  n_value = inverted c;
 }
 
 pub returns : goal.returns

@@ -34,7 +34,7 @@ sized c = ap is_size c.size_of-size.ensures ∙ size_for_is_size _
 
 -- the Lagrange values and the ratio as they were made, and the ratio as it is read
 places_made : (c : After-lagrange_values_into) → MadeIn 1024 c.size_of-size.result c.lagrange_values_into.new.out
-places_made c = record { fits = room c.before.before; kept = c.lagrange_values_into.auto.out }
+places_made c = record { fits = room (goal.at.After-lagrange_values_into c).After-size_of-size; kept = c.lagrange_values_into.auto.out }
 
 ratio_made : (c : After-ratio_into) → MadeIn 1024 (c.before.before.before.before.before.before.before).size_of-size.result c.ratio_into.new.out
 ratio_made c = record { fits = room (c.before.before.before.before.before.before.before); kept = c.ratio_into.auto.out }
@@ -45,7 +45,7 @@ left c =
     take n (returned 1024 n c.ratio_into.new.out)
 
 pub slice_bounds-places-end : goal.slice_bounds-places-end
-slice_bounds-places-end c = room (goal.at.slice_bounds-places-end c).After-size_of-size
+slice_bounds-places-end c = room c
 
 pub lagrange_values_into-requires : goal.lagrange_values_into-requires
 lagrange_values_into-requires c =
@@ -110,10 +110,10 @@ unfolding matrix_remainder sizes_of
 returns c q k M G H L scaled =
     let d = c in
     let parts = d in
-    let t = parts.before.before.before.before.before in
+    let t = (goal.at.returns parts).After-ratio_into in
     let i = t in
-    let l = t.before.before.before.before.before in
-    let n = l.before.before in
+    let l = (goal.at.After-ratio_into t).After-lagrange_values_into in
+    let n = (goal.at.After-lagrange_values_into l).After-size_of-size in
     let a = n.args in
     let K = G.known in
     let v = K.value in

@@ -19,7 +19,7 @@ room s = size_bound s.args.n s.requires.n_value.0
 
 -- the products as they were made
 made : (c : After-products_into) → MadeIn 1024 c.args.n c.products_into.new.out
-made c = record { fits = room c.before.before.before.before.before; kept = c.products_into.auto.out }
+made c = record { fits = room (goal.at.After-products_into c).Start; kept = c.products_into.auto.out }
 
 pub slice_bounds-products-end : goal.slice_bounds-products-end
 slice_bounds-products-end c = room (goal.at.slice_bounds-products-end c).Start
@@ -50,7 +50,7 @@ returns c q K lagrange h e =
     let third = c in
     let second = third in
     let first = second in
-    let m = first.before.before.before.before.before.before.before.before in
+    let m = (goal.at.returns first).After-products_into in
     let s = m in
     let a = s.args in
     let v = K.value in

@@ -25,7 +25,7 @@ room s = size_bound s.args.r s.requires.r_value.0
 
 -- the rows' sums as they were made, and as they are read
 left_made : (c : After-row_sums) → MadeIn 1024 c.args.r c.row_sums.new.out
-left_made c = record { fits = room c.before.before.before.before.before.before; kept = c.row_sums.auto.out }
+left_made c = record { fits = room (goal.at.After-row_sums c).Start; kept = c.row_sums.auto.out }
 
 right_made : (c : After-row_sums-2) → MadeIn 1024 (c.before.before.before.before.before.before.before.before.before).args.r c.row_sums-2.new.out
 right_made c = record { fits = room (c.before.before.before.before.before.before.before.before.before); kept = c.row_sums-2.auto.out }
@@ -68,13 +68,13 @@ product_quotient_at-requires c =
     record {
       lt_p = s.requires.lt_p;
       n_value = s.requires.r_value;
-      lagrange_len = (s.requires.rows_len, sym (made_length (left_made b.before.before.before)), sym (made_length (right_made b)));
+      lagrange_len = (s.requires.rows_len, sym (made_length (left_made (goal.at.After-row_sums-2 b).After-row_sums)), sym (made_length (right_made b)));
     }
 
 pub returns : goal.returns
 returns c q K lagrange k W eR matrix-a matrix-b ẑ on =
     let b = (goal.at.returns c).After-row_sums-2 in
-    let l = b.before.before.before in
+    let l = (goal.at.After-row_sums-2 b).After-row_sums in
     let a = l.args in
     let z : List (Elem q) = map of a.z.now in
     c.product_quotient_at.ensures q K lagrange (eval (row_quotient k ẑ) (of a.alpha))

@@ -29,9 +29,9 @@ refusal s =
 pub put_proof-requires : goal.put_proof-requires
 unfolding openings_call
 put_proof-requires c =
-    let at-openings = (goal.at.put_proof-requires c).Start in
+    let at-openings = c in
     let found =
-    judged-done (refusal at-openings) _
+    judged-done (refusal (goal.at.put_proof-requires at-openings).Start) _
     (sym at-openings.openings-opened.ensures ∙ ap openings_meaning c.opened-in-Value-1.given.1) in
     record {
       free_job = record { none-refused = found.0 };
@@ -43,7 +43,7 @@ unfolding openings_call
 returns-in-Refused c =
     let at-opened = c in
     let at-openings = at-opened in
-    let s = at-openings.before.before.before.before.before.before.before.before.before.before.before.before.before.before.before.before in
+    let s = (goal.at.returns-in-Refused at-openings).Start in
     let found =
     judged-refused (refusal s) _ (sym at-openings.openings-opened.ensures ∙ ap openings_meaning at-opened.opened-1.given.1) in
     written_as (refused_text_lem (input s) s.args.drawn s.requires.ec_value found) c.put_refused.ensures.written
@@ -53,7 +53,7 @@ unfolding openings_call true_openings proof
 returns-in-Value c =
     let at-opened2 = c in
     let at-openings = at-opened2 in
-    let s = at-openings.before.before.before.before.before.before.before.before.before.before.before.before.before.before.before.before in
+    let s = (goal.at.returns-in-Value at-openings).Start in
     let found =
     judged-done (refusal s) _ (sym at-openings.openings-opened.ensures ∙ ap openings_meaning at-opened2.opened-in-Value-1.given.1) in
     written_as (free_text (input s) s.args.drawn s.requires.ec_value _ _ (record { none-refused = found.0 }) (sym found.1))

@@ -34,7 +34,7 @@ pub put_third-third-requires : goal.put_third-third-requires
 put_third-third-requires c =
     let at-put-three = c in
     let at-put-first = at-put-three in
-    let s = at-put-first.before.before.before.before.before.before.before.before.before.before.before.before.before.before.before.before.before.before.before in
+    let s = (goal.at.put_third-third-requires at-put-first).Start in
     let f = at-put-first.put_first-first.ensures in
     let g = at-put-three.put_three-second.ensures in record {
       free = third_free (input s) s.args.drawn s.requires.free_job;
@@ -70,7 +70,7 @@ returns c =
     let at-put-three = at-put-third in
     let at-sums = at-put-three in
     let at-put-first = at-sums in
-    let s = at-put-first.before.before.before.before.before.before.before.before.before.before.before.before.before.before.before.before.before.before.before.before.before.before.before.before.before.before in
+    let s = (goal.at.returns at-put-first).Start in
     let a = s.args in
     let d = a.drawn in
     let σ = at-sums.sums-sums.ensures in

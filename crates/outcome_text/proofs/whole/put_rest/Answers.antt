@@ -31,7 +31,7 @@ put_fourth-fourth-requires c =
 pub put_fifth-last-requires : goal.put_fifth-last-requires
 put_fifth-last-requires c =
     let four = c in
-    let s = four.before.before.before.before.before.before.before.before.before.before.before.before.before.before in
+    let s = (goal.at.put_fifth-last-requires four).Start in
     let f = four.put_fourth-fourth.ensures.printed in
     record {
       free = fifth_free (input s) s.args.drawn s.requires.free_job;
@@ -43,7 +43,7 @@ unfolding sizes_of circuit_of
 put_last-requires c =
     let k = c.sizes_of-s in
     let five = c in
-    let s = five.before.before.before.before.before.before.before.before.before.before.before.before.before.before.before.before.before.before.before.before in
+    let s = (goal.at.put_last-requires five).Start in
     let f = five.put_fourth-fourth.ensures.printed in
     let h = five.put_fifth-last.ensures in
     let F = fitting (input s) s.requires.free_job in
@@ -58,7 +58,7 @@ unfolding rest_text
 returns c =
     let at-sizes = c in
     let five = at-sizes in
-    let s = five.before.before.before.before.before.before.before.before.before.before.before.before.before.before.before.before.before.before.before.before.before.before.before in
+    let s = (goal.at.returns five).Start in
     let a = s.args in
     let d = a.drawn in
     let f = five.put_fourth-fourth.ensures in

@@ -12,7 +12,7 @@ use Rattle.prover.proofs.line.add_weights.Goals as goal
 use Rattle.prover.proofs.line.add_weights.Goals.{After-add_column_sums, After-add_column_sums-3}
 
 abbrev at_a : After-add_column_sums-3 → After-add_column_sums
-at_a c = c.before.before.before.before.before.before.before.before
+at_a c = (goal.at.After-add_column_sums-3 c).After-add_column_sums
 
 pub add_column_sums-requires : goal.add_column_sums-requires
 add_column_sums-requires c =

@@ -34,12 +34,12 @@ lagrange_values_into-requires c =
 pub slice_bounds-rows-end-2 : goal.slice_bounds-rows-end-2
 slice_bounds-rows-end-2 c =
     let r = (goal.at.slice_bounds-rows-end-2 c).After-lagrange_values_into in
-    filled_within _ _ (bound r.before.before.before.before.before.before) (left r) r.lagrange_values_into.auto.out
+    filled_within _ _ (bound (goal.at.After-lagrange_values_into r).Start) (left r) r.lagrange_values_into.auto.out
 
 pub weights_from-requires : goal.weights_from-requires
 weights_from-requires c =
     let r = (goal.at.weights_from-requires c).After-lagrange_values_into in
-    let s = r.before.before.before.before.before.before in
+    let s = (goal.at.After-lagrange_values_into r).Start in
     record {
       p_nonzero = omega arith;
       each_within = each_within (filled_length _ _ (bound s) (left r) r.lagrange_values_into.auto.out) refl s.requires.each_within;
@@ -48,7 +48,7 @@ weights_from-requires c =
 pub returns : goal.returns
 returns c q known k eR matrices =
     let r = (goal.at.returns c).After-lagrange_values_into in
-    let s = r.before.before.before.before.before.before in
+    let s = (goal.at.After-lagrange_values_into r).Start in
     let a = s.args in
     let α : Elem q = of a.alpha in
     let long = filled_length _ _ (bound s) (left r) r.lagrange_values_into.auto.out in

@@ -55,7 +55,7 @@ high c = c.divide_product_into.new.out
 -- the lengths of the parts that are lent again
 values-whole : (c : After-column_weights_into)
     → c.args.c ≡ length (take c.args.c (returned 1024 c.args.c (values c)))
-values-whole c = back_length 1024 (bound c.before.before.before.before.before.before.before.before.before) (values c) c.column_weights_into.auto.out
+values-whole c = back_length 1024 (bound (goal.at.After-column_weights_into c).Start) (values c) c.column_weights_into.auto.out
 
 weights_whole : (c : After-divide_product_into)
     → (c.before.before.before.before.before.before.before.before.before.before.before.before.before.before.before).args.c ≡ length (take (c.before.before.before.before.before.before.before.before.before.before.before.before.before.before.before).args.c (returned 1024 (c.before.before.before.before.before.before.before.before.before.before.before.before.before.before.before).args.c (weights c)))
@@ -89,7 +89,7 @@ column_weights_into-requires c =
 pub slice_bounds-values-end-2 : goal.slice_bounds-values-end-2
 slice_bounds-values-end-2 c =
     let v = (goal.at.slice_bounds-values-end-2 c).After-column_weights_into in
-    back_holds 1024 (bound v.before.before.before.before.before.before.before.before.before) (values v) v.column_weights_into.auto.out
+    back_holds 1024 (bound (goal.at.After-column_weights_into v).Start) (values v) v.column_weights_into.auto.out
 
 pub slice_bounds-weights-end : goal.slice_bounds-weights-end
 slice_bounds-weights-end c = bound (goal.at.slice_bounds-weights-end c).Start
@@ -103,7 +103,7 @@ slice_bounds-high-end c = short (goal.at.slice_bounds-high-end c).Start
 pub divide_product_into-requires : goal.divide_product_into-requires
 divide_product_into-requires c =
     let v = (goal.at.divide_product_into-requires c).After-column_weights_into in
-    let s = v.before.before.before.before.before.before.before.before.before in
+    let s = (goal.at.After-column_weights_into v).Start in
     let n : ℕ = s.args.c in
     let left = values-whole v in
     let lent = sym (lent_length 1024 (bound s)) ∙ left in
@@ -122,7 +122,7 @@ slice_bounds-rest-end-2 c =
 pub remainder_from-requires : goal.remainder_from-requires
 remainder_from-requires c =
     let d = (goal.at.remainder_from-requires c).After-divide_product_into in
-    let s = d.before.before.before.before.before.before.before.before.before.before.before.before.before.before.before in
+    let s = (goal.at.After-divide_product_into d).Start in
     let size : length s.args.remainder.now + 1 ≡ s.args.c = omega (arith, positive s) in
     record {
       p_nonzero = omega arith;
@@ -142,7 +142,7 @@ slice_bounds-high-end-2 c =
 pub quotient_from-requires : goal.quotient_from-requires
 quotient_from-requires c =
     let d = (goal.at.quotient_from-requires c).After-divide_product_into in
-    let s = d.before.before.before.before.before.before.before.before.before.before.before.before.before.before.before in
+    let s = (goal.at.After-divide_product_into d).Start in
     let size : length s.args.quotient.now ≡ s.args.c = s.requires.remainder_len.1 in
     let above : 0 < length s.args.quotient.now = omega (arith, positive s) in
     let below : s.args.c - 1 ≤ length s.args.quotient.now = omega arith in record {
@@ -162,9 +162,9 @@ unfolding circuit_of
 returns c q known Q =
     let last = c in
     let first = last in
-    let d = first.before.before.before.before.before.before.before.before.before.before.before.before.before.before in
-    let v = d.before.before.before.before.before.before in
-    let s = v.before.before.before.before.before.before.before.before.before in
+    let d = (goal.at.returns first).After-divide_product_into in
+    let v = (goal.at.After-divide_product_into d).After-column_weights_into in
+    let s = (goal.at.After-column_weights_into v).Start in
     let a = s.args in
     let F = s.requires.fits in
     let n : ℕ = a.c in

@@ -51,7 +51,7 @@ row_sums-requires-2 c =
 pub slice_bounds-left-end-2 : goal.slice_bounds-left-end-2
 slice_bounds-left-end-2 c =
     let a = (goal.at.slice_bounds-left-end-2 c).After-row_sums in
-    filled_within _ _ (bound a.before.before.before.before.before.before) (sums-a a) a.row_sums.kept.1.1.1.0
+    filled_within _ _ (bound (goal.at.After-row_sums a).Start) (sums-a a) a.row_sums.kept.1.1.1.0
 
 pub slice_bounds-right-end-2 : goal.slice_bounds-right-end-2
 slice_bounds-right-end-2 c =
@@ -67,8 +67,8 @@ slice_bounds-rest-end c = bound (c.before.before.before.before.before.before.bef
 pub divide_product_into-requires : goal.divide_product_into-requires
 divide_product_into-requires c =
     let b = (goal.at.divide_product_into-requires c).After-row_sums-2 in
-    let a = b.before.before.before in
-    let s = a.before.before.before.before.before.before in
+    let a = (goal.at.After-row_sums-2 b).After-row_sums in
+    let s = (goal.at.After-row_sums a).Start in
     let left = filled_length _ _ (bound s) (sums-a a) a.row_sums.kept.1.1.1.0 in
     let right = filled_length _ _ (bound s) (sums-b b) b.row_sums-2.auto.out in
     let lent = sym (part_length _ _ (bound s)) ∙ left in
@@ -86,9 +86,9 @@ shape_of-out c = c.divide_product_into.auto.out
 pub returns : goal.returns
 returns c q known Q k W eR ea eb ẑ values =
     let d = c in
-    let b = d.before.before.before.before.before.before.before.before.before.before.before in
-    let a = b.before.before.before in
-    let s = a.before.before.before.before.before.before in
+    let b = (goal.at.returns d).After-row_sums-2 in
+    let a = (goal.at.After-row_sums-2 b).After-row_sums in
+    let s = (goal.at.After-row_sums a).Start in
     let r : ℕ = s.args.r in
     let z : List (Elem q) = map of s.args.z.now in
     let whole = part_length _ _ (bound s) in

@@ -32,15 +32,15 @@ abbrev again : After-lagrange_values_into → List ℕ
 again c = left c ++ drop c.args.r (replicate 1024 0)
 
 part_again : (c : After-lagrange_values_into) → c.args.r ≤ length (again c)
-part_again c = filled_within _ (replicate 1024 0) (bound c.before.before.before.before.before.before) (left c) c.lagrange_values_into.auto.out
+part_again c = filled_within _ (replicate 1024 0) (bound (goal.at.After-lagrange_values_into c).Start) (left c) c.lagrange_values_into.auto.out
 
 whole_again : (c : After-lagrange_values_into) → c.args.r ≡ length (take c.args.r (again c))
-whole_again c = filled_length _ (replicate 1024 0) (bound c.before.before.before.before.before.before) (left c) c.lagrange_values_into.auto.out
+whole_again c = filled_length _ (replicate 1024 0) (bound (goal.at.After-lagrange_values_into c).Start) (left c) c.lagrange_values_into.auto.out
 
 rows_made : (c : After-lagrange_values_into) {q : Prime} → Known q c.args.p
     → map of (take c.args.r (again c)) ≡ row_values {q = q} c.args.r (of c.args.alpha)
 rows_made c {q} known =
-    let s = c.before.before.before.before.before.before in
+    let s = (goal.at.After-lagrange_values_into c).Start in
     let α : Elem q = of s.args.alpha in
     of_filled _ (replicate 1024 0) (bound s) (left c) c.lagrange_values_into.auto.out (row_values s.args.r α)
     (c.lagrange_values_into.ensures q known

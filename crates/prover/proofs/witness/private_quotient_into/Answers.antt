@@ -31,13 +31,13 @@ interpolate_into-requires c =
 
 pub slice_bounds-whole-end-2 : goal.slice_bounds-whole-end-2
 slice_bounds-whole-end-2 c =
-    let v = (goal.at.slice_bounds-whole-end-2 c).Start in
-    filled_within _ _ (bound v) v.interpolate_into.new.out v.interpolate_into.auto.out
+    let v = c in
+    filled_within _ _ (bound (goal.at.slice_bounds-whole-end-2 v).Start) v.interpolate_into.new.out v.interpolate_into.auto.out
 
 pub quotient_into-requires : goal.quotient_into-requires
 quotient_into-requires c =
     let v = c in
-    let s = v.before.before.before.before.before.before.before.before in
+    let s = (goal.at.quotient_into-requires v).Start in
     let size = filled_length _ _ (bound s) v.interpolate_into.new.out v.interpolate_into.auto.out in
     record {
       p_nonzero = omega arith;
@@ -51,7 +51,7 @@ shape_of-out c = c.quotient_into.auto.out
 pub returns : goal.returns
 returns c q known =
     let v = c in
-    let s = v.before.before.before.before.before.before.before.before.before.before.before in
+    let s = (goal.at.returns v).Start in
     let values = v.interpolate_into in
     let z : Poly q = map of s.args.z.now in
     let size : length s.args.z.now ≡ s.args.c = s.requires.z_len.0 in

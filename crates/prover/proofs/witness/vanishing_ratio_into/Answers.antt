@@ -32,13 +32,13 @@ fill_vanishing-requires c =
 
 pub slice_bounds-vanishing-end-2 : goal.slice_bounds-vanishing-end-2
 slice_bounds-vanishing-end-2 c =
-    let f = (goal.at.slice_bounds-vanishing-end-2 c).Start in
-    filled_within _ _ (bound f) f.fill_vanishing.new.out f.fill_vanishing.auto.out
+    let f = c in
+    filled_within _ _ (bound (goal.at.slice_bounds-vanishing-end-2 f).Start) f.fill_vanishing.new.out f.fill_vanishing.auto.out
 
 pub quotient_into-requires : goal.quotient_into-requires
 quotient_into-requires c =
     let f = c in
-    let s = f.before.before.before.before.before.before in
+    let s = (goal.at.quotient_into-requires f).Start in
     let x : ℕ = s.args.x in
     let length-out : length s.args.out.now ≡ s.args.c + 1 - x = omega arith in
     let whole = filled_length _ _ (bound s) f.fill_vanishing.new.out f.fill_vanishing.auto.out in
@@ -54,7 +54,7 @@ shape_of-out c = c.quotient_into.auto.out
 pub returns : goal.returns
 returns c q e =
     let f = c in
-    let s = f.before.before.before.before.before.before.before.before.before in
+    let s = (goal.at.returns f).Start in
     let fill = f.fill_vanishing in
     let n : ℕ = s.args.c in
     c.quotient_into.ensures q e

@@ -66,14 +66,14 @@ vanishing_ratio_into-requires c =
 
 pub slice_bounds-ratio-end-2 : goal.slice_bounds-ratio-end-2
 slice_bounds-ratio-end-2 c =
-    let r = c.before.before in
+    let r = c in
     let ratio = r.vanishing_ratio_into in
     filled_within _ _ (bound (r.before.before.before.before.before.before.before.before)) ratio.new.out ratio.auto.out
 
 pub add_scaled-requires : goal.add_scaled-requires
 add_scaled-requires c =
     let r = c in
-    let s = r.before.before.before.before.before.before.before.before.before.before.before in
+    let s = (goal.at.add_scaled-requires r).Start in
     let ratio = r.vanishing_ratio_into in
     let first = r.private_quotient_into in record {
       p_nonzero = omega arith;
@@ -83,14 +83,14 @@ add_scaled-requires c =
 
 pub shape_of-out : goal.shape_of-out
 shape_of-out c =
-    let d = (goal.at.shape_of-out c).Start in
+    let d = c in
     let first = d.private_quotient_into in
-    c.add_scaled.auto.f ∙ padded-length d first.last.1.1.1.1.0 first.kept.1.1.1.1.0
+    c.add_scaled.auto.f ∙ padded-length (goal.at.shape_of-out d).Start first.last.1.1.1.1.0 first.kept.1.1.1.1.0
 
 pub returns : goal.returns
 returns c q known k eC eX =
     let r = c in
-    let s = r.before.before.before.before.before.before.before.before.before.before.before.before.before.before in
+    let s = (goal.at.returns r).Start in
     let a = s.args in
     let first = r.private_quotient_into in
     let ratio = r.vanishing_ratio_into in

@@ -24,16 +24,16 @@ small c = rw c.section_lengths-lengths.ensures
     (lengths_bound (sizes c.args.s) c.requires)
 
 pub overflow_mul-at : goal.overflow_mul-at
-overflow_mul-at c = omega (arith, member_bound c.section_lengths-lengths.result c.loop-k.k (small (goal.at.overflow_mul-at c).In-loop-k))
+overflow_mul-at c = omega (arith, member_bound c.section_lengths-lengths.result c.loop-k.k (small c))
 
 pub overflow_cast-at : goal.overflow_cast-at
-overflow_cast-at c = omega (arith, member_bound c.section_lengths-lengths.result c.loop-k.k (small (goal.at.overflow_cast-at c).In-loop-k))
+overflow_cast-at c = omega (arith, member_bound c.section_lengths-lengths.result c.loop-k.k (small c))
 
 pub overflow_add-at : goal.overflow_add-at
 overflow_add-at c =
     let l = c.section_lengths-lengths.result in
     let k = c.loop-k.k in
-    omega (arith, member_bound l k (small (goal.at.overflow_add-at c).In-loop-k), byte_count_bound l k (small (goal.at.overflow_add-at c).In-loop-k))
+    omega (arith, member_bound l k (small c), byte_count_bound l k (small c))
 
 pub loop-k-preserved : goal.loop-k-preserved
 loop-k-preserved c =

@@ -3,7 +3,6 @@ use mathlib.Core.Path.{◌≡◌, sym, ◌∙◌}
 use mathlib.Core.Bool.{true}
 use mathlib.Core.List.{[], ◌∷◌}
 use lib.ListN.{length}
-use borrow.Author.Tests.{not-true, not-false}
 use Rattle.shared.specs.Meanings.{is_fine}
 use Rattle.protocol.specs.Record.{trailer_word, trailer_row}
 use Rattle.shared.proofs.EarlyReturns.{stops, goes_on, fine_none, last_answer_lem}
@@ -13,20 +12,20 @@ use Rattle.record.proofs.reader.layout_fault.Goals as goal
 use Rattle.record.proofs.reader.layout_fault.Goals.{Else-not-is_fine}
 
 fine : (c : Else-not-is_fine) → is_fine c.end_fault-end.result ≡ true
-fine c = sym c.is_fine.ensures ∙ not-false _ c.if-not-is_fine.false
+fine c = sym c.is_fine.ensures ∙ c.if-not-is_fine.false
 
 pub returns-then-not-is_fine : goal.returns-then-not-is_fine
 unfolding layout_refusal
 returns-then-not-is_fine c =
     let e = c in
     stops e.end_fault-end.result e.end_fault-end.ensures (trailer_row e.args.bytes.now ∷ [])
-    (sym c.is_fine.ensures ∙ not-true _ c.if-not-is_fine.true)
+    (sym c.is_fine.ensures ∙ c.if-not-is_fine.true)
 
 pub trailer_fault-requires : goal.trailer_fault-requires
 trailer_fault-requires c =
     let e = c in
     let bytes = e.args.bytes.now in
-    end_long (length bytes) (trailer_word bytes 17) (fine_none e.end_fault-end.result e.end_fault-end.ensures (fine (goal.at.trailer_fault-requires c).Else-not-is_fine))
+    end_long (length bytes) (trailer_word bytes 17) (fine_none e.end_fault-end.result e.end_fault-end.ensures (fine c))
 
 pub returns : goal.returns
 unfolding layout_refusal

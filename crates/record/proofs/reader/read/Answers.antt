@@ -29,7 +29,7 @@ section_words_fault-requires c = free (goal.at.section_words_fault-requires c).A
 pub returns-in-Refused-section_words_fault : goal.returns-in-Refused-section_words_fault
 returns-in-Refused-section_words_fault c q e =
     let scanned = c in
-    let j = scanned.before.before.before.before.before.before in
+    let j = (goal.at.returns-in-Refused-section_words_fault scanned).After-layout_fault in
     let bytes = j.args.bytes.now in
     sym (read-refused bytes q
     (record_rows_lem bytes q ∙ first_pass (word_row bytes q) (free j scanned.enum_told-1.given.1)
@@ -38,13 +38,13 @@ returns-in-Refused-section_words_fault c q e =
 pub sizes_in-requires : goal.sizes_in-requires
 sizes_in-requires c =
     let scanned = c in
-    let j = scanned.before.before.before.before.before in
+    let j = (goal.at.sizes_in-requires scanned).After-layout_fault in
     (laid j.args.bytes.now (free j scanned.enum_told-1.given.1)).long
 
 pub returns : goal.returns
 returns c q e =
     let scanned = c in
-    let j = scanned.before.before.before.before.before.before in
+    let j = (goal.at.returns scanned).After-layout_fault in
     let bytes = j.args.bytes.now in
     ap Done c.sizes_in.ensures
     ∙ sym (read_whole bytes q

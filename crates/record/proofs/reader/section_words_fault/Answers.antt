@@ -23,7 +23,7 @@ word_at-requires c = omega (arith, whole (goal.at.word_at-requires c).After-sect
 pub returns-then-p-word_at : goal.returns-then-p-word_at
 returns-then-p-word_at c q e =
     let l = c in
-    let b = l.before.before.before.before in
+    let b = (goal.at.returns-then-p-word_at l).After-section_word_count-count in
     passed_stop 6 0 (tests (p b) (bytes b)) l.loop-i.i l.loop-i.invariant.1 (omega (arith, length_tests b)) false l.loop-i.i (omega arith)
     (test_at b l.loop-i.i (omega arith) ∙ le-ltb (word_at (bytes b) l.loop-i.i) (p b) (omega (arith, c.word_at.ensures)))
     ∙ word_row q e (words (bytes b))
@@ -31,7 +31,7 @@ returns-then-p-word_at c q e =
 pub loop-i-preserved : goal.loop-i-preserved
 loop-i-preserved c =
     let l = c in
-    let b = l.before.before.before.before in (
+    let b = (goal.at.loop-i-preserved l).After-section_word_count-count in (
       search rules,
       passed_turn 6 0 (tests (p b) (bytes b)) l.loop-i.i l.loop-i.invariant.1 (omega (arith, length_tests b)) false
           (test_at b l.loop-i.i (omega arith) ∙ lt-ltb (word_at (bytes b) l.loop-i.i) (p b) (omega (arith, c.word_at.ensures))),
@@ -40,6 +40,6 @@ loop-i-preserved c =
 pub returns : goal.returns
 returns c q e =
     let l = c in
-    let b = l.before.before in
+    let b = (goal.at.returns l).After-section_word_count-count in
     sym (passed_end 6 0 (tests (p b) (bytes b)) l.loop-i.i l.loop-i.invariant.1 (omega (arith, length_tests b)))
     ∙ word_row q e (words (bytes b))

@@ -4,7 +4,6 @@ use mathlib.Core.Bool.{true}
 use mathlib.Core.List.{List, [], ◌∷◌}
 use mathlib.Core.Option.{Option}
 use borrow.Author.Rules.{rules}
-use borrow.Author.Tests.{not-true, not-false}
 use Rattle.shared.specs.Meanings.{fault_refusal, sizes, is_fine}
 use Rattle.protocol.specs.Record.{sizes_read}
 use Rattle.protocol.specs.Refusals.{Refusal, refuse, six_size_tests}
@@ -24,26 +23,26 @@ judged : (j : After-judge_sizes-size) → fault_refusal j.judge_sizes-size.resul
 judged j = j.judge_sizes-size.ensures ∙ ap (λ s. refuse 3 11 (six_size_tests s)) j.sizes_in-s.ensures
 
 fine : (c : Else-not-is_fine) → is_fine c.judge_sizes-size.result ≡ true
-fine c = sym c.is_fine.ensures ∙ not-false _ c.if-not-is_fine.false
+fine c = sym c.is_fine.ensures ∙ c.if-not-is_fine.false
 
 pub returns-then-not-is_fine : goal.returns-then-not-is_fine
 returns-then-not-is_fine c =
     let j = (goal.at.returns-then-not-is_fine c).After-judge_sizes-size in
-    let s = j.before.before.before in
-    stops j.judge_sizes-size.result (judged j) (rest s) (sym c.is_fine.ensures ∙ not-true _ c.if-not-is_fine.true)
+    let s = (goal.at.After-judge_sizes-size j).Start in
+    stops j.judge_sizes-size.result (judged j) (rest s) (sym c.is_fine.ensures ∙ c.if-not-is_fine.true)
     ∙ sym (trailer-rows s.args.bytes.now)
 
 pub starts_fault-requires : goal.starts_fault-requires
 starts_fault-requires c =
     let j = c in
     let s = j.sizes_in-s.result in
-    (search rules, refuse-none 3 11 (six_size_tests (sizes s)) (fine_none j.judge_sizes-size.result j.judge_sizes-size.ensures (fine (goal.at.starts_fault-requires c).Else-not-is_fine)))
+    (search rules, refuse-none 3 11 (six_size_tests (sizes s)) (fine_none j.judge_sizes-size.result j.judge_sizes-size.ensures (fine c)))
 
 pub returns : goal.returns
 returns c =
     let d = (goal.at.returns c).Else-not-is_fine in
-    let j = d.before.before in
-    let s = j.before.before.before in
+    let j = (goal.at.Else-not-is_fine d).After-judge_sizes-size in
+    let s = (goal.at.After-judge_sizes-size j).Start in
     goes_on j.judge_sizes-size.result (judged j) (rest s) (fine d)
     (last_answer_lem (c.starts_fault.ensures ∙ ap (starts_refusal s.args.bytes.now) j.sizes_in-s.ensures))
     ∙ sym (trailer-rows s.args.bytes.now)

@@ -94,17 +94,17 @@ pub section_bounds-bounds-requires : goal.section_bounds-bounds-requires
 section_bounds-bounds-requires c = let w = (goal.at.section_bounds-bounds-requires c).After-section_words_fault in rw c.sizes_in.ensures (laid (bytes w) (layout_free w)).allowed
 
 pub overflow_sub-result : goal.overflow_sub-result
-overflow_sub-result c = rises (goal.at.overflow_sub-result c).After-section_bounds-bounds
+overflow_sub-result c = rises c
 
 pub returns : goal.returns
 unfolding section_bytes
 returns c =
-    let w = scanned (goal.at.returns c).After-section_bounds-bounds in
-    let b = given (goal.at.returns c).After-section_bounds-bounds in
+    let w = scanned c in
+    let b = given c in
     let l = laid (bytes w) (layout_free w) in record {
-      result_value = λ q e. ap₂ (λ start len. Done (start, len)) (start_between (lengths w) b (same (goal.at.returns c).After-section_bounds-bounds) (k w) (within w))
-          (length-between (lengths w) b (same (goal.at.returns c).After-section_bounds-bounds) (k w) (within w))
+      result_value = λ q e. ap₂ (λ start len. Done (start, len)) (start_between (lengths w) b (same c) (k w) (within w))
+          (length-between (lengths w) b (same c) (k w) (within w))
           ∙ sym (place_found q (bytes w) (k w) (layout_free w) (below w)
           (sym (w.section-words-fault.ensures q e) ∙ ap fault_refusal c.enum_told-in_default-section_words_fault-1.given.1));
-      within = omega (arith, rises (goal.at.returns c).After-section_bounds-bounds, bounds-within (lengths w) b (same (goal.at.returns c).After-section_bounds-bounds) (k w) (within w), l.total, l.long);
+      within = omega (arith, rises c, bounds-within (lengths w) b (same c) (k w) (within w), l.total, l.long);
     }

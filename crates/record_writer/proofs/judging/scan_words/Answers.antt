@@ -2,7 +2,6 @@
 use mathlib.Core.Path.{refl, sym, ◌∙◌}
 use mathlib.Core.List.{List, [], ◌∷◌}
 use mathlib.Core.Option.{Option}
-use borrow.Author.Tests.{not-true, not-false}
 use Rattle.protocol.specs.Refusals.{Refusal}
 use Rattle.shared.proofs.EarlyReturns.{stops, goes_on, last_answer_lem}
 use Rattle.record_writer.specs.Sections.{refuse_words}
@@ -18,13 +17,13 @@ returns-then-not-is_fine c =
     let s = (goal.at.returns-then-not-is_fine c).Start in
     record {
       count_value = refl;
-      fault_value = stops s.args.scan.fault refl (here s) (sym c.is_fine.ensures ∙ not-true _ c.if-not-is_fine.true);
+      fault_value = stops s.args.scan.fault refl (here s) (sym c.is_fine.ensures ∙ c.if-not-is_fine.true);
     }
 
 pub returns : goal.returns
 returns c =
     let d = c in
-    let s = d.before.before.before.before in record {
+    let s = (goal.at.returns d).Start in record {
       count_value = refl;
-      fault_value = goes_on s.args.scan.fault refl (here s) (sym d.is_fine.ensures ∙ not-false _ d.if-not-is_fine.false) (last_answer_lem c.judge_words.ensures);
+      fault_value = goes_on s.args.scan.fault refl (here s) (sym d.is_fine.ensures ∙ d.if-not-is_fine.false) (last_answer_lem c.judge_words.ensures);
     }

@@ -3,7 +3,6 @@ use mathlib.Core.Path.{◌≡◌, sym, ◌∙◌}
 use mathlib.Core.Bool.{true}
 use mathlib.Core.List.{List, [], ◌∷◌}
 use mathlib.Core.Option.{Option}
-use borrow.Author.Tests.{not-true, not-false}
 use Rattle.shared.specs.Meanings.{sizes, is_fine}
 use Rattle.protocol.specs.Refusals.{Refusal, six_size_tests, size_refusal}
 use Rattle.shared.proofs.EarlyReturns.{stops, goes_on, fine_none, last_answer_lem}
@@ -17,23 +16,23 @@ abbrev rest : Start → List (Option Refusal)
 rest s = let a = s.args in length_refusals (sizes a.s) a.found.now a.lent ∷ []
 
 fine : (c : Else-not-is_fine) → is_fine c.judge_sizes-size.result ≡ true
-fine c = sym c.is_fine.ensures ∙ not-false _ c.if-not-is_fine.false
+fine c = sym c.is_fine.ensures ∙ c.if-not-is_fine.false
 
 pub returns-then-not-is_fine : goal.returns-then-not-is_fine
 unfolding shape_refusal size_refusal
 returns-then-not-is_fine c =
-    let j = (goal.at.returns-then-not-is_fine c).Start in
-    stops j.judge_sizes-size.result j.judge_sizes-size.ensures (rest j) (sym c.is_fine.ensures ∙ not-true _ c.if-not-is_fine.true)
+    let j = c in
+    stops j.judge_sizes-size.result j.judge_sizes-size.ensures (rest (goal.at.returns-then-not-is_fine j).Start) (sym c.is_fine.ensures ∙ c.if-not-is_fine.true)
 
 pub lengths_fault-requires : goal.lengths_fault-requires
 lengths_fault-requires c =
     let j = c in
     let s = j in
-    (refuse-none 4 0 (six_size_tests (sizes s.args.s)) (fine_none j.judge_sizes-size.result j.judge_sizes-size.ensures (fine (goal.at.lengths_fault-requires c).Else-not-is_fine)), s.requires)
+    (refuse-none 4 0 (six_size_tests (sizes s.args.s)) (fine_none j.judge_sizes-size.result j.judge_sizes-size.ensures (fine c)), s.requires)
 
 pub returns : goal.returns
 unfolding shape_refusal size_refusal
 returns c =
     let d = (goal.at.returns c).Else-not-is_fine in
-    let j = d.before.before.before.before in
-    goes_on j.judge_sizes-size.result j.judge_sizes-size.ensures (rest j) (fine d) (last_answer_lem c.lengths_fault.ensures)
+    let j = d in
+    goes_on j.judge_sizes-size.result j.judge_sizes-size.ensures (rest (goal.at.Else-not-is_fine j).Start) (fine d) (last_answer_lem c.lengths_fault.ensures)

@@ -6,7 +6,6 @@ use mathlib.Core.Option.{Option, none}
 use Prim.Native.Nat.{ℕ}
 use native.Mathlib.Omega.{arith}
 use lib.ListN.{length}
-use borrow.Author.Tests.{not-true, not-false}
 use Rattle.field.specs.Prime.{Prime}
 use Rattle.protocol.specs.Circuit.{Sizes}
 use Rattle.shared.specs.Meanings.{sizes, is_fine}
@@ -36,39 +35,39 @@ abbrev words_row : Prime → After-shape_fault-shape → List (Option Refusal)
 words_row q j = word_refusal q (joined (parts j)) ∷ []
 
 shape_fine : (c : Else-not-is_fine) → is_fine c.shape_fault-shape.result ≡ true
-shape_fine c = sym c.is_fine.ensures ∙ not-false _ c.if-not-is_fine.false
+shape_fine c = sym c.is_fine.ensures ∙ c.if-not-is_fine.false
 
-shape_free : (c : Else-not-is_fine) → let j = c.before.before in shape_refusal (given j) (map length (parts j)) (length (lent j)) ≡ none
+shape_free : (c : Else-not-is_fine) → let j = (goal.at.Else-not-is_fine c).After-shape_fault-shape in shape_refusal (given j) (map length (parts j)) (length (lent j)) ≡ none
 shape_free c = let j = c in fine_none j.shape_fault-shape.result j.shape_fault-shape.ensures (shape_fine c)
 
-shape : (c : Else-not-is_fine) → let j = c.before.before in Shaped (given j) (map length (parts j)) (length (lent j))
-shape c = let j = c.before.before in shaped (given j) (map length (parts j)) (length (lent j)) refl (shape_free c)
+shape : (c : Else-not-is_fine) → let j = (goal.at.Else-not-is_fine c).After-shape_fault-shape in Shaped (given j) (map length (parts j)) (length (lent j))
+shape c = let j = (goal.at.Else-not-is_fine c).After-shape_fault-shape in shaped (given j) (map length (parts j)) (length (lent j)) refl (shape_free c)
 
 pub returns-then-not-is_fine : goal.returns-then-not-is_fine
 returns-then-not-is_fine c q e =
     let j = (goal.at.returns-then-not-is_fine c).After-shape_fault-shape in
-    let stop = sym c.is_fine.ensures ∙ not-true _ c.if-not-is_fine.true in
+    let stop = sym c.is_fine.ensures ∙ c.if-not-is_fine.true in
     write_refused q (given j) (parts j) (length (lent j)) j.shape_fault-shape.result (lent j) stop
     (stops j.shape_fault-shape.result j.shape_fault-shape.ensures (words_row q j) stop)
 
 pub sections_fault-word-requires : goal.sections_fault-word-requires
 sections_fault-word-requires c =
     let j = (goal.at.sections_fault-word-requires c).After-shape_fault-shape in
-    omega (arith, few_bytes (given j) (map length (parts j)) (length (lent j)) (shape (goal.at.sections_fault-word-requires c).Else-not-is_fine))
+    omega (arith, few_bytes (given j) (map length (parts j)) (length (lent j)) (shape c))
 
 pub returns-then-not-is_fine-2 : goal.returns-then-not-is_fine-2
 returns-then-not-is_fine-2 c q e =
-    let w = (goal.at.returns-then-not-is_fine-2 c).Else-not-is_fine in
-    let j = w.before.before in
-    let stop = sym c.is_fine-2.ensures ∙ not-true _ c.if-not-is_fine-2.true in
+    let w = c in
+    let j = (goal.at.returns-then-not-is_fine-2 w).After-shape_fault-shape in
+    let stop = sym c.is_fine-2.ensures ∙ c.if-not-is_fine-2.true in
     write_refused q (given j) (parts j) (length (lent j)) w.sections_fault-word.result (lent j) stop
-    (goes_on j.shape_fault-shape.result j.shape_fault-shape.ensures (words_row q j) (shape_fine w)
+    (goes_on j.shape_fault-shape.result j.shape_fault-shape.ensures (words_row q j) (shape_fine (goal.at.returns-then-not-is_fine-2 w).Else-not-is_fine)
     (last_answer_lem (w.sections_fault-word.ensures ∙ word_row q e (joined (parts j)))))
 
 pub fill_record-requires : goal.fill_record-requires
 fill_record-requires c =
     let d = (goal.at.fill_record-requires c).Else-not-is_fine in
-    let j = d.before.before in
+    let j = (goal.at.Else-not-is_fine d).After-shape_fault-shape in
     record {
       allowed = (shape d).allowed;
       trailer_bytes_value = room-given (given j) (map length (parts j)) (length (lent j)) (shape d);
@@ -78,9 +77,9 @@ pub returns : goal.returns
 returns c q e =
     let filled = c in
     let n = filled in
-    let w = n.before.before.before.before.before.before.before in
-    let j = w.before.before in
-    let words-fine = sym n.is_fine-2.ensures ∙ not-false _ n.if-not-is_fine-2.false in
+    let w = n in
+    let j = (goal.at.returns w).After-shape_fault-shape in
+    let words-fine = sym n.is_fine-2.ensures ∙ n.if-not-is_fine-2.false in
     write_done q (given j) (parts j) (length (lent j)) (lent j) filled.fill_record.new.out
-    (shape_free w) (fine_none w.sections_fault-word.result (w.sections_fault-word.ensures ∙ word_row q e (joined (parts j))) words-fine)
+    (shape_free (goal.at.returns w).Else-not-is_fine) (fine_none w.sections_fault-word.result (w.sections_fault-word.ensures ∙ word_row q e (joined (parts j))) words-fine)
     filled.fill_record.ensures

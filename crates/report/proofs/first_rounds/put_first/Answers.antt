@@ -24,21 +24,21 @@ room : (c : After-lengths_of-due) → Roomy (message_lengths c.lengths_of-due.re
 room c = roomy (input c) c.requires.free c.lengths_of-due.ensures
 
 pub slice_bounds-witness-end : goal.slice_bounds-witness-end
-slice_bounds-witness-end c = (room (goal.at.slice_bounds-witness-end c).After-lengths_of-due).witness_most
+slice_bounds-witness-end c = (room c).witness_most
 
 pub slice_bounds-quotient-end : goal.slice_bounds-quotient-end
 slice_bounds-quotient-end c = (room (goal.at.slice_bounds-quotient-end c).After-lengths_of-due).row_quotient_most
 
 pub slice_bounds-witness-end-2 : goal.slice_bounds-witness-end-2
 slice_bounds-witness-end-2 c =
-    let f = (goal.at.slice_bounds-witness-end-2 c).After-lengths_of-due in
-    back_holds 1024 (room f).witness_most f.first_round.new.witness
+    let f = c in
+    back_holds 1024 (room (goal.at.slice_bounds-witness-end-2 f).After-lengths_of-due).witness_most f.first_round.new.witness
     f.first_round.auto.witness
 
 pub slice_bounds-quotient-end-2 : goal.slice_bounds-quotient-end-2
 slice_bounds-quotient-end-2 c =
-    let f = (goal.at.slice_bounds-quotient-end-2 c).After-lengths_of-due in
-    back_holds 1024 (room f).row_quotient_most f.first_round.new.row_quotient
+    let f = c in
+    back_holds 1024 (room (goal.at.slice_bounds-quotient-end-2 f).After-lengths_of-due).row_quotient_most f.first_round.new.row_quotient
     f.first_round.auto.row_quotient
 
 pub put_first_lines-requires : goal.put_first_lines-requires
@@ -46,7 +46,7 @@ put_first_lines-requires c =
     let f = c in
     let last = f.first_round.new.1.1.1.1.1.1.1.1.1 in
     let kept = f.first_round.auto.1.1.1.1.1.1.1.1.1 in
-    let n = f.before.before.before.before.before.before.before.before in
+    let n = (goal.at.put_first_lines-requires f).After-lengths_of-due in
     let w = (room n).witness_most in
     let h = (room n).row_quotient_most in record {
       witness_len_bound = (
@@ -61,7 +61,7 @@ pub returns : goal.returns
 unfolding first_text
 returns c =
     let f = c in
-    let n = f.before.before.before.before.before.before.before.before.before.before.before in
+    let n = (goal.at.returns f).After-lengths_of-due in
     let last = f.first_round.new.1.1.1.1.1.1.1.1.1 in
     let kept = f.first_round.auto.1.1.1.1.1.1.1.1.1 in
     let w = (room n).witness_most in

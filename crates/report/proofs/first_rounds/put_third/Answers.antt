@@ -24,21 +24,21 @@ room : (c : After-lengths_of-due) → Roomy (message_lengths c.lengths_of-due.re
 room c = roomy (input c) c.requires.free c.lengths_of-due.ensures
 
 pub slice_bounds-remainder-end : goal.slice_bounds-remainder-end
-slice_bounds-remainder-end c = (room (goal.at.slice_bounds-remainder-end c).After-lengths_of-due).line_remainder_most
+slice_bounds-remainder-end c = (room c).line_remainder_most
 
 pub slice_bounds-quotient-end : goal.slice_bounds-quotient-end
 slice_bounds-quotient-end c = (room (goal.at.slice_bounds-quotient-end c).After-lengths_of-due).line_quotient_most
 
 pub slice_bounds-remainder-end-2 : goal.slice_bounds-remainder-end-2
 slice_bounds-remainder-end-2 c =
-    let f = (goal.at.slice_bounds-remainder-end-2 c).After-lengths_of-due in
-    back_holds 1024 (room f).line_remainder_most f.third_round.new.remainder
+    let f = c in
+    back_holds 1024 (room (goal.at.slice_bounds-remainder-end-2 f).After-lengths_of-due).line_remainder_most f.third_round.new.remainder
     f.third_round.auto.remainder
 
 pub slice_bounds-quotient-end-2 : goal.slice_bounds-quotient-end-2
 slice_bounds-quotient-end-2 c =
-    let f = (goal.at.slice_bounds-quotient-end-2 c).After-lengths_of-due in
-    back_holds 1024 (room f).line_quotient_most f.third_round.new.quotient
+    let f = c in
+    back_holds 1024 (room (goal.at.slice_bounds-quotient-end-2 f).After-lengths_of-due).line_quotient_most f.third_round.new.quotient
     f.third_round.auto.quotient
 
 pub put_third_lines-requires : goal.put_third_lines-requires
@@ -46,7 +46,7 @@ put_third_lines-requires c =
     let f = c in
     let last = f.third_round.new.1.1.1.1.1.1.1.1.1.1.1 in
     let kept = f.third_round.auto.1.1.1.1.1.1.1.1.1.1.1 in
-    let n = f.before.before.before.before.before.before.before.before in
+    let n = (goal.at.put_third_lines-requires f).After-lengths_of-due in
     let g = (room n).line_remainder_most in
     let h = (room n).line_quotient_most in record {
       remainder_len_bound = (part_order (back_length 1024 g last.0 kept.0) g, part_order (back_length 1024 h last.1.0 kept.1.0) h);
@@ -57,7 +57,7 @@ pub returns : goal.returns
 unfolding third_text
 returns c =
     let f = c in
-    let n = f.before.before.before.before.before.before.before.before.before.before.before in
+    let n = (goal.at.returns f).After-lengths_of-due in
     let a = n.args in
     let last = f.third_round.new.1.1.1.1.1.1.1.1.1.1.1 in
     let kept = f.third_round.auto.1.1.1.1.1.1.1.1.1.1.1 in

@@ -23,18 +23,18 @@ room : (c : After-lengths_of-n) → Roomy (message_lengths c.lengths_of-n.result
 room c = roomy (input c) c.requires.free c.lengths_of-n.ensures
 
 pub slice_bounds-quotient-end : goal.slice_bounds-quotient-end
-slice_bounds-quotient-end c = (room (goal.at.slice_bounds-quotient-end c).After-lengths_of-n).joined_quotient_most
+slice_bounds-quotient-end c = (room c).joined_quotient_most
 
 pub slice_bounds-quotient-end-2 : goal.slice_bounds-quotient-end-2
 slice_bounds-quotient-end-2 c =
-    let f = (goal.at.slice_bounds-quotient-end-2 c).After-lengths_of-n in
-    back_holds 1024 (room f).joined_quotient_most f.fifth_round.new.out
+    let f = c in
+    back_holds 1024 (room (goal.at.slice_bounds-quotient-end-2 f).After-lengths_of-n).joined_quotient_most f.fifth_round.new.out
     f.fifth_round.auto.out
 
 pub put_line-requires : goal.put_line-requires
 put_line-requires c =
     let f = c in
-    let n = f.before.before.before.before.before.before.before in
+    let n = (goal.at.put_line-requires f).After-lengths_of-n in
     let h = (room n).joined_quotient_most in
     let long = back_length 1024 h f.fifth_round.new.out f.fifth_round.auto.out in
     omega (arith, n.requires.most_line_in_bounds, h, long)
@@ -43,7 +43,7 @@ pub returns : goal.returns
 unfolding fifth_text
 returns c =
     let f = c in
-    let n = f.before.before.before.before.before.before.before.before.before.before in
+    let n = (goal.at.returns f).After-lengths_of-n in
     let a = n.args in
     let last = f.fifth_round.new.out in
     let kept = f.fifth_round.auto.out in

@@ -37,20 +37,20 @@ slice_bounds-gc-end c = (room (goal.at.slice_bounds-gc-end c).After-lengths_of).
 
 pub slice_bounds-ga-end-2 : goal.slice_bounds-ga-end-2
 slice_bounds-ga-end-2 c =
-    let f = (goal.at.slice_bounds-ga-end-2 c).After-lengths_of in
-    back_holds 1024 (room f).a_most f.fourth_round-answer.new.ga
+    let f = c in
+    back_holds 1024 (room (goal.at.slice_bounds-ga-end-2 f).After-lengths_of).a_most f.fourth_round-answer.new.ga
     f.fourth_round-answer.auto.ga
 
 pub slice_bounds-gb-end-2 : goal.slice_bounds-gb-end-2
 slice_bounds-gb-end-2 c =
-    let f = (goal.at.slice_bounds-gb-end-2 c).After-lengths_of in
-    back_holds 1024 (room f).b_most f.fourth_round-answer.new.gb
+    let f = c in
+    back_holds 1024 (room (goal.at.slice_bounds-gb-end-2 f).After-lengths_of).b_most f.fourth_round-answer.new.gb
     f.fourth_round-answer.auto.gb
 
 pub slice_bounds-gc-end-2 : goal.slice_bounds-gc-end-2
 slice_bounds-gc-end-2 c =
-    let f = (goal.at.slice_bounds-gc-end-2 c).After-lengths_of in
-    back_holds 1024 (room f).c_most f.fourth_round-answer.new.gc
+    let f = c in
+    back_holds 1024 (room (goal.at.slice_bounds-gc-end-2 f).After-lengths_of).c_most f.fourth_round-answer.new.gc
     f.fourth_round-answer.auto.gc
 
 pub put_fourth_lines-place-requires : goal.put_fourth_lines-place-requires
@@ -58,7 +58,7 @@ put_fourth_lines-place-requires c =
     let f = c in
     let last = f.fourth_round-answer.new.1.1.1.1.1.1.1.1.1.1.1.1 in
     let kept = f.fourth_round-answer.auto.1.1.1.1.1.1.1.1.1.1.1.1 in
-    let n = f.before.before.before.before.before.before.before.before.before.before.before.before.before in
+    let n = (goal.at.put_fourth_lines-place-requires f).After-lengths_of in
     let R = room n in record {
       ga_len_bound = (
         part_order (back_length 1024 R.a_most last.0 kept.0) R.a_most,
@@ -73,7 +73,7 @@ unfolding fourth_text
 returns c =
     let z = c in
     let f = z in
-    let n = f.before.before.before.before.before.before.before.before.before.before.before.before.before.before.before.before in
+    let n = (goal.at.returns f).After-lengths_of in
     let a = n.args in
     let last = f.fourth_round-answer.new.1.1.1.1.1.1.1.1.1.1.1.1 in
     let kept = f.fourth_round-answer.auto.1.1.1.1.1.1.1.1.1.1.1.1 in

@@ -3,7 +3,6 @@ use mathlib.Core.Path.{sym, ◌∙◌}
 use mathlib.Core.List.{List, [], ◌∷◌, map}
 use mathlib.Core.Option.{Option}
 use lib.Dec.{leb}
-use borrow.Author.Tests.{not-true, not-false}
 use Rattle.domain.specs.Size.{max_size}
 use Rattle.shared.specs.Meanings.{three}
 use Rattle.protocol.specs.Refusals.{Refusal, list_refusal}
@@ -21,12 +20,12 @@ pub returns-then-not-is_fine : goal.returns-then-not-is_fine
 unfolding sheet_refusal
 returns-then-not-is_fine c =
     let c1 = c in
-    stops c1.check_sizes-sizes.result c1.check_sizes-sizes.ensures (counts c1.args.request) (sym c.is_fine.ensures ∙ not-true _ c.if-not-is_fine.true)
+    stops c1.check_sizes-sizes.result c1.check_sizes-sizes.ensures (counts c1.args.request) (sym c.is_fine.ensures ∙ c.if-not-is_fine.true)
 
 pub returns : goal.returns
 unfolding sheet_refusal
 returns c =
     let c2 = c in
     let c1 = c2 in
-    goes_on c1.check_sizes-sizes.result c1.check_sizes-sizes.ensures (counts c1.args.request) (sym c2.is_fine.ensures ∙ not-false _ c.if-not-is_fine.false)
+    goes_on c1.check_sizes-sizes.result c1.check_sizes-sizes.ensures (counts c1.args.request) (sym c2.is_fine.ensures ∙ c.if-not-is_fine.false)
     (last_answer_lem c.check_counts.ensures)

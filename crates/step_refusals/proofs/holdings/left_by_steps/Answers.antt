@@ -2,7 +2,6 @@
 use mathlib.Core.Path.{sym, ap, ap₂, ◌∙◌}
 use mathlib.Core.Bool.{◌&&◌}
 use native.Mathlib.Omega.{arith}
-use borrow.Author.Tests.{not-true, not-false}
 use Rattle.domain.proofs.SizeLaws.{size_bound}
 use Rattle.shared.specs.Meanings.{sizes, transcript}
 use Rattle.protocol.specs.Session.{transcript_fits, left_by_steps}
@@ -19,11 +18,11 @@ unfolding left_by_steps
 returns-then-not-public_fits c q Q e stage =
     let d = c in
     let a = d.args in
-    ap (λ b. b && transcript_fits q (sizes a.s) (transcript a.t)) (sym (not-true _ c.if-not-public_fits.true) ∙ d.public_fits.ensures q e)
+    ap (λ b. b && transcript_fits q (sizes a.s) (transcript a.t)) (sym c.if-not-public_fits.true ∙ d.public_fits.ensures q e)
 
 pub returns : goal.returns
 unfolding left_by_steps
 returns c q Q e stage =
     let n = c in
     let d = n in
-    ap₂ ◌&&◌ (sym (not-false _ n.if-not-public_fits.false) ∙ d.public_fits.ensures q e) (c.transcript_fits.ensures q Q e)
+    ap₂ ◌&&◌ (sym n.if-not-public_fits.false ∙ d.public_fits.ensures q e) (c.transcript_fits.ensures q Q e)

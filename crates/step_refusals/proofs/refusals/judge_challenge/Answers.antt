@@ -6,7 +6,7 @@ use mathlib.Core.Option.{Option}
 use native.Mathlib.Omega.{arith}
 use lib.Dec.{ltb}
 use borrow.Author.Rules.{rules}
-use borrow.Author.Tests.{lt-ltb, le-ltb, not-true, not-false}
+use borrow.Author.Tests.{lt-ltb, le-ltb}
 use Rattle.field.specs.Prime.{Prime}
 use Rattle.field.specs.Element.{of}
 use Rattle.protocol.specs.Refusals.{Refusal, word_refusal, challenge_refusal, length_refusal}
@@ -28,22 +28,22 @@ module _ (s : Start) where
   after_turn q = word_refusal q (s.args.y ∷ []) ∷ after-word q
 
 fine : (c : Else-not-is_fine) → is_fine c.judge_turn-turn.result ≡ true
-fine c = sym c.is_fine.ensures ∙ not-false _ c.if-not-is_fine.false
+fine c = sym c.is_fine.ensures ∙ c.if-not-is_fine.false
 
 below : (q : Prime) (c : Else-p-y) → let a = c.args in q.p ≡ a.p → ltb a.y q.p ≡ true
 below q c e = lt-ltb c.args.y q.p (omega arith)
 
 pub returns-then-not-is_fine : goal.returns-then-not-is_fine
 returns-then-not-is_fine c q Q e =
-    let j = (goal.at.returns-then-not-is_fine c).Start in
-    stops j.judge_turn-turn.result j.judge_turn-turn.ensures (after_turn j q) (sym c.is_fine.ensures ∙ not-true _ c.if-not-is_fine.true)
+    let j = c in
+    stops j.judge_turn-turn.result j.judge_turn-turn.ensures (after_turn (goal.at.returns-then-not-is_fine j).Start q) (sym c.is_fine.ensures ∙ c.if-not-is_fine.true)
 
 pub returns-then-p-y : goal.returns-then-p-y
 unfolding word_refusal
 returns-then-p-y c q Q e =
     let d = (goal.at.returns-then-p-y c).Else-not-is_fine in
     let j = d in
-    let s = j.before.before.before.before.before in
+    let s = (goal.at.Else-not-is_fine j).Start in
     goes_on j.judge_turn-turn.result j.judge_turn-turn.ensures (after_turn s q) (fine d)
     (fails_first 6 0 (after-word s q) (le-ltb s.args.y q.p (omega arith)))
 
@@ -61,22 +61,22 @@ is_inside-requires c =
 pub returns-then-is_inside : goal.returns-then-is_inside
 unfolding word_refusal challenge_refusal
 returns-then-is_inside c q Q e =
-    let i = (goal.at.returns-then-is_inside c).Else-p-y in
-    let d = i.before in
+    let i = c in
+    let d = (goal.at.returns-then-is_inside i).Else-not-is_fine in
     let j = d in
-    let s = j.before.before.before.before.before in
+    let s = (goal.at.Else-not-is_fine j).Start in
     goes_on j.judge_turn-turn.result j.judge_turn-turn.ensures (after_turn s q) (fine d)
-    (passes 6 0 (after-word s q) (below q i e)
+    (passes 6 0 (after-word s q) (below q (goal.at.returns-then-is_inside i).Else-p-y e)
     (fails_first 10 s.args.position (after-domain s) (ap not (sym (i.is_inside.ensures q Q e) ∙ c.if-is_inside.true))))
 
 pub returns : goal.returns
 unfolding word_refusal challenge_refusal
 returns c q Q e =
     let n = c in
-    let i = n.before.before.before in
-    let d = i.before in
+    let i = n in
+    let d = (goal.at.returns i).Else-not-is_fine in
     let j = d in
-    let s = j.before.before.before.before.before in
+    let s = (goal.at.Else-not-is_fine j).Start in
     goes_on j.judge_turn-turn.result j.judge_turn-turn.ensures (after_turn s q) (fine d)
-    (passes 6 0 (after-word s q) (below q i e)
+    (passes 6 0 (after-word s q) (below q (goal.at.returns i).Else-p-y e)
     (passes 10 s.args.position (after-domain s) (ap not (sym (i.is_inside.ensures q Q e) ∙ n.if-is_inside.false)) (last_answer_lem c.judge_lengths.ensures)))

@@ -3,7 +3,6 @@ use mathlib.Core.Path.{◌≡◌, refl, sym, ap, ◌∙◌}
 use mathlib.Core.List.{List, [], ◌∷◌, ◌++◌}
 use mathlib.Core.Option.{Option}
 use Prim.Native.Nat.{ℕ}
-use borrow.Author.Tests.{not-true, not-false}
 use Rattle.field.specs.Prime.{Prime}
 use Rattle.shared.specs.Meanings.{sizes, three}
 use Rattle.protocol.specs.Messages.{MessageLengths, lengths}
@@ -30,26 +29,26 @@ module _ (s : Start) where
   rest q = word_refusal q ws ∷ lengths-row
 
 -- past the turn
-past_turn : (q : Prime) (c : Else-not-is_fine) {x : Option Refusal} → let s = c.before.before.before in let a = s.args in
+past_turn : (q : Prime) (c : Else-not-is_fine) {x : Option Refusal} → let s = (goal.at.Else-not-is_fine c).Start in let a = s.args in
     x ≡ first (rest s q) → x ≡ delta_refusal q a.stage (sizes a.s) (three a.values) (three a.remainders) (three a.delta)
 unfolding delta_refusal
 past_turn q c =
-    let j = c.before.before.before in
-    goes_on j.judge_turn-turn.result j.judge_turn-turn.ensures (rest j q) (sym c.is_fine.ensures ∙ not-false _ c.if-not-is_fine.false)
+    let j = c in
+    goes_on j.judge_turn-turn.result j.judge_turn-turn.ensures (rest (goal.at.Else-not-is_fine j).Start q) (sym c.is_fine.ensures ∙ c.if-not-is_fine.false)
 
 pub returns-then-not-is_fine : goal.returns-then-not-is_fine
 unfolding delta_refusal
 returns-then-not-is_fine c q e =
-    let j = (goal.at.returns-then-not-is_fine c).Start in
-    stops j.judge_turn-turn.result j.judge_turn-turn.ensures (rest j q) (sym c.is_fine.ensures ∙ not-true _ c.if-not-is_fine.true)
+    let j = c in
+    stops j.judge_turn-turn.result j.judge_turn-turn.ensures (rest (goal.at.returns-then-not-is_fine j).Start q) (sym c.is_fine.ensures ∙ c.if-not-is_fine.true)
 
 pub returns-then-not-is_fine-2 : goal.returns-then-not-is_fine-2
 returns-then-not-is_fine-2 c q e =
-    let w = (goal.at.returns-then-not-is_fine-2 c).Else-not-is_fine in
-    let s = w.before.before.before in
-    past_turn q w
+    let w = c in
+    let s = (goal.at.returns-then-not-is_fine-2 w).Start in
+    past_turn q (goal.at.returns-then-not-is_fine-2 w).Else-not-is_fine
     (stops w.judge_words-word.result (w.judge_words-word.ensures ∙ word_row q e (ws s)) (lengths-row s)
-    (sym c.is_fine-2.ensures ∙ not-true _ c.if-not-is_fine-2.true))
+    (sym c.is_fine-2.ensures ∙ c.if-not-is_fine-2.true))
 
 pub judge_lengths-requires : goal.judge_lengths-requires
 judge_lengths-requires c = refl
@@ -58,8 +57,8 @@ pub returns : goal.returns
 returns c q e =
     let l = c in
     let d = l in
-    let w = d.before.before.before.before.before.before.before.before.before in
-    let s = w.before.before.before in
-    past_turn q w
+    let w = d in
+    let s = (goal.at.returns w).Start in
+    past_turn q (goal.at.returns w).Else-not-is_fine
     (goes_on w.judge_words-word.result (w.judge_words-word.ensures ∙ word_row q e (ws s)) (lengths-row s)
-    (sym d.is_fine-2.ensures ∙ not-false _ d.if-not-is_fine-2.false) (last_answer_lem (c.judge_lengths.ensures ∙ ap (most s) l.message_lengths.ensures)))
+    (sym d.is_fine-2.ensures ∙ d.if-not-is_fine-2.false) (last_answer_lem (c.judge_lengths.ensures ∙ ap (most s) l.message_lengths.ensures)))

@@ -3,7 +3,6 @@ use mathlib.Core.Path.{sym, ◌∙◌}
 use mathlib.Core.List.{List, [], ◌∷◌, ◌++◌}
 use mathlib.Core.Option.{Option}
 use Prim.Native.Nat.{ℕ}
-use borrow.Author.Tests.{not-true, not-false}
 use Rattle.field.specs.Prime.{Prime}
 use Rattle.shared.specs.Meanings.{three}
 use Rattle.protocol.specs.Refusals.{Refusal, word_refusal}
@@ -25,13 +24,13 @@ module _ (s : Start) where
 pub returns-then-not-is_fine : goal.returns-then-not-is_fine
 unfolding eta_refusal
 returns-then-not-is_fine c q e =
-    let j = (goal.at.returns-then-not-is_fine c).Start in
-    stops j.judge_turn-turn.result j.judge_turn-turn.ensures (rest j q) (sym c.is_fine.ensures ∙ not-true _ c.if-not-is_fine.true)
+    let j = c in
+    stops j.judge_turn-turn.result j.judge_turn-turn.ensures (rest (goal.at.returns-then-not-is_fine j).Start q) (sym c.is_fine.ensures ∙ c.if-not-is_fine.true)
 
 pub returns : goal.returns
 unfolding eta_refusal
 returns c q e =
     let d = c in
-    let j = d.before.before.before.before.before in
-    goes_on j.judge_turn-turn.result j.judge_turn-turn.ensures (rest j q) (sym d.is_fine.ensures ∙ not-false _ d.if-not-is_fine.false)
-    (last_answer_lem (c.judge_words.ensures ∙ word_row q e (ws j)))
+    let j = d in
+    goes_on j.judge_turn-turn.result j.judge_turn-turn.ensures (rest (goal.at.returns j).Start q) (sym d.is_fine.ensures ∙ d.if-not-is_fine.false)
+    (last_answer_lem (c.judge_words.ensures ∙ word_row q e (ws (goal.at.returns j).Start)))

@@ -35,14 +35,14 @@ pub returns-then-most-i : goal.returns-then-most-i
 unfolding length_refusal
 returns-then-most-i c =
     let l = c in
-    let s = l.before.before.before.before.before in
+    let s = (goal.at.returns-then-most-i l).Start in
     passed_stop 11 0 (tests s) l.loop-i.i l.loop-i.invariant.1 (omega (arith, tests_count s)) true _ (omega arith)
     (pairs-at leb s.args.declared.now s.args.most.now l.loop-i.i 0 0 true (omega arith) (omega (arith, s.requires)) ∙ lt-leb _ _ c.if-most-i.true)
 
 pub loop-i-preserved : goal.loop-i-preserved
 loop-i-preserved c =
     let l = c in
-    let s = l.before.before.before.before.before in (
+    let s = (goal.at.loop-i-preserved l).Start in (
       search rules,
       passed_turn 11 0 (tests s) l.loop-i.i l.loop-i.invariant.1 (omega (arith, tests_count s)) true
           (pairs-at leb s.args.declared.now s.args.most.now l.loop-i.i 0 0 true (omega arith) (omega (arith, s.requires))
@@ -53,5 +53,5 @@ pub returns : goal.returns
 unfolding length_refusal
 returns c =
     let l = c in
-    let s = l.before.before in
+    let s = (goal.at.returns l).Start in
     sym (passed_end 11 0 (tests s) l.loop-i.i l.loop-i.invariant.1 (omega (arith, tests_count s)))

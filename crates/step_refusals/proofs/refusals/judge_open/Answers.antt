@@ -4,7 +4,7 @@ use mathlib.Core.List.{List, [], ◌∷◌}
 use mathlib.Core.Option.{Option}
 use lib.Dec.{eqb}
 use lib.ListN.{length}
-use borrow.Author.Tests.{eq-eqb, ne_eqb, not-true, not-false}
+use borrow.Author.Tests.{eq-eqb, ne_eqb}
 use Rattle.field.specs.Prime.{Prime}
 use Rattle.shared.specs.Meanings.{sizes}
 use Rattle.protocol.specs.Refusals.{Refusal, first, size_refusal, list_refusal, word_refusal, constant_refusal}
@@ -21,45 +21,45 @@ after-length q s = word_refusal q s.args.x.now ∷ constant_refusal s.args.x.now
 abbrev rest : Prime → Start → List (Option Refusal)
 rest q s = list_refusal (eqb (length s.args.x.now) s.args.s.x ∷ []) ∷ after-length q s
 
-past_sizes : (q : Prime) (c : Else-not-is_fine) {r : Option Refusal} → let s = c.before.before.before.before in
+past_sizes : (q : Prime) (c : Else-not-is_fine) {r : Option Refusal} → let s = (goal.at.Else-not-is_fine c).Start in
     r ≡ first (rest q s) → r ≡ open_refusal q (sizes s.args.s) s.args.x.now
 unfolding open_refusal size_refusal
 past_sizes q c =
-    let j = c.before.before.before.before in
-    goes_on j.judge_sizes-size.result j.judge_sizes-size.ensures (rest q j) (sym c.is_fine.ensures ∙ not-false _ c.if-not-is_fine.false)
+    let j = c in
+    goes_on j.judge_sizes-size.result j.judge_sizes-size.ensures (rest q (goal.at.Else-not-is_fine j).Start) (sym c.is_fine.ensures ∙ c.if-not-is_fine.false)
 
-past_length : (q : Prime) (c : Else-x-s) {r : Option Refusal} → let s = c.before.before.before.before.before.before in
+past_length : (q : Prime) (c : Else-x-s) {r : Option Refusal} → let s = (goal.at.Else-x-s c).Start in
     r ≡ first (after-length q s) → r ≡ open_refusal q (sizes s.args.s) s.args.x.now
 unfolding list_refusal
 past_length q c y =
-    let d = c.before.before.before.before.before.before in
-    past_sizes q d (passes 5 0 (after-length q d) (eq-eqb _ _ c.if-x-s.false) y)
+    let d = (goal.at.Else-x-s c).Else-not-is_fine in
+    past_sizes q d (passes 5 0 (after-length q (goal.at.Else-not-is_fine d).Start) (eq-eqb _ _ c.if-x-s.false) y)
 
 pub returns-then-not-is_fine : goal.returns-then-not-is_fine
 unfolding open_refusal size_refusal
 returns-then-not-is_fine c q e =
-    let j = (goal.at.returns-then-not-is_fine c).Start in
-    stops j.judge_sizes-size.result j.judge_sizes-size.ensures (rest q j) (sym c.is_fine.ensures ∙ not-true _ c.if-not-is_fine.true)
+    let j = c in
+    stops j.judge_sizes-size.result j.judge_sizes-size.ensures (rest q (goal.at.returns-then-not-is_fine j).Start) (sym c.is_fine.ensures ∙ c.if-not-is_fine.true)
 
 pub returns-then-x-s : goal.returns-then-x-s
 unfolding list_refusal
 returns-then-x-s c q e =
-    let d = (goal.at.returns-then-x-s c).Start in
-    past_sizes q d (fails_first 5 0 (after-length q d) (ne_eqb _ _ c.if-x-s.true))
+    let d = (goal.at.returns-then-x-s c).Else-not-is_fine in
+    past_sizes q d (fails_first 5 0 (after-length q (goal.at.Else-not-is_fine d).Start) (ne_eqb _ _ c.if-x-s.true))
 
 pub returns-then-not-is_fine-2 : goal.returns-then-not-is_fine-2
 returns-then-not-is_fine-2 c q e =
-    let w = (goal.at.returns-then-not-is_fine-2 c).Else-x-s in
+    let w = c in
     let x = w.args.x.now in
-    past_length q w
+    past_length q (goal.at.returns-then-not-is_fine-2 w).Else-x-s
     (stops w.judge_words-in_words.result {o = word_refusal q x} (w.judge_words-in_words.ensures ∙ word_row q e x) (constant_refusal x ∷ [])
-    (sym c.is_fine-2.ensures ∙ not-true _ c.if-not-is_fine-2.true))
+    (sym c.is_fine-2.ensures ∙ c.if-not-is_fine-2.true))
 
 pub returns : goal.returns
 returns c q e =
     let d = c in
-    let w = d.before.before.before.before in
+    let w = d in
     let x = w.args.x.now in
-    past_length q w
+    past_length q (goal.at.returns w).Else-x-s
     (goes_on w.judge_words-in_words.result {o = word_refusal q x} (w.judge_words-in_words.ensures ∙ word_row q e x) (constant_refusal x ∷ [])
-    (sym d.is_fine-2.ensures ∙ not-false _ d.if-not-is_fine-2.false) (last_answer_lem c.judge_constant.ensures))
+    (sym d.is_fine-2.ensures ∙ d.if-not-is_fine-2.false) (last_answer_lem c.judge_constant.ensures))

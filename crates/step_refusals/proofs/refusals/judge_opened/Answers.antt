@@ -6,7 +6,6 @@ use mathlib.Core.Option.{Option}
 use Prim.Native.Nat.{ℕ}
 use lib.Dec.{ltb}
 use lib.ListN.{get_or}
-use borrow.Author.Tests.{not-true, not-false}
 use Rattle.field.specs.Prime.{Prime}
 use Rattle.protocol.specs.Checks.{list_openings}
 use Rattle.protocol.specs.Index.{list_index}
@@ -29,7 +28,7 @@ module _ (s : Start) where
       below (o.witness ∷ o.mask ∷ o.line_remainder ∷ o.line_quotient ∷ o.row_quotient ∷ o.joined_quotient ∷ listed (three o.matrix_remainders))
 
   abbrev part : ℕ → List Bool
-  part i = below (list_index (index_words (get_or s.args.t3 i [])))
+  part i = below (list_index (index_words (get_or s.args.index i [])))
 
   abbrev after-b : List (Option Refusal)
   after-b = refuse 6 17 (part 2) ∷ []
@@ -41,13 +40,13 @@ module _ (s : Start) where
   after-messages = refuse 6 9 (part 0) ∷ after-a
 
   in_parts : (q : Prime) → q.p ≡ s.args.p
-      → first (refuse 6 0 messages ∷ after-messages) ≡ word_refusal q (list_openings (openings s.args.o s.args.t3))
+      → first (refuse 6 0 messages ∷ after-messages) ≡ word_refusal q (list_openings (openings s.args.o s.args.index))
   in_parts q e =
       sym
       (refuse_append 6 0 messages (part 0 ++ (part 1 ++ part 2))
       ∙ ap (λ o. first (refuse 6 0 messages ∷ o ∷ [])) from_a
       ∙ first_nested (refuse 6 0 messages) after-messages)
-      ∙ word_row q e (list_openings (openings s.args.o s.args.t3))
+      ∙ word_row q e (list_openings (openings s.args.o s.args.index))
     where
       from_a : refuse 6 9 (part 0 ++ (part 1 ++ part 2)) ≡ first after-messages
       from_a =
@@ -56,51 +55,51 @@ module _ (s : Start) where
 
 -- past the messages, past A, past B
 module _ (q : Prime) {x : Option Refusal} where
-  past_messages : (c : Else-not-is_fine) → let s = c.before.before.before.before.before.before.before.before.before in q.p ≡ s.args.p
-      → x ≡ first (after-messages s) → x ≡ word_refusal q (list_openings (openings s.args.o s.args.t3))
+  past_messages : (c : Else-not-is_fine) → let s = (goal.at.Else-not-is_fine-2 c).Start in q.p ≡ s.args.p
+      → x ≡ first (after-messages s) → x ≡ word_refusal q (list_openings (openings s.args.o s.args.index))
   past_messages c e y =
       let w = c in
-      let s = w.before.before.before.before.before.before.before.before.before in
-      goes_on w.judge_words-messages.result w.judge_words-messages.ensures (after-messages s) (sym c.is_fine.ensures ∙ not-false _ c.if-not-is_fine.false) y
+      let s = (goal.at.Else-not-is_fine-2 w).Start in
+      goes_on w.judge_words-messages.result w.judge_words-messages.ensures (after-messages s) (sym c.is_fine.ensures ∙ c.if-not-is_fine.false) y
       ∙ in_parts s q e
 
-  past_a : (c : Else-not-is_fine-2) → let s = c.before.before.before.before.before.before.before.before.before in q.p ≡ s.args.p
-      → x ≡ first (after-a s) → x ≡ word_refusal q (list_openings (openings s.args.o s.args.t3))
+  past_a : (c : Else-not-is_fine-2) → let s = (goal.at.Else-not-is_fine-2 c).Start in q.p ≡ s.args.p
+      → x ≡ first (after-a s) → x ≡ word_refusal q (list_openings (openings s.args.o s.args.index))
   past_a c e y =
       let a = c in
-      let d = a.before.before.before.before.before.before.before.before.before in
+      let d = (goal.at.Else-not-is_fine-2 a).After-judge_index-a in
       past_messages d e
-      (goes_on a.judge_index-a.result a.judge_index-a.ensures (after-a d)
-      (sym c.is_fine-2.ensures ∙ not-false _ c.if-not-is_fine-2.false) y)
+      (goes_on a.judge_index-a.result a.judge_index-a.ensures (after-a (goal.at.After-judge_index-a d).Start)
+      (sym c.is_fine-2.ensures ∙ c.if-not-is_fine-2.false) y)
 
 pub returns-then-not-is_fine : goal.returns-then-not-is_fine
 returns-then-not-is_fine c q e =
     let w = c in
-    let s = w.before.before.before.before.before in
-    stops w.judge_words-messages.result w.judge_words-messages.ensures (after-messages s) (sym c.is_fine.ensures ∙ not-true _ c.if-not-is_fine.true)
+    let s = (goal.at.returns-then-not-is_fine w).Start in
+    stops w.judge_words-messages.result w.judge_words-messages.ensures (after-messages s) (sym c.is_fine.ensures ∙ c.if-not-is_fine.true)
     ∙ in_parts s q e
 
 pub returns-then-not-is_fine-2 : goal.returns-then-not-is_fine-2
 returns-then-not-is_fine-2 c q e =
     let a = c in
-    let d = a.before.before.before.before.before.before.before.before.before in
+    let d = (goal.at.returns-then-not-is_fine-2 a).Else-not-is_fine in
     past_messages q d e
-    (stops a.judge_index-a.result a.judge_index-a.ensures (after-a d)
-    (sym c.is_fine-2.ensures ∙ not-true _ c.if-not-is_fine-2.true))
+    (stops a.judge_index-a.result a.judge_index-a.ensures (after-a (goal.at.Else-not-is_fine d).Start)
+    (sym c.is_fine-2.ensures ∙ c.if-not-is_fine-2.true))
 
 pub returns-then-not-is_fine-3 : goal.returns-then-not-is_fine-3
 returns-then-not-is_fine-3 c q e =
     let b = c in
-    let d = b.before.before.before.before.before.before.before.before.before.before.before.before.before in
+    let d = (goal.at.returns-then-not-is_fine-3 b).Else-not-is_fine-2 in
     past_a q d e
-    (stops b.judge_index-b.result b.judge_index-b.ensures (after-b d)
-    (sym c.is_fine-3.ensures ∙ not-true _ c.if-not-is_fine-3.true))
+    (stops b.judge_index-b.result b.judge_index-b.ensures (after-b (goal.at.Else-not-is_fine-2 d).Start)
+    (sym c.is_fine-3.ensures ∙ c.if-not-is_fine-3.true))
 
 pub returns : goal.returns
 returns c q e =
     let n = c in
     let b = n in
-    let d = b.before.before.before.before.before.before.before.before.before.before.before.before.before.before.before in
+    let d = (goal.at.returns b).Else-not-is_fine-2 in
     past_a q d e
-    (goes_on b.judge_index-b.result b.judge_index-b.ensures (after-b d)
-    (sym n.is_fine-3.ensures ∙ not-false _ n.if-not-is_fine-3.false) (last_answer_lem c.judge_index.ensures))
+    (goes_on b.judge_index-b.result b.judge_index-b.ensures (after-b (goal.at.Else-not-is_fine-2 d).Start)
+    (sym n.is_fine-3.ensures ∙ n.if-not-is_fine-3.false) (last_answer_lem c.judge_index.ensures))

@@ -4,7 +4,6 @@ use mathlib.Core.Bool.{true, ◌&&◌}
 use mathlib.Core.List.{List, [], ◌∷◌}
 use mathlib.Core.Option.{Option}
 use borrow.Author.Rules.{rules}
-use borrow.Author.Tests.{not-true, not-false}
 use Rattle.field.specs.Prime.{Prime}
 use Rattle.protocol.specs.Checks.{list_openings}
 use Rattle.shared.specs.Meanings.{sizes, transcript, openings}
@@ -26,37 +25,37 @@ module _ (s : Start) where
   rest q = word_refusal q (list_openings (openings s.args.o s.args.index)) ∷ []
 
 turn : (c : Else-not-in_turn) → let s = c in in_turn 6 s.args.stage (sizes s.args.s) ≡ true
-turn c = sym c.in_turn.ensures ∙ not-false _ c.if-not-in_turn.false
+turn c = sym c.in_turn.ensures ∙ c.if-not-in_turn.false
 
 pub returns-then-not-in_turn : goal.returns-then-not-in_turn
 unfolding openings_refusal turn_refusal
 returns-then-not-in_turn c q Q e =
     let s = (goal.at.returns-then-not-in_turn c).Start in
-    fails_first 1 0 (rest s q) (ap (λ b. b && left_by_steps q (session s)) (sym c.in_turn.ensures ∙ not-true _ c.if-not-in_turn.true))
+    fails_first 1 0 (rest s q) (ap (λ b. b && left_by_steps q (session s)) (sym c.in_turn.ensures ∙ c.if-not-in_turn.true))
 
 pub left_by_steps-requires : goal.left_by_steps-requires
 left_by_steps-requires c =
     let s = c in
     record {
       lt_p = search rules;
-      s_value = all_true (six_size_tests (sizes s.args.s)) (in_turn_lem 6 s.args.stage (sizes s.args.s) (turn (goal.at.left_by_steps-requires c).Else-not-in_turn)).sizes-allowed;
+      s_value = all_true (six_size_tests (sizes s.args.s)) (in_turn_lem 6 s.args.stage (sizes s.args.s) (turn c)).sizes-allowed;
       x_len = search rules;
     }
 
 pub returns-then-not-left_by_steps : goal.returns-then-not-left_by_steps
 unfolding openings_refusal turn_refusal
 returns-then-not-left_by_steps c q Q e =
-    let l = (goal.at.returns-then-not-left_by_steps c).Else-not-in_turn in
-    let s = l.before.before.before in
+    let l = c in
+    let s = (goal.at.returns-then-not-left_by_steps l).Start in
     fails_first 1 0 (rest s q)
-    (ap₂ ◌&&◌ (turn l) (sym (l.left_by_steps.ensures q Q e s.args.stage) ∙ not-true _ c.if-not-left_by_steps.true))
+    (ap₂ ◌&&◌ (turn (goal.at.returns-then-not-left_by_steps l).Else-not-in_turn) (sym (l.left_by_steps.ensures q Q e s.args.stage) ∙ c.if-not-left_by_steps.true))
 
 pub returns : goal.returns
 unfolding openings_refusal turn_refusal
 returns c q Q e =
     let n = c in
-    let l = n.before.before.before in
-    let s = l.before.before.before in
+    let l = n in
+    let s = (goal.at.returns l).Start in
     passes 1 0 (rest s q)
-    (ap₂ ◌&&◌ (turn l) (sym (l.left_by_steps.ensures q Q e s.args.stage) ∙ not-false _ n.if-not-left_by_steps.false))
+    (ap₂ ◌&&◌ (turn (goal.at.returns l).Else-not-in_turn) (sym (l.left_by_steps.ensures q Q e s.args.stage) ∙ n.if-not-left_by_steps.false))
     (last_answer_lem (c.judge_opened.ensures q e))

@@ -22,7 +22,7 @@ abbrev lists : Start → Three (List ℕ)
 lists s = three_of s.args.blindedA.now s.args.blindedB.now s.args.blindedC.now
 
 judgement : (c : After-judge_blind-fault)
-    → let s = c.before.before.before.before.before.before.before.before.before in
+    → let s = (goal.at.After-judge_blind-fault c).Start in
     fault_refusal c.judge_blind-fault.result
     ≡ blind_refusal baby_bear (circuit s) s.args.z.now (three s.args.rho) (map_three length (lists s)) (length s.args.blindedZ.now)
 judgement c = c.judge_blind-fault.ensures baby_bear refl
@@ -30,7 +30,7 @@ judgement c = c.judge_blind-fault.ensures baby_bear refl
 pub blind_into-requires : goal.blind_into-requires
 blind_into-requires c =
     let d = c in
-    let j = d.before.before.before.before.before.before in
+    let j = (goal.at.blind_into-requires d).After-judge_blind-fault in
     let a = j.args in
     call_fits baby_bear a.r a.c a.x a.ea.now a.eb.now a.ec.now a.z.now (three a.rho) a.blindedA.now
     a.blindedB.now a.blindedC.now a.blindedZ.now (matched d.enum_told-1.given.1 (judgement j))
@@ -40,8 +40,8 @@ unfolding blind_call
 returns-in-Fine c =
     let filled = c in
     let d = filled in
-    let j = d.before.before.before.before.before.before.before.before.before.before.before.before.before.before.before in
-    fill_done (lists j.before.before.before.before.before.before.before.before.before, j.args.blindedZ.now) (matched d.enum_told-1.given.1 (judgement j)) filled.blind_into.ensures
+    let j = (goal.at.returns-in-Fine d).After-judge_blind-fault in
+    fill_done (lists (goal.at.After-judge_blind-fault j).Start, j.args.blindedZ.now) (matched d.enum_told-1.given.1 (judgement j)) filled.blind_into.ensures
 
 pub returns-in-Refused : goal.returns-in-Refused
 unfolding blind_call

@@ -28,14 +28,14 @@ lent s =
     a.rowcolB.now a.rowcolvalB.now a.rowC.now a.colC.now a.rowcolC.now a.rowcolvalC.now
 
 judgement : (c : After-judge_index-fault)
-    → fault_refusal c.judge_index-fault.result ≡ index_refusal baby_bear (circuit c.before.before.before.before.before.before.before.before.before.before.before.before.before.before.before.before) (twelve_lengths (lent c.before.before.before.before.before.before.before.before.before.before.before.before.before.before.before.before))
+    → fault_refusal c.judge_index-fault.result ≡ index_refusal baby_bear (circuit (goal.at.After-judge_index-fault c).Start) (twelve_lengths (lent (goal.at.After-judge_index-fault c).Start))
 judgement c = c.judge_index-fault.ensures baby_bear refl
 
 -- where nothing was refused
-fits : (c : In-Fine) → CallFits (circuit c.before.before.before.before.before.before.before.before.before.before.before.before.before.before.before.before.before.before) (lent c.before.before.before.before.before.before.before.before.before.before.before.before.before.before.before.before.before.before)
+fits : (c : In-Fine) → CallFits (circuit (goal.at.In-Fine c).Start) (lent (goal.at.In-Fine c).Start)
 fits c =
-    let j = c.before.before in
-    call_fits (circuit j.before.before.before.before.before.before.before.before.before.before.before.before.before.before.before.before) (lent j.before.before.before.before.before.before.before.before.before.before.before.before.before.before.before.before) j.judge_index-fault.result (judgement j) c.enum_told-1.given.1
+    let j = (goal.at.In-Fine c).After-judge_index-fault in
+    call_fits (circuit (goal.at.After-judge_index-fault j).Start) (lent (goal.at.After-judge_index-fault j).Start) j.judge_index-fault.result (judgement j) c.enum_told-1.given.1
 
 pub judge_index-fault-requires : goal.judge_index-fault-requires
 judge_index-fault-requires c = tt
@@ -92,13 +92,13 @@ unfolding circuit_of
 returns-in-Fine c =
     let v = c in
     let d = v in
-    let j = d.before.before.before.before.before.before.before.before.before.before.before.before.before.before.before.before.before.before.before.before.before.before.before.before.before.before.before.before.before.before.before.before.before.before.before.before.before.before.before in
-    let k : Circuit = circuit_of (circuit j.before.before.before.before.before.before.before.before.before.before.before.before.before.before.before.before) in
+    let j = (goal.at.returns-in-Fine d).After-judge_index-fault in
+    let k : Circuit = circuit_of (circuit (goal.at.After-judge_index-fault j).Start) in
     let made = v.index_into.ensures baby_bear known-prime k refl refl refl in
-    index-done (circuit j.before.before.before.before.before.before.before.before.before.before.before.before.before.before.before.before) (lent j.before.before.before.before.before.before.before.before.before.before.before.before.before.before.before.before) j.judge_index-fault.result (judgement j) d.enum_told-1.given.1
+    index-done (circuit (goal.at.After-judge_index-fault j).Start) (lent (goal.at.After-judge_index-fault j).Start) j.judge_index-fault.result (judgement j) d.enum_told-1.given.1
     made.of-a made.of-b made.of_c
 
 pub returns-in-Refused : goal.returns-in-Refused
 returns-in-Refused c =
     let j = (goal.at.returns-in-Refused c).After-judge_index-fault in
-    index-refused (circuit j.before.before.before.before.before.before.before.before.before.before.before.before.before.before.before.before) (lent j.before.before.before.before.before.before.before.before.before.before.before.before.before.before.before.before) j.judge_index-fault.result (judgement j) c.fault-1.given.1
+    index-refused (circuit (goal.at.After-judge_index-fault j).Start) (lent (goal.at.After-judge_index-fault j).Start) j.judge_index-fault.result (judgement j) c.fault-1.given.1

@@ -24,7 +24,7 @@ let_through c =
     (matched c.enum_told-1.given.1 c.judge_transform-fault.ensures)
 
 pub root_of-root-requires : goal.root_of-root-requires
-root_of-root-requires c = (let_through (goal.at.root_of-root-requires c).In-Fine).size
+root_of-root-requires c = (let_through c).size
 
 pub evaluate_into-requires : goal.evaluate_into-requires
 evaluate_into-requires c = record {

@@ -1,5 +1,5 @@
 -- `varuna::polynomials::judge_evaluation` meets its contract. Assumes nothing.
-use borrow.Author.Tests.{lt-leb, lt-ltb, le-ltb, not-true, not-false}
+use borrow.Author.Tests.{lt-leb, lt-ltb, le-ltb}
 use mathlib.Core.Path.{sym, ap, ◌∙◌}
 use mathlib.Core.Bool.{Bool}
 use mathlib.Core.List.{[], ◌∷◌}
@@ -18,14 +18,14 @@ returns-then-not-is_fine c =
     let s = c in
     evaluation_stops baby_bear (length s.args.f.now) s.args.f.now (s.args.y ∷ []) c.if-f-gt-MAX_WORDS.false
     c.judge_words-fault.result c.judge_words-fault.ensures
-    (sym c.is_fine.ensures ∙ not-true _ c.if-not-is_fine.true)
+    (sym c.is_fine.ensures ∙ c.if-not-is_fine.true)
 
 pub returns-then-y-lt-MODULE_PRIME : goal.returns-then-y-lt-MODULE_PRIME
 returns-then-y-lt-MODULE_PRIME c =
     let s = c in
     evaluation_goes baby_bear (length s.args.f.now) s.args.f.now (s.args.y ∷ []) c.if-f-gt-MAX_WORDS.false
     c.judge_words-fault.result c.judge_words-fault.ensures
-    (sym c.is_fine.ensures ∙ not-false _ c.if-not-is_fine.false)
+    (sym c.is_fine.ensures ∙ c.if-not-is_fine.false)
     (ap (λ (t : Bool). refuse 6 (length s.args.f.now) (t ∷ [])) (sym (lt-ltb _ _ c.if-y-lt-MODULE_PRIME.true)))
 
 pub returns-else-y-lt-MODULE_PRIME : goal.returns-else-y-lt-MODULE_PRIME
@@ -33,5 +33,5 @@ returns-else-y-lt-MODULE_PRIME c =
     let s = c in
     evaluation_goes baby_bear (length s.args.f.now) s.args.f.now (s.args.y ∷ []) c.if-f-gt-MAX_WORDS.false
     c.judge_words-fault.result c.judge_words-fault.ensures
-    (sym c.is_fine.ensures ∙ not-false _ c.if-not-is_fine.false)
+    (sym c.is_fine.ensures ∙ c.if-not-is_fine.false)
     (ap (λ (t : Bool). refuse 6 (length s.args.f.now) (t ∷ [])) (sym (le-ltb _ _ c.if-y-lt-MODULE_PRIME.false)))

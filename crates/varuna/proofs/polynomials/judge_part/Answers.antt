@@ -1,5 +1,5 @@
 -- `varuna::polynomials::judge_part` meets its contract. Assumes nothing.
-use borrow.Author.Tests.{lt-leb, not-true, not-false}
+use borrow.Author.Tests.{lt-leb}
 use mathlib.Core.Path.{sym, ◌∙◌}
 use mathlib.Core.List.{[], ◌∷◌}
 use lib.ListN.{length}
@@ -18,7 +18,7 @@ returns-then-not-is_fine c =
     let judged = c.judge_words-fault in
     evaluation_stops baby_bear (length a.part.now) (a.running.sum ∷ a.running.power ∷ a.y ∷ []) a.part.now
     c.if-part-gt-MAX_WORDS.false judged.result judged.ensures
-    (sym c.is_fine.ensures ∙ not-true _ c.if-not-is_fine.true)
+    (sym c.is_fine.ensures ∙ c.if-not-is_fine.true)
 
 pub returns : goal.returns
 returns c =
@@ -26,4 +26,4 @@ returns c =
     let judged = c.judge_words-fault in
     evaluation_goes baby_bear (length a.part.now) (a.running.sum ∷ a.running.power ∷ a.y ∷ []) a.part.now
     c.if-part-gt-MAX_WORDS.false judged.result judged.ensures
-    (sym c.is_fine.ensures ∙ not-false _ c.if-not-is_fine.false) c.judge_words.ensures
+    (sym c.is_fine.ensures ∙ c.if-not-is_fine.false) c.judge_words.ensures

@@ -5,7 +5,7 @@ use lib.Dec.{eqb}
 use lib.ListN.{length}
 use Rattle.domain.specs.Size.{is_size}
 use mathlib.Core.Path.{◌≡◌, refl, sym, ◌∙◌}
-use borrow.Author.Tests.{eq-eqb, ne_eqb, not-true, not-false}
+use borrow.Author.Tests.{eq-eqb, ne_eqb}
 use Rattle.domain.specs.BabyBear.{baby_bear}
 use Rattle.domain.proofs.DomainLaws.{powers-domain}
 use Rattle.protocol.specs.Refusals.{first, size_refusal, list_refusal}
@@ -15,15 +15,15 @@ use Rattle.varuna.proofs.polynomials.list_domain.Goals as goal
 
 pub returns-then-not-is_size : goal.returns-then-not-is_size
 unfolding domain_call size_refusal
-returns-then-not-is_size c = simp (sym c.is_size.ensures ∙ not-true _ c.if-not-is_size.true)
+returns-then-not-is_size c = simp (sym c.is_size.ensures ∙ c.if-not-is_size.true)
 
 pub returns-then-out-n : goal.returns-then-out-n
 unfolding domain_call size_refusal list_refusal
-returns-then-out-n c = simp (sym c.is_size.ensures ∙ not-false _ c.if-not-is_size.false, ne_eqb _ _ c.if-out-n.true)
+returns-then-out-n c = simp (sym c.is_size.ensures ∙ c.if-not-is_size.false, ne_eqb _ _ c.if-out-n.true)
 
 pub root_of-requires : goal.root_of-requires
 root_of-requires c =
-    sym c.is_size.ensures ∙ not-false _ c.if-not-is_size.false
+    sym c.is_size.ensures ∙ c.if-not-is_size.false
 
 pub returns : goal.returns
 unfolding domain_call size_refusal list_refusal
@@ -31,7 +31,7 @@ returns c =
     let d = c in
     let s = d in
     let fine : first (size_refusal (is_size s.args.n ∷ []) ∷ list_refusal (eqb (length s.args.out.now) s.args.n ∷ []) ∷ []) ≡ none =
-    simp (sym d.is_size.ensures ∙ not-false _ d.if-not-is_size.false, eq-eqb _ _ d.if-out-n.false) in
+    simp (sym d.is_size.ensures ∙ d.if-not-is_size.false, eq-eqb _ _ d.if-out-n.false) in
     fill_done s.args.out.now fine
     (c.fill_powers.ensures baby_bear refl
     ∙ powers-domain baby_bear s.args.n _ _ d.if-out-n.false

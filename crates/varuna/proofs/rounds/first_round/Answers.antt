@@ -45,7 +45,7 @@ abbrev points : Start → List ℕ
 points s = []
 
 abbrev start : After-judge_round-fault → Start
-start c = c.before.before.before.before.before.before.before.before.before.before.before
+start c = (goal.at.After-judge_round-fault c).Start
 
 judgement : (c : After-judge_round-fault)
     → fault_refusal c.judge_round-fault.result
@@ -57,9 +57,9 @@ judgement c =
 
 -- nothing was refused
 fits : (c : In-Fine)
-    → let s = start c.before.before in InputFits (input s) (lent s) (due s) (challenges s) (points s)
+    → let s = start (goal.at.In-Fine c).After-judge_round-fault in InputFits (input s) (lent s) (due s) (challenges s) (points s)
 fits c =
-    let j = c.before.before in
+    let j = (goal.at.In-Fine c).After-judge_round-fault in
     let s = start j in
     input_fits (input s) (lent s) (due s) (challenges s) (points s) j.judge_round-fault.result (judgement j) c.enum_told-1.given.1
 
@@ -96,12 +96,12 @@ shape_of-row_quotient c = c.row_quotient_into.auto.out
 pub returns-in-Fine : goal.returns-in-Fine
 unfolding first_round_call circuit_of
 returns-in-Fine c =
-    let d = (goal.at.returns-in-Fine c).After-judge_round-fault in
-    let s = start d in
+    let d = (goal.at.returns-in-Fine c).In-Fine in
+    let s = start (goal.at.In-Fine d).After-judge_round-fault in
     let a = s.args in
     let F = fits d in
     let k : Circuit = circuit_of (given a.r a.c a.x a.ea.now a.eb.now a.ec.now) in
-    fill_done (a.witness.now, a.row_quotient.now) (matched d.enum_told-1.given.1 (judgement d))
+    fill_done (a.witness.now, a.row_quotient.now) (matched d.enum_told-1.given.1 (judgement (goal.at.In-Fine d).After-judge_round-fault))
     (ap₂ (λ (l m : List ℕ). (l, m))
     (c.witness_into.ensures baby_bear known-prime k refl refl)
     (c.row_quotient_into.ensures baby_bear known-prime baby_bear-qualifies k F.fits.well_formed refl refl refl

@@ -46,7 +46,7 @@ abbrev points : Start → List ℕ
 points s = s.args.alpha ∷ s.args.beta ∷ []
 
 abbrev start : After-judge_round-fault → Start
-start c = c.before.before.before.before.before.before.before.before.before.before.before.before.before.before.before
+start c = (goal.at.After-judge_round-fault c).Start
 
 judgement : (c : After-judge_round-fault)
     → fault_refusal c.judge_round-fault.result
@@ -58,9 +58,9 @@ judgement c =
 
 -- nothing was refused
 fits : (c : In-Fine)
-    → let s = start c.before.before in InputFits (input s) (lent s) (due s) (challenges s) (points s)
+    → let s = start (goal.at.In-Fine c).After-judge_round-fault in InputFits (input s) (lent s) (due s) (challenges s) (points s)
 fits c =
-    let j = c.before.before in
+    let j = (goal.at.In-Fine c).After-judge_round-fault in
     let s = start j in
     input_fits (input s) (lent s) (due s) (challenges s) (points s) j.judge_round-fault.result (judgement j) c.enum_told-1.given.1
 
@@ -92,8 +92,8 @@ pub returns-in-Fine : goal.returns-in-Fine
 unfolding fourth_round_call lengths sizes_of circuit_of
 returns-in-Fine c =
     let v = c in
-    let d = v.before.before.before.before.before.before.before.before.before.before.before.before in
-    let s = start d in
+    let d = (goal.at.returns-in-Fine v).In-Fine in
+    let s = start (goal.at.In-Fine d).After-judge_round-fault in
     let a = s.args in
     let F = fits d in
     let k : Circuit = circuit_of (given a.r a.c a.x a.ea.now a.eb.now a.ec.now) in
@@ -101,7 +101,7 @@ returns-in-Fine c =
     v.values_into.ensures baby_bear k
     (matrix-given known-prime baby_bear-qualifies a.r a.c a.x a.ea.now a.eb.now a.ec.now)
     (challenged F.fits a.alpha a.beta [] F.outside) in
-    fill_three-done (matched d.enum_told-1.given.1 (judgement d)) made.are_values
+    fill_three-done (matched d.enum_told-1.given.1 (judgement (goal.at.In-Fine d).After-judge_round-fault)) made.are_values
     (three_of a.ga.now a.gb.now a.gc.now)
     (three_same (each (λ M. words (matrix_remainder {q = baby_bear} k (of a.alpha) (of a.beta) M)))
     made.remainder-a made.remainder-b made.remainder-c)

@@ -36,15 +36,15 @@ points s = s.args.alpha ∷ s.args.beta ∷ s.args.gamma ∷ []
 
 judgement : (c : After-judge_round-fault)
     → fault_refusal c.judge_round-fault.result
-    ≡ round_refusal baby_bear (input c.before.before.before.before.before.before.before.before.before) (lent c.before.before.before.before.before.before.before.before.before) (due c.before.before.before.before.before.before.before.before.before) (challenges c.before.before.before.before.before.before.before.before.before) (points c.before.before.before.before.before.before.before.before.before)
+    ≡ round_refusal baby_bear (input (goal.at.After-judge_round-fault c).Start) (lent (goal.at.After-judge_round-fault c).Start) (due (goal.at.After-judge_round-fault c).Start) (challenges (goal.at.After-judge_round-fault c).Start) (points (goal.at.After-judge_round-fault c).Start)
 judgement c = c.judge_round-fault.ensures baby_bear baby_bear-qualifies refl
 
 -- nothing was refused
 fits : (c : In-Fine)
-    → let s = c.before.before.before.before.before.before.before.before.before.before.before in InputFits (input s) (lent s) (due s) (challenges s) (points s)
+    → let s = (goal.at.In-Fine c).Start in InputFits (input s) (lent s) (due s) (challenges s) (points s)
 fits c =
-    let j = c.before.before in
-    let s = j.before.before.before.before.before.before.before.before.before in
+    let j = (goal.at.In-Fine c).After-judge_round-fault in
+    let s = (goal.at.After-judge_round-fault j).Start in
     input_fits (input s) (lent s) (due s) (challenges s) (points s) j.judge_round-fault.result (judgement j) c.enum_told-1.given.1
 
 pub open_all-all-requires : goal.open_all-all-requires
@@ -52,16 +52,16 @@ open_all-all-requires c =
     let a = c.args in
     record {
       lt_p = lit< tt;
-      fits = (fits (goal.at.open_all-all-requires c).In-Fine).ranges;
-      points_outside = points_outside baby_bear-known a.alpha a.beta a.gamma (fits (goal.at.open_all-all-requires c).In-Fine).outside;
+      fits = (fits c).ranges;
+      points_outside = points_outside baby_bear-known a.alpha a.beta a.gamma (fits c).outside;
     }
 
 pub returns-in-Fine : goal.returns-in-Fine
 unfolding openings_call
 returns-in-Fine c =
     let o = c in
-    let d = o.before.before.before.before.before.before.before in
-    done _ (matched d.enum_told-1.given.1 (judgement d)) (o.open_all-all.ensures baby_bear known-prime)
+    let d = o in
+    done _ (matched d.enum_told-1.given.1 (judgement (goal.at.returns-in-Fine d).After-judge_round-fault)) (o.open_all-all.ensures baby_bear known-prime)
 
 pub returns-in-Refused : goal.returns-in-Refused
 unfolding openings_call

@@ -40,20 +40,20 @@ points s = s.args.alpha ∷ []
 
 judgement : (c : After-judge_round-fault)
     → fault_refusal c.judge_round-fault.result
-    ≡ round_refusal baby_bear (input c.before.before.before.before.before.before.before.before.before) (lent c.before.before.before.before.before.before.before.before.before) (due c.before.before.before.before.before.before.before.before.before) (challenges c.before.before.before.before.before.before.before.before.before) (points c.before.before.before.before.before.before.before.before.before)
+    ≡ round_refusal baby_bear (input (goal.at.After-judge_round-fault c).Start) (lent (goal.at.After-judge_round-fault c).Start) (due (goal.at.After-judge_round-fault c).Start) (challenges (goal.at.After-judge_round-fault c).Start) (points (goal.at.After-judge_round-fault c).Start)
 judgement c = c.judge_round-fault.ensures baby_bear baby_bear-qualifies refl
 
 -- nothing was refused
 fits : (c : In-Fine)
-    → let s = c.before.before.before.before.before.before.before.before.before.before.before in InputFits (input s) (lent s) (due s) (challenges s) (points s)
+    → let s = (goal.at.In-Fine c).Start in InputFits (input s) (lent s) (due s) (challenges s) (points s)
 fits c =
-    let j = c.before.before in
-    let s = j.before.before.before.before.before.before.before.before.before in
+    let j = (goal.at.In-Fine c).After-judge_round-fault in
+    let s = (goal.at.After-judge_round-fault j).Start in
     input_fits (input s) (lent s) (due s) (challenges s) (points s) j.judge_round-fault.result (judgement j) c.enum_told-1.given.1
 
 pub sums_at-requires : goal.sums_at-requires
 sums_at-requires c =
-    let F = fits (goal.at.sums_at-requires c).In-Fine in
+    let F = fits c in
     record {
       lt_p = lit< tt;
       r_value = R-fits F.fits;
@@ -63,14 +63,14 @@ sums_at-requires c =
 pub returns-in-Fine : goal.returns-in-Fine
 unfolding second_round_call circuit_of
 returns-in-Fine c =
-    let d = (goal.at.returns-in-Fine c).After-judge_round-fault in
-    let s = d.before.before.before.before.before.before.before.before.before in
+    let d = (goal.at.returns-in-Fine c).In-Fine in
+    let s = (goal.at.In-Fine d).Start in
     let a = s.args in
     let F = fits d in
     let k : Circuit = circuit_of (given a.r a.c a.x a.ea.now a.eb.now a.ec.now) in
     let assigned = assignment_in baby_bear (input s) in
     done (map_three (λ (e : Elem baby_bear). e.word) (sums k assigned (of a.alpha)))
-    (matched d.enum_told-1.given.1 (judgement d))
+    (matched d.enum_told-1.given.1 (judgement (goal.at.In-Fine d).After-judge_round-fault))
     (c.sums_at.ensures baby_bear known-prime baby_bear-qualifies k F.fits.well_formed refl refl assigned
     (assignment_on-C F.fits refl baby_bear-qualifies a.mask))
 

@@ -41,7 +41,7 @@ abbrev points : Start → List ℕ
 points s = s.args.alpha ∷ []
 
 abbrev start : After-judge_round-fault → Start
-start c = c.before.before.before.before.before.before.before.before.before.before.before.before.before
+start c = (goal.at.After-judge_round-fault c).Start
 
 judgement : (c : After-judge_round-fault)
     → fault_refusal c.judge_round-fault.result
@@ -53,9 +53,9 @@ judgement c =
 
 -- nothing was refused
 fits : (c : In-Fine)
-    → let s = start c.before.before in InputFits (input s) (lent s) (due s) (challenges s) (points s)
+    → let s = start (goal.at.In-Fine c).After-judge_round-fault in InputFits (input s) (lent s) (due s) (challenges s) (points s)
 fits c =
-    let j = c.before.before in
+    let j = (goal.at.In-Fine c).After-judge_round-fault in
     let s = start j in
     input_fits (input s) (lent s) (due s) (challenges s) (points s) j.judge_round-fault.result (judgement j) c.enum_told-1.given.1
 
@@ -81,12 +81,12 @@ shape_of-quotient c = c.line_into.auto.quotient
 pub returns-in-Fine : goal.returns-in-Fine
 unfolding third_round_call lengths sizes_of circuit_of
 returns-in-Fine c =
-    let l = c.before.before.before.before in
-    let d = l.before.before.before.before.before in
-    let s = start d in
+    let l = (goal.at.returns-in-Fine c).After-line_into in
+    let d = l in
+    let s = start (goal.at.After-line_into d).After-judge_round-fault in
     let a = s.args in
     let made = l.line_into.ensures baby_bear known-prime baby_bear-qualifies in
-    fill_done (a.remainder.now, a.quotient.now) (matched d.enum_told-1.given.1 (judgement d))
+    fill_done (a.remainder.now, a.quotient.now) (matched d.enum_told-1.given.1 (judgement (goal.at.After-line_into d).After-judge_round-fault))
     (ap₂ (λ (l m : List ℕ). (l, m)) made.0 made.1)
 
 pub returns-in-Refused : goal.returns-in-Refused

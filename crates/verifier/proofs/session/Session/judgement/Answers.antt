@@ -30,7 +30,7 @@ passed : (c : In-Fine) → let a = c.args in
     InTurn 6 a.self.stage (sizes a.self.sizes) × LeftBySteps baby_bear (session_meaning a.self)
 passed c =
     let a = c.args in
-    let free = judged c.before.before ∙ ap fault_refusal c.enum_told-1.given.1 in
+    let free = judged (goal.at.In-Fine c).After-judge_openings ∙ ap fault_refusal c.enum_told-1.given.1 in
     let (turn, left, _) = (openings-passes baby_bear (session_meaning a.self) (openings a.o a.index)).0 free in
     (turn, left_by_steps_lem baby_bear (session_meaning a.self) left)
 
@@ -39,9 +39,9 @@ whole : (s : Start) → length s.args.self.x ≡ max_size
 whole s = sym (length-map s.args.self.x (λ w. w)) ∙ s.well_formed.0.1.1.1.1.0.1.0.1
 
 -- the public words lie within them
-within : (c : In-Fine) → let s = c.before.before.before.before.before.before.before in s.args.self.sizes.x ≤ length s.args.self.x
+within : (c : In-Fine) → let s = (goal.at.In-Fine c).Start in s.args.self.sizes.x ≤ length s.args.self.x
 within c =
-    let s = c.before.before.before.before.before.before.before in
+    let s = (goal.at.In-Fine c).Start in
     let n = sizes s.args.self.sizes in
     omega (arith, whole s, size_bound n.|X| (allowed n (all_true (six_size_tests n) (passed c).0.sizes-allowed)).X-size)
 
@@ -72,6 +72,6 @@ returns-in-Refused c = rw (judged (goal.at.returns-in-Refused c).After-judge_ope
 pub returns-in-Fine : goal.returns-in-Fine
 unfolding ask_step verdict_of
 returns-in-Fine c =
-    let t = (goal.at.returns-in-Fine c).After-judge_openings in
-    rw (judged t ∙ ap fault_refusal t.enum_told-1.given.1)
+    let t = c in
+    rw (judged (goal.at.returns-in-Fine t).After-judge_openings ∙ ap fault_refusal t.enum_told-1.given.1)
     (ap Judged (c.verdict-verdict.ensures baby_bear baby_bear-known.known baby_bear-qualifies))
