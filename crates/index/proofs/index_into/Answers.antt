@@ -21,15 +21,12 @@ rows_fit s = size_bound _ s.requires.circuit_shaped.R-size
 columns_fit : (s : Start) → s.args.c ≤ 1024
 columns_fit s = size_bound _ s.requires.circuit_shaped.C-size
 
-abbrev begun : After-fill_powers-2 → Start
-begun c = (goal.at.After-fill_powers-2 c).Start
-
 module _ (c : After-fill_powers-2) where
   abbrev m : ℕ
-  m = (begun c).args.r
+  m = c.args.r
 
   abbrev n : ℕ
-  n = (begun c).args.c
+  n = c.args.c
 
   abbrev rows : List ℕ
   rows = take m (returned 1024 m c.fill_powers.new.out)
@@ -38,28 +35,28 @@ module _ (c : After-fill_powers-2) where
   columns = take n (returned 1024 n c.fill_powers-2.new.out)
 
   rows-length : m ≡ length rows
-  rows-length = back_length 1024 (rows_fit (begun c)) c.fill_powers.new.out c.fill_powers.auto.out
+  rows-length = back_length 1024 (rows_fit (goal.at.After-fill_powers-2 c).Start) c.fill_powers.new.out c.fill_powers.auto.out
 
   columns-length : n ≡ length columns
-  columns-length = back_length 1024 (columns_fit (begun c)) c.fill_powers-2.new.out c.fill_powers-2.auto.out
+  columns-length = back_length 1024 (columns_fit (goal.at.After-fill_powers-2 c).Start) c.fill_powers-2.new.out c.fill_powers-2.auto.out
 
   some-rows : 0 < length rows
-  some-rows = subst (λ (k : ℕ). 0 < k) rows-length (size_positive _ (begun c).requires.circuit_shaped.R-size)
+  some-rows = subst (λ (k : ℕ). 0 < k) rows-length (size_positive _ c.requires.circuit_shaped.R-size)
 
   some-columns : 0 < length columns
-  some-columns = subst (λ (k : ℕ). 0 < k) columns-length (size_positive _ (begun c).requires.circuit_shaped.C-size)
+  some-columns = subst (λ (k : ℕ). 0 < k) columns-length (size_positive _ c.requires.circuit_shaped.C-size)
 
-  both_listed : (q : Prime) → Known q (begun c).args.p → (k : Circuit) → k.|R| ≡ m → k.|C| ≡ n → Listed q k rows columns
+  both_listed : (q : Prime) → Known q c.args.p → (k : Circuit) → k.|R| ≡ m → k.|C| ≡ n → Listed q k rows columns
   both_listed q known k er ec =
       let e = c in
       record {
-        R-size = ap is_size er ∙ (begun c).requires.circuit_shaped.R-size;
-        C-size = ap is_size ec ∙ (begun c).requires.circuit_shaped.C-size;
+        R-size = ap is_size er ∙ c.requires.circuit_shaped.R-size;
+        C-size = ap is_size ec ∙ c.requires.circuit_shaped.C-size;
         R-words =
-            listed q e.fill_powers.last.1.1.0 er (rows_fit (begun c)) e.fill_powers.kept.1.1.0
+            listed q e.fill_powers.last.1.1.0 er (rows_fit (goal.at.After-fill_powers-2 c).Start) e.fill_powers.kept.1.1.0
             (e.root_of.ensures q known) (e.fill_powers.ensures q known.value);
         C-words =
-            listed q c.fill_powers-2.new.out ec (columns_fit (begun c)) c.fill_powers-2.auto.out
+            listed q c.fill_powers-2.new.out ec (columns_fit (goal.at.After-fill_powers-2 c).Start) c.fill_powers-2.auto.out
             (c.root_of-2.ensures q known) (c.fill_powers-2.ensures q known.value);
       }
 
@@ -84,17 +81,17 @@ fill_powers-requires-2 c = c.requires.lt_p
 pub slice_bounds-rows-end-2 : goal.slice_bounds-rows-end-2
 slice_bounds-rows-end-2 c =
     let f = c in
-    back_holds 1024 (rows_fit (begun (goal.at.slice_bounds-rows-end-2 c).After-fill_powers-2)) f.fill_powers.last.1.1.0 f.fill_powers.kept.1.1.0
+    back_holds 1024 (rows_fit (goal.at.slice_bounds-rows-end-2 c).Start) f.fill_powers.last.1.1.0 f.fill_powers.kept.1.1.0
 
 pub slice_bounds-columns-end-2 : goal.slice_bounds-columns-end-2
 slice_bounds-columns-end-2 c =
-    let f = (goal.at.slice_bounds-columns-end-2 c).After-fill_powers-2 in
-    back_holds 1024 (columns_fit (begun f)) f.fill_powers-2.new.out f.fill_powers-2.auto.out
+    let f = c in
+    back_holds 1024 (columns_fit (goal.at.slice_bounds-columns-end-2 f).Start) f.fill_powers-2.new.out f.fill_powers-2.auto.out
 
 pub index_matrix_into-requires : goal.index_matrix_into-requires
 index_matrix_into-requires c =
     let f = (goal.at.index_matrix_into-requires c).After-fill_powers-2 in
-    let h = (begun f).pre in
+    let h = f.requires in
     record {
       lt_p = h.0;
       rows_nonzero = (some-rows f, (some-columns f, h.1.0.lists.list-a));
@@ -104,7 +101,7 @@ index_matrix_into-requires c =
 pub index_matrix_into-requires-2 : goal.index_matrix_into-requires-2
 index_matrix_into-requires-2 c =
     let f = (goal.at.index_matrix_into-requires-2 c).After-fill_powers-2 in
-    let h = (begun f).pre in
+    let h = f.requires in
     record {
       lt_p = h.0;
       rows_nonzero = (some-rows f, (some-columns f, h.1.0.lists.list-b));
@@ -114,7 +111,7 @@ index_matrix_into-requires-2 c =
 pub index_matrix_into-requires-3 : goal.index_matrix_into-requires-3
 index_matrix_into-requires-3 c =
     let f = (goal.at.index_matrix_into-requires-3 c).After-fill_powers-2 in
-    let h = (begun f).pre in
+    let h = f.requires in
     record {
       lt_p = h.0;
       rows_nonzero = (some-rows f, (some-columns f, h.1.0.lists.list-c));

@@ -13,16 +13,12 @@ use Rattle.domain.proofs.SizeLaws.{size_bound}
 use Rattle.poly.proofs.LentParts.{array, part_order}
 use Rattle.transform.specs.Reading.{CoefficientTables}
 use Rattle.index.proofs.interpolate_in_place.Goals as goal
-use Rattle.index.proofs.interpolate_in_place.Goals.{After-copy_front, Start}
-
--- the start, from the copy
-abbrev start : After-copy_front → Start
-start c = (goal.at.After-copy_front c).Start
+use Rattle.index.proofs.interpolate_in_place.Goals.{After-copy_front}
 
 -- the first words of the array are the values
-copied : (c : After-copy_front) → let l : List ℕ = (start c).args.out.now in take (length l) c.copy_front.new.out ≡ l
+copied : (c : After-copy_front) → let l : List ℕ = c.args.out.now in take (length l) c.copy_front.new.out ≡ l
 copied c =
-    let l : List ℕ = (start c).args.out.now in
+    let l : List ℕ = c.args.out.now in
     ap (take (length l)) c.copy_front.ensures ∙ take_at l (drop (length l) (array 1024)) (length l) refl
 
 pub copy_front-requires : goal.copy_front-requires
@@ -30,23 +26,23 @@ copy_front-requires c = size_bound _ c.requires.out_value
 
 pub slice_bounds-values-end : goal.slice_bounds-values-end
 slice_bounds-values-end c =
-    let f = (goal.at.slice_bounds-values-end c).After-copy_front in
-    omega (arith, size_bound _ (start f).requires.out_value, f.copy_front.auto.out)
+    let f = c in
+    omega (arith, size_bound _ f.requires.out_value, f.copy_front.auto.out)
 
 pub interpolate_with-requires : goal.interpolate_with-requires
 interpolate_with-requires c =
     let f = (goal.at.interpolate_with-requires c).After-copy_front in
-    let s = start f in
+    let s = f in
     let long = ap length (sym (copied f)) in record {
-      lt_p = s.pre.0;
-      out_len = (long, ap is_size (sym long) ∙ s.pre.1.0);
-      values_in_bounds = (part_order long s.pre.1.1.0, part_order long s.pre.1.1.1);
+      lt_p = s.requires.lt_p;
+      out_len = (long, ap is_size (sym long) ∙ s.requires.out_value);
+      values_in_bounds = (part_order long s.requires.out_in_bounds.0, part_order long s.requires.out_in_bounds.1);
     }
 
 pub returns : goal.returns
 returns c q known tables =
     let f = (goal.at.returns c).After-copy_front in
-    let a = (start f).args in
+    let a = f.args in
     c.interpolate_with.ensures q (known-qualifies known) known.value
     (subst (λ (m : ℕ). CoefficientTables q m a.powers.now a.quotients.now) (ap length (sym (copied f))) tables)
     ∙ ap (λ l. words (interpolate (length l) (map (of {q = q}) l))) (copied f)

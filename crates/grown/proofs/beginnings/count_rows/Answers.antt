@@ -14,24 +14,21 @@ use Rattle.protocol.proofs.EntryLists.{length-entries_of}
 use Rattle.circuit.proofs.Entries.{entry_at}
 use Rattle.grown.proofs.BeginningLaws.{counts_after, counts-none, count-within, counts_turn, counts_end}
 use Rattle.grown.proofs.beginnings.count_rows.Goals as goal
-use Rattle.grown.proofs.beginnings.count_rows.Goals.{In-loop-i, Start}
-
-abbrev start : In-loop-i → Start
-start c = (goal.at.In-loop-i c).Start
+use Rattle.grown.proofs.beginnings.count_rows.Goals.{In-loop-i}
 
 row_below : (c : In-loop-i)
-    → let a = (start c).args in get_or a.entries.now (3 * c.loop-i.i) 0 < length a.out.now
+    → let a = c.args in get_or a.entries.now (3 * c.loop-i.i) 0 < length a.out.now
 row_below c =
-    let s = start c in
+    let s = c in
     let l : List ℕ = s.args.entries.now in
     let i : ℕ = c.loop-i.i in
     let n : ℕ = length s.args.out.now in
     let below : i < length (entries_of l) = omega (arith, length-entries_of l) in
     subst (λ (e : Entry). e.row < n) (entry_at l i (entry_words l i) below)
-    (all-at (λ (e : Entry). e.row < n) (entries_of l) s.pre.1 i (entry_words l i) below)
+    (all-at (λ (e : Entry). e.row < n) (entries_of l) s.requires.all i (entry_words l i) below)
 
 row_within : (c : In-loop-i)
-    → get_or (start c).args.entries.now (3 * c.loop-i.i) 0 < length c.clear.new.out
+    → get_or c.args.entries.now (3 * c.loop-i.i) 0 < length c.clear.new.out
 row_within c = omega (arith, row_below c, c.clear.auto.out)
 
 pub loop-i-init : goal.loop-i-init
@@ -68,14 +65,14 @@ pub overflow_add-out : goal.overflow_add-out
 overflow_add-out c =
     let turn = (goal.at.overflow_add-out c).In-loop-i in
     let l = turn.loop-i in
-    let words : List ℕ = (start turn).args.entries.now in
+    let words : List ℕ = turn.args.entries.now in
     let row : ℕ = get_or words (3 * l.i) 0 in
     let n : ℕ = length turn.clear.new.out in
     omega (
       arith,
       ap (λ (out : List ℕ). get_or out row 0) l.invariant.2,
       count-within (entries_of words) n l.i row (omega (arith, length-entries_of words)) (row_within turn),
-      (start turn).requires.entries_len_bound,
+      turn.requires.entries_len_bound,
     )
 
 pub bounds-out-row-in-loop-i : goal.bounds-out-row-in-loop-i
@@ -91,7 +88,7 @@ pub loop-i-preserved : goal.loop-i-preserved
 loop-i-preserved c =
     let turn = (goal.at.loop-i-preserved c).In-loop-i in
     let l = turn.loop-i in
-    let words : List ℕ = (start turn).args.entries.now in
+    let words : List ℕ = turn.args.entries.now in
     let es : List Entry = entries_of words in
     let e : Entry = entry_words words l.i in
     let n : ℕ = length turn.clear.new.out in

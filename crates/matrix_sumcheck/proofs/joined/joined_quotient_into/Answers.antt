@@ -15,9 +15,6 @@ use Rattle.matrix_sumcheck.proofs.GivenLaws.{three-within, lent-list}
 use Rattle.matrix_sumcheck.proofs.joined.joined_quotient_into.Goals as goal
 use Rattle.matrix_sumcheck.proofs.joined.joined_quotient_into.Goals.{After-distances_into, After-distances_into-2, After-lagrange_values_into, After-lagrange_values_into-2, Start}
 
-abbrev outset : After-distances_into-2 → Start
-outset c = start (at_rows (c.before.before.before.before.before.before))
-
 -- |R| and |C| words fit into an array, and as they are lent they are sizes
 rows_fit : (s : Start) → s.args.r ≤ 1024
 rows_fit s = size_bound _ s.requires.circuit_shaped.R-size
@@ -59,8 +56,8 @@ row-distances-length c =
     back_length 1024 (rows_fit (start (c.before.before.before.before.before.before))) (row-distances c) c.distances_into.auto.out
 
 column-distances-length :
-    (c : After-distances_into-2) → let n : ℕ = (outset c).args.c in n ≡ length (take n (returned 1024 n (column-distances c)))
-column-distances-length c = back_length 1024 (columns_fit (outset c)) (column-distances c) c.distances_into-2.auto.out
+    (c : After-distances_into-2) → let n : ℕ = c.args.c in n ≡ length (take n (returned 1024 n (column-distances c)))
+column-distances-length c = back_length 1024 (columns_fit (goal.at.After-distances_into-2 c).Start) (column-distances c) c.distances_into-2.auto.out
 
 pub slice_bounds-rows-end : goal.slice_bounds-rows-end
 slice_bounds-rows-end c = rows_fit (goal.at.slice_bounds-rows-end c).Start
@@ -116,14 +113,14 @@ slice_bounds-rowDistances-end-2 c =
 pub slice_bounds-columnDistances-end-2 : goal.slice_bounds-columnDistances-end-2
 slice_bounds-columnDistances-end-2 c =
     let d = (goal.at.slice_bounds-columnDistances-end-2 c).After-distances_into-2 in
-    back_holds 1024 (columns_fit (outset d)) (column-distances d) d.distances_into-2.auto.out
+    back_holds 1024 (columns_fit (goal.at.After-distances_into-2 d).Start) (column-distances d) d.distances_into-2.auto.out
 
 pub joined_by_lists-requires : goal.joined_by_lists-requires
 joined_by_lists-requires c =
     let d = (goal.at.joined_by_lists-requires c).After-distances_into-2 in
     let e = (goal.at.After-distances_into-2 d).After-distances_into in
     let l = (goal.at.After-distances_into e).After-lagrange_values_into-2 in
-    let pre = (outset d).requires in record {
+    let pre = d.requires in record {
       modulus = pre.0;
       three_within = three-within pre.1.0 pre.1.1.0 (rows-length (goal.at.After-lagrange_values_into-2 l).After-lagrange_values_into) (columns-length l);
       three_within_2 = three-within pre.1.0 pre.1.1.0 (row-distances-length e) (column-distances-length d);

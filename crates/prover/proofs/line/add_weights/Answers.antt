@@ -9,10 +9,6 @@ use Rattle.protocol.specs.Calls.{entries_of}
 use Rattle.prover.specs.EntrySums.{column_total}
 use Rattle.prover.proofs.LineLaws.{then, gather, columns-within}
 use Rattle.prover.proofs.line.add_weights.Goals as goal
-use Rattle.prover.proofs.line.add_weights.Goals.{After-add_column_sums, After-add_column_sums-3}
-
-abbrev at_a : After-add_column_sums-3 → After-add_column_sums
-at_a c = (goal.at.After-add_column_sums-3 c).After-add_column_sums
 
 pub add_column_sums-requires : goal.add_column_sums-requires
 add_column_sums-requires c =
@@ -45,17 +41,17 @@ add_column_sums-requires-3 c =
 
 pub shape_of-out : goal.shape_of-out
 shape_of-out c =
-    let last = (goal.at.shape_of-out c).After-add_column_sums-3 in
+    let last = c in
     last.add_column_sums-3.auto.out
     ∙ last.add_column_sums-2.auto.out
-    ∙ (at_a last).add_column_sums.auto.out
+    ∙ last.add_column_sums.auto.out
 
 pub returns : goal.returns
 unfolding weighted
 returns c q e =
-    let last = (goal.at.returns c).After-add_column_sums-3 in
-    let a = (start (at_a last)).args in
-    let first = (at_a last).add_column_sums in
+    let last = c in
+    let a = (last.before.before.before.before.before.before.before.before.before.before.before.before.before.before.before).args in
+    let first = last.add_column_sums in
     let second = last.add_column_sums-2 in
     let third = last.add_column_sums-3 in
     let n : ℕ = length a.out.now in

@@ -44,23 +44,20 @@ challenges s = []
 abbrev points : Start → List ℕ
 points s = []
 
-abbrev start : After-judge_round-fault → Start
-start c = (goal.at.After-judge_round-fault c).Start
-
 judgement : (c : After-judge_round-fault)
     → fault_refusal c.judge_round-fault.result
-    ≡ round_refusal baby_bear (input (start c)) (lent (start c)) (due (start c)) (challenges (start c)) (points (start c))
+    ≡ round_refusal baby_bear (input (goal.at.After-judge_round-fault c).Start) (lent (goal.at.After-judge_round-fault c).Start) (due (goal.at.After-judge_round-fault c).Start) (challenges (goal.at.After-judge_round-fault c).Start) (points (goal.at.After-judge_round-fault c).Start)
 judgement c =
-    let s = start c in
+    let s = (goal.at.After-judge_round-fault c).Start in
     c.judge_round-fault.ensures baby_bear baby_bear-qualifies refl
     ∙ ap (λ (l : MessageLengths). round_refusal baby_bear (input s) (lent s) (due_by l) (challenges s) (points s)) c.lengths_of-due.ensures
 
 -- nothing was refused
 fits : (c : In-Fine)
-    → let s = start (goal.at.In-Fine c).After-judge_round-fault in InputFits (input s) (lent s) (due s) (challenges s) (points s)
+    → let s = (goal.at.In-Fine c).Start in InputFits (input s) (lent s) (due s) (challenges s) (points s)
 fits c =
     let j = (goal.at.In-Fine c).After-judge_round-fault in
-    let s = start j in
+    let s = (goal.at.After-judge_round-fault j).Start in
     input_fits (input s) (lent s) (due s) (challenges s) (points s) j.judge_round-fault.result (judgement j) c.enum_told-1.given.1
 
 pub lengths_of-due-requires : goal.lengths_of-due-requires
@@ -97,7 +94,7 @@ pub returns-in-Fine : goal.returns-in-Fine
 unfolding first_round_call circuit_of
 returns-in-Fine c =
     let d = (goal.at.returns-in-Fine c).In-Fine in
-    let s = start (goal.at.In-Fine d).After-judge_round-fault in
+    let s = (goal.at.In-Fine d).Start in
     let a = s.args in
     let F = fits d in
     let k : Circuit = circuit_of (given a.r a.c a.x a.ea.now a.eb.now a.ec.now) in

@@ -40,23 +40,20 @@ challenges s = s.args.alpha ∷ s.args.eta.a ∷ s.args.eta.b ∷ s.args.eta.c �
 abbrev points : Start → List ℕ
 points s = s.args.alpha ∷ []
 
-abbrev start : After-judge_round-fault → Start
-start c = (goal.at.After-judge_round-fault c).Start
-
 judgement : (c : After-judge_round-fault)
     → fault_refusal c.judge_round-fault.result
-    ≡ round_refusal baby_bear (input (start c)) (lent (start c)) (due (start c)) (challenges (start c)) (points (start c))
+    ≡ round_refusal baby_bear (input (goal.at.After-judge_round-fault c).Start) (lent (goal.at.After-judge_round-fault c).Start) (due (goal.at.After-judge_round-fault c).Start) (challenges (goal.at.After-judge_round-fault c).Start) (points (goal.at.After-judge_round-fault c).Start)
 judgement c =
-    let s = start c in
+    let s = (goal.at.After-judge_round-fault c).Start in
     c.judge_round-fault.ensures baby_bear baby_bear-qualifies refl
     ∙ ap (λ (l : MessageLengths). round_refusal baby_bear (input s) (lent s) (due_by l) (challenges s) (points s)) c.lengths_of-due.ensures
 
 -- nothing was refused
 fits : (c : In-Fine)
-    → let s = start (goal.at.In-Fine c).After-judge_round-fault in InputFits (input s) (lent s) (due s) (challenges s) (points s)
+    → let s = (goal.at.In-Fine c).Start in InputFits (input s) (lent s) (due s) (challenges s) (points s)
 fits c =
     let j = (goal.at.In-Fine c).After-judge_round-fault in
-    let s = start j in
+    let s = (goal.at.After-judge_round-fault j).Start in
     input_fits (input s) (lent s) (due s) (challenges s) (points s) j.judge_round-fault.result (judgement j) c.enum_told-1.given.1
 
 pub lengths_of-due-requires : goal.lengths_of-due-requires
@@ -83,7 +80,7 @@ unfolding third_round_call lengths sizes_of circuit_of
 returns-in-Fine c =
     let l = (goal.at.returns-in-Fine c).After-line_into in
     let d = l in
-    let s = start (goal.at.After-line_into d).After-judge_round-fault in
+    let s = d in
     let a = s.args in
     let made = l.line_into.ensures baby_bear known-prime baby_bear-qualifies in
     fill_done (a.remainder.now, a.quotient.now) (matched d.enum_told-1.given.1 (judgement (goal.at.After-line_into d).After-judge_round-fault))
