@@ -54,39 +54,39 @@ record Given (q : Prime) (k : Circuit) (s : Start) : Type 0 where
 
 -- past the words, the entries, the mask, column 0 and the rows
 module _ (q : Prime) (Q : Qualifies q) (k : Circuit) {x : Option Refusal} where
-  pass_words : (c : Else-not-is_fine) → let s = (goal.at.Else-not-is_fine-5 c).Start in Given q k s → x ≡ first (after-words q k s) → x ≡ due q k s
+  pass_words : (c : Else-not-is_fine) → let s = (goal.at.Else-not-is_fine c).Start in Given q k s → x ≡ first (after-words q k s) → x ≡ due q k s
   unfolding contents_refusal
   pass_words c g y =
       let w = c in
-      let s = (goal.at.Else-not-is_fine-5 w).Start in
+      let s = (goal.at.Else-not-is_fine w).Start in
       goes_on w.check_call_words-in_words.result {o = words q k s} (w.check_call_words-in_words.ensures q g.prime k g.matrices) (after-words q k s)
       (sym c.is_fine.ensures ∙ c.if-not-is_fine.false) y
 
-  pass_entries : (c : Else-not-is_fine-2) → let s = (goal.at.Else-not-is_fine-5 c).Start in Given q k s → x ≡ first (after-entries q k s) → x ≡ due q k s
+  pass_entries : (c : Else-not-is_fine-2) → let s = (goal.at.Else-not-is_fine-2 c).Start in Given q k s → x ≡ first (after-entries q k s) → x ≡ due q k s
   pass_entries c g y =
       let e = c in
-      pass_words e.before g
+      pass_words (goal.at.Else-not-is_fine-2 e).Else-not-is_fine g
       (goes_on e.check_three_entries-in_entries.result (e.check_three_entries-in_entries.ensures k g.rows g.columns g.matrices)
-      (after-entries q k (goal.at.Else-not-is_fine-5 e).Start) (sym c.is_fine-2.ensures ∙ c.if-not-is_fine-2.false) y)
+      (after-entries q k (goal.at.Else-not-is_fine-2 e).Start) (sym c.is_fine-2.ensures ∙ c.if-not-is_fine-2.false) y)
 
-  pass_mask : (c : Else-not-is_fine-3) → let s = (goal.at.Else-not-is_fine-5 c).Start in Given q k s → x ≡ first (after-mask q k s) → x ≡ due q k s
+  pass_mask : (c : Else-not-is_fine-3) → let s = (goal.at.Else-not-is_fine-3 c).Start in Given q k s → x ≡ first (after-mask q k s) → x ≡ due q k s
   pass_mask c g y =
       let m = c in
-      pass_entries m.before g
-      (goes_on m.check_mask-in_mask.result (m.check_mask-in_mask.ensures q Q g.prime k g.columns) (after-mask q k (goal.at.Else-not-is_fine-5 m).Start)
+      pass_entries (goal.at.Else-not-is_fine-3 m).Else-not-is_fine-2 g
+      (goes_on m.check_mask-in_mask.result (m.check_mask-in_mask.ensures q Q g.prime k g.columns) (after-mask q k (goal.at.Else-not-is_fine-3 m).Start)
       (sym c.is_fine-3.ensures ∙ c.if-not-is_fine-3.false) y)
 
-  pass_constant : (c : Else-not-is_fine-4) → let s = (goal.at.Else-not-is_fine-5 c).Start in Given q k s → x ≡ first (after-constant q k s) → x ≡ due q k s
+  pass_constant : (c : Else-not-is_fine-4) → let s = (goal.at.Else-not-is_fine-4 c).Start in Given q k s → x ≡ first (after-constant q k s) → x ≡ due q k s
   pass_constant c g y =
       let o = c in
-      pass_mask o.before g
-      (goes_on o.judge_constant-in_constant.result o.judge_constant-in_constant.ensures (after-constant q k (goal.at.Else-not-is_fine-5 o).Start)
+      pass_mask (goal.at.Else-not-is_fine-4 o).Else-not-is_fine-3 g
+      (goes_on o.judge_constant-in_constant.result o.judge_constant-in_constant.ensures (after-constant q k (goal.at.Else-not-is_fine-4 o).Start)
       (sym c.is_fine-4.ensures ∙ c.if-not-is_fine-4.false) y)
 
   pass_rows : (c : Else-not-is_fine-5) → let s = (goal.at.Else-not-is_fine-5 c).Start in Given q k s → x ≡ first (after-rows q k s) → x ≡ due q k s
   pass_rows c g y =
       let r = c in
-      pass_constant r.before g
+      pass_constant (goal.at.Else-not-is_fine-5 r).Else-not-is_fine-4 g
       (goes_on r.check_assignment-in_rows.result (r.check_assignment-in_rows.ensures q g.prime k g.rows g.matrices) (after-rows q k (goal.at.Else-not-is_fine-5 r).Start)
       (sym c.is_fine-5.ensures ∙ c.if-not-is_fine-5.false) y)
 

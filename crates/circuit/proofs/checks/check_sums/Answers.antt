@@ -13,13 +13,6 @@ use Rattle.protocol.specs.Refusals.{refuse, assignment_refusal}
 use Rattle.protocol.specs.Calls.{entries_of}
 use Rattle.circuit.specs.Given.{Within}
 use Rattle.circuit.proofs.checks.check_sums.Goals as goal
-use Rattle.circuit.proofs.checks.check_sums.Goals.{After-check_rows, After-row_sums, After-row_sums-2}
-
-abbrev at_b : After-check_rows → After-row_sums-2
-at_b c = (goal.at.After-check_rows c).After-row_sums-2
-
-abbrev at_a : After-check_rows → After-row_sums
-at_a c = (at_b c).before.before.before.before
 
 pub row_sums-requires-2 : goal.row_sums-requires-2
 row_sums-requires-2 c =
@@ -43,10 +36,10 @@ pub check_rows-requires : goal.check_rows-requires
 check_rows-requires c = omega arith
 
 pub shape_of-left : goal.shape_of-left
-shape_of-left c = (at_a c).row_sums.auto.out
+shape_of-left c = c.row_sums.auto.out
 
 pub shape_of-right : goal.shape_of-right
-shape_of-right c = (at_b c).row_sums-2.auto.out
+shape_of-right c = c.row_sums-2.auto.out
 
 pub shape_of-product : goal.shape_of-product
 shape_of-product c = c.row_sums-3.auto.out
@@ -54,10 +47,10 @@ shape_of-product c = c.row_sums-3.auto.out
 pub returns : goal.returns
 unfolding assignment_refusal
 returns c q e k rows matrices =
-    let s = start (at_a c) in
+    let s = c in
     let z : List (Elem q) = map of s.args.z.now in
     c.check_rows.ensures q e (length s.args.left.now) (row_sum k A z) (row_sum k B z) (row_sum k C z)
-    ((at_a c).row_sums.ensures q e k A (ap (λ t. t.a) matrices))
-    ((at_b c).row_sums-2.ensures q e k B (ap (λ t. t.b) matrices) ∙ ap (λ (n : ℕ). words (tabulate n (row_sum k B z))) s.pre.1.0.0)
-    (c.row_sums-3.ensures q e k C (ap (λ t. t.c) matrices) ∙ ap (λ (n : ℕ). words (tabulate n (row_sum k C z))) s.pre.1.0.1)
+    (c.row_sums.ensures q e k A (ap (λ t. t.a) matrices))
+    (c.row_sums-2.ensures q e k B (ap (λ t. t.b) matrices) ∙ ap (λ (n : ℕ). words (tabulate n (row_sum k B z))) s.requires.right_len.0)
+    (c.row_sums-3.ensures q e k C (ap (λ t. t.c) matrices) ∙ ap (λ (n : ℕ). words (tabulate n (row_sum k C z))) s.requires.right_len.1)
     ∙ ap (λ (n : ℕ). refuse 9 0 (tabulate n (λ i. equal (row_sum k A z i ⊗ row_sum k B z i) (row_sum k C z i)))) (sym rows)

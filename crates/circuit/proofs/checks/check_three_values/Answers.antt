@@ -38,7 +38,7 @@ module _ (k : Circuit) where
   pass_a c matrices y =
       let v = c in
       goes_on v.check_values-fault.result v.check_values-fault.ensures (after-a (goal.at.Else-not-is_fine v).Start) (sym c.is_fine.ensures ∙ c.if-not-is_fine.false) y
-      ∙ in_parts v.before.before.before.before matrices
+      ∙ in_parts (goal.at.Else-not-is_fine c).Start matrices
 
 pub check_values-fault-requires : goal.check_values-fault-requires
 check_values-fault-requires c = omega arith
