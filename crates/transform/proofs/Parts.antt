@@ -4,7 +4,7 @@ use mathlib.Core.Path.{◌≡◌, sym, ap, ap₂, ◌∙◌, subst⁻¹}
 use mathlib.Core.List.{List, [], ◌∷◌, ◌++◌, map}
 use Prim.Native.Nat.{ℕ, suc, ◌+◌, ◌*◌, ◌/◌, ◌^◌}
 use native.Mathlib.Omega.{arith}
-use native.Mathlib.Nat.{mul-zero, mul-add, add-mul}
+use native.Mathlib.Nat.{mul-zero, mul-one, mul-add, add-mul}
 use lib.ListN.{length, get_or, length-append, length-map}
 use Rattle.algebra.specs.Lists.{tabulate}
 use Rattle.algebra.proofs.ListLaws.{tabulate_ext}
@@ -41,7 +41,7 @@ module _ {q : Prime} (factor : ℕ) (input : List ℕ) where
       ap (λ n. odds (tabulate n (taken from step))) (twice k) ∙ odds-tabulate (2 ^ k) (taken from step)
       ∙ tabulate_ext (2 ^ k) _ _ (λ i l.
       let e : from + step * (i + i + 1) ≡ from + step + (step + step) * i =
-      omega (arith, mul-add step (i + i) 1, mul-add step i i, native.Mathlib.Nat.mul-one step, add-mul step step i) in
+      omega (arith, mul-add step (i + i) 1, mul-add step i i, mul-one step, add-mul step step i) in
       ap (λ n. of factor ⊗ of (get_or input n 0)) e)
 
   pub part_single : (w : Elem q) (from step : ℕ) → part 0 w from step ≡ (of factor ⊗ of (get_or input from 0)) ∷ []

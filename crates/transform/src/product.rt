@@ -1,5 +1,5 @@
 // The product of two polynomials of length n, given by their values on the domain of size n, divided by v_D = Y^n - 1: its remainder from
-// values on the domain, and its quotient from values on a coset typeof.s.D too, on which v_D is the constant s^n - 1. Here root is g_n, and
+// values on the domain, and its quotient from values on a coset s·D too, on which v_D is the constant s^n - 1. Here root is g_n, and
 // powers and quotients are the tables of transforms of length n: for coefficients where nothing else is said.
 ghost use Rattle.std.specs.Prelude.{◌≡◌, true, ◌≢◌, map, ◌+◌, ◌≤◌, ◌<◌, length, get_or};
 ghost use Rattle.algebra.specs.Lists.{tabulate};
@@ -62,7 +62,7 @@ fn remainder_from(
     interpolate_with(p, powers, quotients, &products[..n], out);
 }
 
-// f(typeof.s.Y) into the slice.
+// f(s·Y) into the slice.
 fn twist_into(p: u32, s: u32, f: &[u32], out: &mut [u32])
     requires lt_p { 1 < p }
     requires f_len { length f.now ≡ length out.old }
@@ -77,7 +77,7 @@ fn twist_into(p: u32, s: u32, f: &[u32], out: &mut [u32])
     }
 }
 
-// The values of f on the coset into the slice: those of f(typeof.s.Y) on the domain. The tables are those for values.
+// The values of f on the coset into the slice: those of f(s·Y) on the domain. The tables are those for values.
 fn coset_values_into(p: u32, powers: &[u32], quotients: &[u32], s: u32, f: &[u32], out: &mut [u32])
     requires lt_p { 1 < p }
     requires out_value { is_size (length out.old) ≡ true }
@@ -93,7 +93,7 @@ fn coset_values_into(p: u32, powers: &[u32], quotients: &[u32], s: u32, f: &[u32
     evaluate_with(p, powers, quotients, &twisted[..n], out);
 }
 
-// The remainder of f(typeof.s.Y)·g(typeof.s.Y) by v_D into the slice.
+// The remainder of f(s·Y)·g(s·Y) by v_D into the slice.
 fn coset_remainder_into(
     p: u32,
     root: u32,

@@ -12,7 +12,7 @@ returns c q e k size =
     let quotients = c.prepare_all in
     record {
       levels =
-          table-levels (of a.g) a.powers.now first.last.1.1.0 folds.last.0 first.kept.1.1.0 (first.ensures q e)
+          table-levels (of a.g) a.powers.now first.new.out folds.new.powers first.auto.out (first.ensures q e)
           folds.ensures k size;
-      prepared = prepared_by_value folds.last.0 quotients.new.quotients (sym e) quotients.ensures;
+      prepared = prepared_by_value folds.new.powers quotients.new.quotients (sym e) quotients.ensures;
     }

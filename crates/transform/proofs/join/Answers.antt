@@ -97,9 +97,8 @@ loop-i-init c = (
 pub bounds-powers-j : goal.bounds-powers-j
 bounds-powers-j c = omega arith
 
-shared-slice-read-multiply-prepared-2 :
-    tie.Need-shared-slice-read-multiply-prepared-2 invariant-loop decreases-loop
-shared-slice-read-multiply-prepared-2 c = omega arith
+pub bounds-quotients-j : goal.bounds-quotients-j
+bounds-quotients-j c = omega arith
 
 pub bounds-out-j-in-loop-i : goal.bounds-out-j-in-loop-i
 bounds-out-j-in-loop-i c = simp length-set (omega arith)
@@ -107,7 +106,7 @@ bounds-out-j-in-loop-i c = simp length-set (omega arith)
 pub loop-i-preserved : goal.loop-i-preserved
 loop-i-preserved c =
     let l = c.loop-i in
-    let a = (c.before.before.before.before.before.before.before.before.before.before.before.before.before.before.before.before).args in
+    let a = c.args in
     let i : ℕ = l.i in
     let h : ℕ = length a.out.now / 2 in
     let below : i < h = omega arith in (

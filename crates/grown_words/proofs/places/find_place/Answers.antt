@@ -10,7 +10,7 @@ use Rattle.grown_words.proofs.places.find_place.Goals as goal
 use Rattle.grown_words.proofs.places.find_place.Goals.{In-loop-count}
 
 -- the word that a turn reads is the column in the middle
-middle : (turn : In-loop-count) → let t = (goal.at.In-loop-count turn).At-loop-count in let a = t.args in
+middle : (turn : In-loop-count) → let t = turn in let a = t.args in
     let k = t.loop-count.from + t.loop-count.count / 2 in
     get_or a.circuit.now (t.entries_place-entries.result + 3 * k + 1) 0 ≡ column_at a.circuit.now a.matrix k
 middle turn =

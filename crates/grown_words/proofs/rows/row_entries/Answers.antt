@@ -23,23 +23,23 @@ module _ (f : After-find_row_entries) where
   found_within told = rw told at f.find_row_entries.ensures.within
 
 pub overflow_add-result : goal.overflow_add-result
-overflow_add-result c = omega (arith, found_within (goal.at.overflow_add-result c).After-find_row_entries c.start-1.given.1)
+overflow_add-result c = omega (arith, found_within (goal.at.overflow_add-result c).After-find_row_entries c.in-At.is)
 
 pub offset_bounds-circuit-start : goal.offset_bounds-circuit-start
 offset_bounds-circuit-start c =
-    omega (arith, found_within (goal.at.offset_bounds-circuit-start c).After-find_row_entries c.start-1.given.1, c.requires)
+    omega (arith, found_within (goal.at.offset_bounds-circuit-start c).After-find_row_entries c.in-At.is, c.requires)
 
 pub slice_bounds-result-end : goal.slice_bounds-result-end
-slice_bounds-result-end c = omega (arith, found_within (goal.at.slice_bounds-result-end c).After-find_row_entries c.start-1.given.1)
+slice_bounds-result-end c = omega (arith, found_within (goal.at.slice_bounds-result-end c).After-find_row_entries c.in-At.is)
 
 pub returns-in-At : goal.returns-in-At
 returns-in-At c =
     let f = (goal.at.returns-in-At c).After-find_row_entries in
     let a = f.args in
-    let start = c.start-1.given.0.0 in
-    let len = c.start-1.given.0.1.0 in
+    let start = c.in-At.start in
+    let len = c.in-At.len in
     let long : start + len - start ≡ len = omega arith in
-    ap (λ n. take n (drop start a.circuit.now)) long ∙ rw c.start-1.given.1 at (part-found f)
+    ap (λ n. take n (drop start a.circuit.now)) long ∙ rw c.in-At.is at (part-found f)
 
 pub returns-in-Refused : goal.returns-in-Refused
-returns-in-Refused c = rw c.enum_told-1.given.1 at (part-found (goal.at.returns-in-Refused c).After-find_row_entries)
+returns-in-Refused c = rw c.in-Refused.is at (part-found (goal.at.returns-in-Refused c).After-find_row_entries)

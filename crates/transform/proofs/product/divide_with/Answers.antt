@@ -21,10 +21,6 @@ use Rattle.poly.proofs.LentParts.{part_order, returned, lent_length, back_holds,
 use Rattle.transform.specs.Reading.{CoefficientTables}
 use Rattle.transform.proofs.CosetWords.{known_shift, shift_outside, shift_not-zero}
 use Rattle.transform.proofs.product.divide_with.Goals as goal
-use Rattle.transform.proofs.product.divide_with.Goals.{After-coset_remainder_into, After-interpolate_with-2, Start}
-
-bound : (c : Start) → length c.args.left.now ≤ 1024
-bound c = size_bound (length c.args.left.now) c.requires.left_value
 
 fewer : {k m : ℕ} → k + 1 ≡ m → k ≤ m
 fewer e = omega arith
@@ -32,40 +28,18 @@ fewer e = omega arith
 product-length : {q : Prime} (f g : Poly q) (k m : ℕ) → length f ≡ m → length g ≡ m → 0 < m → k + 1 ≡ m → length (f ⊠ g) ≡ k + m
 product-length {q} f g k m f_length g-length positive e = omega (arith, length-product (prime_ring q) f g (omega arith) (omega arith))
 
--- the coefficients of g in their array, and their length
-module _ (c : After-interpolate_with-2) where
-  abbrev start : Start
-  start = c.before.before.before.before.before.before.before.before.before.before.before.before.before
-
-  abbrev n : ℕ
-  n = length start.args.left.now
-
-  abbrev other : List ℕ
-  other = c.interpolate_with-2.new.out
-
-  other_length : n ≡ length (take n (returned 1024 n other))
-  other_length = back_length 1024 (bound start) other c.interpolate_with-2.auto.out
-
--- the remainder on the coset, and its length
-module _ (c : After-coset_remainder_into) where
-  abbrev at_other : After-interpolate_with-2
-  at_other = c.before.before.before.before.before.before.before.before
-
-  abbrev turned : List ℕ
-  turned = c.coset_remainder_into.new.out
-
-  turned_length : n at_other ≡ length (take (n at_other) (returned 1024 (n at_other) turned))
-  turned_length = back_length 1024 (bound (start at_other)) turned c.coset_remainder_into.auto.out
-
 pub slice_bounds-other-end : goal.slice_bounds-other-end
-slice_bounds-other-end c = bound (goal.at.slice_bounds-other-end c).Start
+slice_bounds-other-end c = size_bound (length c.args.left.now) c.requires.left_value
+
+pub slice_bounds-interpolate_with-end : goal.slice_bounds-interpolate_with-end
+slice_bounds-interpolate_with-end c = lent_length 1024 (size_bound (length c.args.left.now) c.requires.left_value)
 
 pub interpolate_with-requires-2 : goal.interpolate_with-requires-2
 interpolate_with-requires-2 c =
-    let s = (goal.at.interpolate_with-requires-2 c).Start in
+    let s = c in
     let right : length s.args.right.now ≡ length s.args.left.now = s.requires.right_len.0 in record {
       lt_p = s.requires.modulus.0;
-      out_len = (sym (lent_length 1024 (bound s)) ∙ sym right, ap is_size right ∙ s.requires.left_value);
+      out_len = (sym (lent_length 1024 (size_bound (length s.args.left.now) s.requires.left_value)) ∙ sym right, ap is_size right ∙ s.requires.left_value);
       values_in_bounds = (part_order (sym right) s.requires.left_in_bounds.0, part_order (sym right) s.requires.left_in_bounds.1);
     }
 
@@ -81,34 +55,42 @@ remainder_from-requires c =
 
 pub slice_bounds-other-end-2 : goal.slice_bounds-other-end-2
 slice_bounds-other-end-2 c =
-    let o = (goal.at.slice_bounds-other-end-2 c).After-interpolate_with-2 in
-    back_holds 1024 (bound (start o)) (other o) o.interpolate_with-2.kept.1.1.1.1.0
+    back_holds 1024 (size_bound (length c.args.left.now) c.requires.left_value) c.interpolate_with-2.new.out c.interpolate_with-2.auto.out
+
+pub slice_bounds-coset_remainder_into-end : goal.slice_bounds-coset_remainder_into-end
+slice_bounds-coset_remainder_into-end c =
+    back_length 1024 (size_bound (length c.args.left.now) c.requires.left_value) c.interpolate_with-2.new.out c.interpolate_with-2.auto.out
 
 pub slice_bounds-turned-end : goal.slice_bounds-turned-end
-slice_bounds-turned-end c = bound (goal.at.slice_bounds-turned-end c).Start
+slice_bounds-turned-end c = size_bound (length c.args.left.now) c.requires.left_value
+
+pub slice_bounds-coset_remainder_into-end-2 : goal.slice_bounds-coset_remainder_into-end-2
+slice_bounds-coset_remainder_into-end-2 c = lent_length 1024 (size_bound (length c.args.left.now) c.requires.left_value)
 
 pub coset_remainder_into-requires : goal.coset_remainder_into-requires
 coset_remainder_into-requires c =
-    let s = (goal.at.coset_remainder_into-requires c).Start in
-    let part = lent_length 1024 (bound s) in record {
+    let s = c in
+    let part = lent_length 1024 (size_bound (length s.args.left.now) s.requires.left_value) in record {
       lt_p = s.requires.modulus.0;
       out_value = ap is_size (sym part) ∙ s.requires.left_value;
       f_len = (
         c.interpolate_with.auto.out
             ∙ s.requires.right_len.1 ∙ part,
-        sym (other_length (goal.at.coset_remainder_into-requires c).After-interpolate_with-2) ∙ part,
+        sym (back_length 1024 (size_bound (length c.args.left.now) c.requires.left_value) c.interpolate_with-2.new.out c.interpolate_with-2.auto.out) ∙ part,
       );
       out_in_bounds = (part_order part s.requires.left_in_bounds.0, part_order part s.requires.left_in_bounds.1);
     }
 
 pub overflow_cast-n : goal.overflow_cast-n
-overflow_cast-n c = omega (arith, bound (goal.at.overflow_cast-n c).Start)
+overflow_cast-n c = omega (arith, size_bound (length c.args.left.now) c.requires.left_value)
 
 pub slice_bounds-turned-end-2 : goal.slice_bounds-turned-end-2
 slice_bounds-turned-end-2 c =
-    let t = (goal.at.slice_bounds-turned-end-2 c).After-coset_remainder_into in
-    back_holds 1024 (bound (goal.at.slice_bounds-turned-end-2 c).Start) (turned t)
-    t.coset_remainder_into.auto.out
+    back_holds 1024 (size_bound (length c.args.left.now) c.requires.left_value) c.coset_remainder_into.new.out c.coset_remainder_into.auto.out
+
+pub slice_bounds-quotient_from-end : goal.slice_bounds-quotient_from-end
+slice_bounds-quotient_from-end c =
+    back_length 1024 (size_bound (length c.args.left.now) c.requires.left_value) c.coset_remainder_into.new.out c.coset_remainder_into.auto.out
 
 pub quotient_from-requires : goal.quotient_from-requires
 quotient_from-requires c =
@@ -119,34 +101,34 @@ quotient_from-requires c =
       n_value = s.requires.left_value;
       outside_domain = (shift_outside s.requires.modulus.1 _ s.requires.left_value, shift_not-zero s.requires.modulus.1);
       out_in_bounds = (
-        subst (λ (k : ℕ). m ≤ k) (sym ((remainder-from-from-coset-remainder-into
-            c.before.before.before.before).remainder_from.auto.out ∙ s.requires.rest_len.0)) less,
-        subst (λ (k : ℕ). m ≤ k) (turned_length (goal.at.quotient_from-requires c).After-coset_remainder_into) less,
+        subst (λ (k : ℕ). m ≤ k) (sym (c.remainder_from.auto.out ∙ s.requires.rest_len.0)) less,
+        subst (λ (k : ℕ). m ≤ k) (back_length 1024 (size_bound (length c.args.left.now) c.requires.left_value) c.coset_remainder_into.new.out c.coset_remainder_into.auto.out) less,
       );
     }
 
 pub returns : goal.returns
 returns c q known root-word tables =
-    let o = (goal.at.returns c).After-interpolate_with-2 in
-    let s = start o in
-    let a = s.args in
-    let m : ℕ = n o in
-    let size : is_size m ≡ true = s.pre.1.0 in
-    let right-length : length a.right.now ≡ m = s.pre.1.1.1.0.0 in
-    let rest-length : length a.rest.now ≡ m = s.pre.1.1.1.1.0 in
-    let out-length : length a.out.now + 1 ≡ m = s.pre.1.1.1.1.1 in
+    let a = c.args in
+    let m : ℕ = length a.left.now in
+    let size : is_size m ≡ true = c.requires.left_value in
+    let right-length : length a.right.now ≡ m = c.requires.right_len.0 in
+    let rest-length : length a.rest.now ≡ m = c.requires.rest_len.0 in
+    let out-length : length a.out.now + 1 ≡ m = c.requires.rest_len.1 in
+    let fits = size_bound m size in
+    let other : List ℕ = c.interpolate_with-2.new.out in
+    let turned : List ℕ = c.coset_remainder_into.new.out in
     let Q = known-qualifies known in
     let e = known.value in
     let at : (k : ℕ) → m ≡ k → CoefficientTables q k a.powers.now a.quotients.now =
     λ k same. subst (λ (k : ℕ). CoefficientTables q k a.powers.now a.quotients.now) same tables in
-    let part : m ≡ _ = lent_length 1024 (bound s) in
+    let part : m ≡ _ = lent_length 1024 fits in
     let f : Poly q = interpolate m (map of a.left.now) in
     let g : Poly q = interpolate m (map of a.right.now) in
     let factor : List ℕ = c.interpolate_with.new.out in
     let is_factor : factor ≡ words f = c.interpolate_with.ensures q Q e tables in
-    let is-other : map of (take m (returned 1024 m (other o))) ≡ g =
-    back_list 1024 (bound s) (other o) o.interpolate_with-2.kept.1.1.1.1.0 g
-    (o.interpolate_with-2.ensures q Q e (at _ (sym right-length))
+    let is-other : map of (take m (returned 1024 m other)) ≡ g =
+    back_list 1024 fits other c.interpolate_with-2.auto.out g
+    (c.interpolate_with-2.ensures q Q e (at _ (sym right-length))
     ∙ ap (λ (k : ℕ). words {q = q} (interpolate k (map of a.right.now))) right-length) in
     let is-rest : _ ≡ words (remainder m (f ⊠ g)) =
     c.remainder_from.ensures q Q e (at _ (sym rest-length)) f g
@@ -155,12 +137,11 @@ returns c q known root-word tables =
     (sym (ap (λ (k : ℕ). values_on k g) rest-length
     ∙ values-interpolate Q m size (map of a.right.now) (length-map a.right.now (of {q = q}) ∙ right-length)))
     ∙ ap (λ (k : ℕ). words (remainder k (f ⊠ g))) rest-length in
-    let t = (goal.at.returns c).After-coset_remainder_into in
     let twisted : Poly q → Poly q = twist (prime_ring q) (of 31) in
-    let is_turned : take m (returned 1024 m (turned t)) ≡ words (remainder m (twisted f ⊠ twisted g)) =
-    back_is 1024 (bound s) (turned t) t.coset_remainder_into.kept.1.1.1.1.1.1.1.0
-    ∙ t.coset_remainder_into.ensures q Q e (root-word ∙ ap (λ (k : ℕ). (root {q = q} k).word) part) (at _ part)
-    ∙ ap (λ (k : ℕ). words {q = q} (remainder k (twisted (map of factor) ⊠ twisted (map of (take m (returned 1024 m (other o)))))))
+    let is_turned : take m (returned 1024 m turned) ≡ words (remainder m (twisted f ⊠ twisted g)) =
+    back_is 1024 fits turned c.coset_remainder_into.auto.out
+    ∙ c.coset_remainder_into.ensures q Q e (root-word ∙ ap (λ (k : ℕ). (root {q = q} k).word) part) (at _ part)
+    ∙ ap (λ (k : ℕ). words {q = q} (remainder k (twisted (map of factor) ⊠ twisted (map of (take m (returned 1024 m other))))))
     (sym part)
     ∙ ap₂ (λ (x y : Poly q). words (remainder m (twisted x ⊠ twisted y))) (of_results f is_factor) is-other in
     let long : length (f ⊠ g) ≡ length a.out.now + m =

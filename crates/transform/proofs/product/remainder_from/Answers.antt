@@ -13,62 +13,51 @@ use Rattle.poly.proofs.LentParts.{part_order, returned, lent_length, back_holds,
 use Rattle.transform.specs.Reading.{CoefficientTables}
 use Rattle.transform.proofs.CosetWords.{product-words}
 use Rattle.transform.proofs.product.remainder_from.Goals as goal
-use Rattle.transform.proofs.product.remainder_from.Goals.{After-products_into, Start}
-
-bound : (c : Start) → length c.args.out.now ≤ 1024
-bound c = size_bound (length c.args.out.now) c.requires.out_value
-
--- the start, from the products, and their length
-abbrev start : After-products_into → Start
-start c = c.before.before.before.before.before.before.before
-
-module _ (c : After-products_into) where
-  abbrev n : ℕ
-  n = length (start c).args.out.now
-
-  abbrev made : List ℕ
-  made = c.products_into.new.out
-
-  made_length : n ≡ length (take n (returned 1024 n made))
-  made_length = back_length 1024 (bound (start c)) made c.products_into.auto.out
 
 pub slice_bounds-products-end : goal.slice_bounds-products-end
-slice_bounds-products-end c = bound (goal.at.slice_bounds-products-end c).Start
+slice_bounds-products-end c = size_bound (length c.args.out.now) c.requires.out_value
+
+pub slice_bounds-products_into-end : goal.slice_bounds-products_into-end
+slice_bounds-products_into-end c = lent_length 1024 (size_bound (length c.args.out.now) c.requires.out_value)
 
 pub products_into-requires : goal.products_into-requires
 products_into-requires c =
-    let s = (goal.at.products_into-requires c).Start in
-    let part = lent_length 1024 (bound s) in
+    let part = lent_length 1024 (size_bound (length c.args.out.now) c.requires.out_value) in
     record {
-      p_nonzero = omega (arith, s.requires.lt_p);
-      left_len = (s.requires.left_len.0 ∙ part, s.requires.left_len.1 ∙ part);
+      p_nonzero = omega (arith, c.requires.lt_p);
+      left_len = (c.requires.left_len.0 ∙ part, c.requires.left_len.1 ∙ part);
     }
 
 pub slice_bounds-products-end-2 : goal.slice_bounds-products-end-2
 slice_bounds-products-end-2 c =
-    let m = (goal.at.slice_bounds-products-end-2 c).After-products_into in
-    back_holds 1024 (bound (start m)) (made m) m.products_into.auto.out
+    back_holds 1024 (size_bound (length c.args.out.now) c.requires.out_value) c.products_into.new.out c.products_into.auto.out
+
+pub slice_bounds-interpolate_with-end : goal.slice_bounds-interpolate_with-end
+slice_bounds-interpolate_with-end c =
+    back_length 1024 (size_bound (length c.args.out.now) c.requires.out_value) c.products_into.new.out c.products_into.auto.out
 
 pub interpolate_with-requires : goal.interpolate_with-requires
 interpolate_with-requires c =
-    let m = (goal.at.interpolate_with-requires c).After-products_into in
-    let s = start m in
-    let long = made_length m in record {
-      lt_p = s.pre.0;
-      out_len = (long, ap is_size (sym long) ∙ s.pre.1.0);
-      values_in_bounds = (part_order long s.pre.1.1.1.0, part_order long s.pre.1.1.1.1);
+    let fits = size_bound (length c.args.out.now) c.requires.out_value in
+    let long = back_length 1024 fits c.products_into.new.out c.products_into.auto.out in
+    record {
+      lt_p = c.requires.lt_p;
+      out_len = (long, ap is_size (sym long) ∙ c.requires.out_value);
+      values_in_bounds = (part_order long c.requires.out_in_bounds.0, part_order long c.requires.out_in_bounds.1);
     }
 
 pub returns : goal.returns
 returns c q Q e tables f g of_left of_right =
-    let m = (goal.at.returns c).After-products_into in
-    let s = start m in
-    let a = s.args in
+    let a = c.args in
+    let n : ℕ = length a.out.now in
+    let fits = size_bound n c.requires.out_value in
+    let made : List ℕ = c.products_into.new.out in
+    let long = back_length 1024 fits made c.products_into.auto.out in
     let rule : ℕ → Elem q = λ i. of (get_or a.left.now i 0) ⊗ of (get_or a.right.now i 0) in
-    let values : map of (take (n m) (returned 1024 (n m) (made m))) ≡ tabulate (n m) rule =
-    back_list 1024 (bound s) (made m) m.products_into.kept.1.1.1.0 (tabulate (n m) rule)
-    (m.products_into.ensures q e ∙ ap (λ (k : ℕ). words (tabulate k rule)) (sym (lent_length 1024 (bound s)))) in
+    let values : map of (take n (returned 1024 n made)) ≡ tabulate n rule =
+    back_list 1024 fits made c.products_into.auto.out (tabulate n rule)
+    (c.products_into.ensures q e ∙ ap (λ (k : ℕ). words (tabulate k rule)) (sym (lent_length 1024 fits))) in
     c.interpolate_with.ensures q Q e (subst (λ (k : ℕ). CoefficientTables q k a.powers.now a.quotients.now)
-    (made_length m) tables)
-    ∙ ap₂ (λ (k : ℕ) (l : List (Elem q)). words (interpolate k l)) (sym (made_length m)) values
-    ∙ ap words (product-words Q (n m) s.pre.1.0 f g a.left.now a.right.now of_left of_right)
+    long tables)
+    ∙ ap₂ (λ (k : ℕ) (l : List (Elem q)). words (interpolate k l)) (sym long) values
+    ∙ ap words (product-words Q n c.requires.out_value f g a.left.now a.right.now of_left of_right)
