@@ -20,7 +20,7 @@ use Rattle.record_writer.proofs.judging.lengths_fault.Goals.{After-section_bound
 -- the row of the lengths, and the refusal by it, from where the bounds are known
 module _ (b : After-section_bounds-bounds) where
   abbrev start : Start
-  start = b.before.before.before
+  start = (goal.at.After-section_bounds-bounds b).Start
 
   abbrev tests : List Bool
   tests = pairs eqb start.args.found.now b.section_lengths-due.result
@@ -30,7 +30,7 @@ module _ (b : After-section_bounds-bounds) where
 
   rows : length_refusals (sizes start.args.s) start.args.found.now start.args.lent ≡ first (refuse 5 0 tests ∷ lent_row ∷ [])
   rows =
-      length-rows (sizes start.args.s) start.args.found.now _ _ start.args.lent start.pre.1
+      length-rows (sizes start.args.s) start.args.found.now _ _ start.args.lent start.requires.1
       b.section_lengths-due.ensures b.section_bounds-bounds.ensures
 
   length_tests : length tests ≡ 11
@@ -38,13 +38,13 @@ module _ (b : After-section_bounds-bounds) where
       omega (
         arith,
         length_pairs eqb start.args.found.now b.section_lengths-due.result,
-        start.pre.1,
+        start.requires.1,
         length-due (sizes start.args.s) b.section_lengths-due.ensures,
       )
 
   test_at : (k : ℕ) → k < 11 → get_or tests k false ≡ eqb (get_or start.args.found.now k 0) (get_or b.section_lengths-due.result k 0)
   test_at k below =
-      pairs-at eqb start.args.found.now b.section_lengths-due.result k 0 0 false (omega (arith, start.pre.1))
+      pairs-at eqb start.args.found.now b.section_lengths-due.result k 0 0 false (omega (arith, start.requires.1))
       (omega (arith, length-due (sizes start.args.s) b.section_lengths-due.ensures))
 
 pub section_bounds-bounds-requires : goal.section_bounds-bounds-requires

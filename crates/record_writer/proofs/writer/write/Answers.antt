@@ -79,7 +79,7 @@ returns c q e =
     let n = filled in
     let w = n in
     let j = (goal.at.returns w).After-shape_fault-shape in
-    let words-fine = sym n.is_fine-2.ensures ∙ n.if-not-is_fine-2.false in
+    let words_fine = sym n.is_fine-2.ensures ∙ n.if-not-is_fine-2.false in
     write_done q (given j) (parts j) (length (lent j)) (lent j) filled.fill_record.new.out
-    (shape_free (goal.at.returns w).Else-not-is_fine) (fine_none w.sections_fault-word.result (w.sections_fault-word.ensures ∙ word_row q e (joined (parts j))) words-fine)
+    (shape_free (goal.at.returns w).Else-not-is_fine) (fine_none w.sections_fault-word.result (w.sections_fault-word.ensures ∙ word_row q e (joined (parts j))) words_fine)
     filled.fill_record.ensures
