@@ -56,32 +56,28 @@ loop-k-init c = (omega arith, passed_none 3 0 _)
 
 pub returns-then-trailer_word-given : goal.returns-then-trailer_word-given
 returns-then-trailer_word-given c =
-    let l = c in
-    let b = (goal.at.returns-then-trailer_word-given l).After-section_bounds-given in
-    let stops = passed_stop 3 0 (pairs eqb (found b) (given b)) l.loop-k.k l.loop-k.invariant.1 (omega (arith, length_tests b)) false
-    l.loop-k.k (omega arith)
-    (test_at b l.loop-k.k (omega arith) ∙ ne_eqb _ _ (λ e. c.if-trailer_word-given.true (c.trailer_word.ensures ∙ e))) in
+    let b = (goal.at.returns-then-trailer_word-given c).After-section_bounds-given in
+    let stops = passed_stop 3 0 (pairs eqb (found b) (given b)) c.loop-k.k c.loop-k.invariant.1 (omega (arith, length_tests b)) false
+    c.loop-k.k (omega arith)
+    (test_at b c.loop-k.k (omega arith) ∙ ne_eqb _ _ (λ e. c.if-trailer_word-given.true (c.trailer_word.ensures ∙ e))) in
     sym (rows b ∙ first_stop (total_row b ∷ []) (sym stops))
 
 pub loop-k-preserved : goal.loop-k-preserved
 loop-k-preserved c =
-    let l = c in
-    let b = (goal.at.loop-k-preserved l).After-section_bounds-given in (
+    let b = (goal.at.loop-k-preserved c).After-section_bounds-given in (
       search rules,
-      passed_turn 3 0 (pairs eqb (found b) (given b)) l.loop-k.k l.loop-k.invariant.1 (omega (arith, length_tests b)) false
-          (test_at b l.loop-k.k (omega arith) ∙ eq-eqb _ _ (sym c.trailer_word.ensures ∙ c.if-trailer_word-given.false)),
+      passed_turn 3 0 (pairs eqb (found b) (given b)) c.loop-k.k c.loop-k.invariant.1 (omega (arith, length_tests b)) false
+          (test_at b c.loop-k.k (omega arith) ∙ eq-eqb _ _ (sym c.trailer_word.ensures ∙ c.if-trailer_word-given.false)),
     )
 
 pub returns-then-bytes-given : goal.returns-then-bytes-given
 returns-then-bytes-given c =
-    let l = c in
-    let b = (goal.at.returns-then-bytes-given l).After-section_bounds-given in
-    let passes = passed_end 3 0 (pairs eqb (found b) (given b)) l.loop-k.k l.loop-k.invariant.1 (omega (arith, length_tests b)) in
+    let b = (goal.at.returns-then-bytes-given c).After-section_bounds-given in
+    let passes = passed_end 3 0 (pairs eqb (found b) (given b)) c.loop-k.k c.loop-k.invariant.1 (omega (arith, length_tests b)) in
     sym (rows b ∙ first_pass (total_row b) passes ∙ ap (λ t. refuse 3 17 (t ∷ [])) (ne_eqb _ _ c.if-bytes-given.true))
 
 pub returns : goal.returns
 returns c =
-    let l = c in
-    let b = (goal.at.returns l).After-section_bounds-given in
-    let passes = passed_end 3 0 (pairs eqb (found b) (given b)) l.loop-k.k l.loop-k.invariant.1 (omega (arith, length_tests b)) in
+    let b = (goal.at.returns c).After-section_bounds-given in
+    let passes = passed_end 3 0 (pairs eqb (found b) (given b)) c.loop-k.k c.loop-k.invariant.1 (omega (arith, length_tests b)) in
     sym (rows b ∙ first_pass (total_row b) passes ∙ ap (λ t. refuse 3 17 (t ∷ [])) (eq-eqb _ _ c.if-bytes-given.false))

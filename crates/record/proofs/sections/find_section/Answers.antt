@@ -59,9 +59,8 @@ module _ (b : After-section_bounds-bounds) where
 
 pub returns-in-Refused : goal.returns-in-Refused
 returns-in-Refused c =
-    let j = c in
-    let a = j.args in
-    let stopped = sym j.layout_fault.ensures ∙ ap fault_refusal c.in-Refused.is in
+    let a = c.args in
+    let stopped = sym c.layout_fault.ensures ∙ ap fault_refusal c.in-Refused.is in
     record {
       result_value = λ q e. sym (place_by_layout q a.bytes.now a.k stopped);
       within = tt;
