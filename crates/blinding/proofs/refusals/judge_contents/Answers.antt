@@ -43,17 +43,17 @@ record Given (q : Prime) (k : Circuit) (s : Start) : Type 0 where
 
 -- past the words and the entries
 module _ (q : Prime) (k : Circuit) {x : Option Refusal} where
-  pass_words : (c : Else-not-is_fine) → let s = (goal.at.Else-not-is_fine-2 c).Start in Given q k s → x ≡ first (after-words q k s) → x ≡ due q k s
+  pass_words : (c : Else-not-is_fine) → let s = (goal.at.Else-not-is_fine c).Start in Given q k s → x ≡ first (after-words q k s) → x ≡ due q k s
   unfolding contents_refusal
   pass_words c g y =
       let w = c in
-      goes_on w.check_call_words-in_words.result {o = words q k (goal.at.Else-not-is_fine-2 w).Start} (w.check_call_words-in_words.ensures q g.prime k g.matrices)
-      (after-words q k (goal.at.Else-not-is_fine-2 w).Start) (sym c.is_fine.ensures ∙ c.if-not-is_fine.false) y
+      goes_on w.check_call_words-in_words.result {o = words q k (goal.at.Else-not-is_fine w).Start} (w.check_call_words-in_words.ensures q g.prime k g.matrices)
+      (after-words q k (goal.at.Else-not-is_fine w).Start) (sym c.is_fine.ensures ∙ c.if-not-is_fine.false) y
 
   pass_entries : (c : Else-not-is_fine-2) → let s = (goal.at.Else-not-is_fine-2 c).Start in Given q k s → x ≡ first (after-entries q k s) → x ≡ due q k s
   pass_entries c g y =
       let e = c in
-      pass_words e.before g
+      pass_words (goal.at.Else-not-is_fine-2 e).Else-not-is_fine g
       (goes_on e.check_three_entries-in_entries.result (e.check_three_entries-in_entries.ensures k g.rows g.columns g.matrices)
       (after-entries q k (goal.at.Else-not-is_fine-2 e).Start) (sym c.is_fine-2.ensures ∙ c.if-not-is_fine-2.false) y)
 

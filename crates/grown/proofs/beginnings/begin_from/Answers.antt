@@ -18,7 +18,7 @@ use Rattle.grown.proofs.beginnings.begin_from.Goals.{After-judge_circuit-fault, 
 -- the start, from the judgement, and the circuit that is given there
 module _ (j : After-judge_circuit-fault) where
   abbrev start : Start
-  start = j.before.before.before.before.before
+  start = (goal.at.After-judge_circuit-fault j).Start
 
   abbrev circuit : CircuitWords
   circuit = let a = start.args in given a.r a.c a.x a.ea.now a.eb.now a.ec.now
@@ -26,18 +26,18 @@ module _ (j : After-judge_circuit-fault) where
 -- past the judgement
 module _ (c : Else-not-is_fine) where
   abbrev judged : After-judge_circuit-fault
-  judged = c.before.before
+  judged = (goal.at.Else-not-is_fine c).After-judge_circuit-fault
 
-  fine : is_fine judged.judge-circuit.result ≡ true
+  fine : is_fine judged.judge_circuit-fault.result ≡ true
   fine = sym c.is_fine.ensures ∙ c.if-not-is_fine.false
 
   fits : let a = (start judged).args in CircuitFits a.r a.c a.x a.ea.now a.eb.now a.ec.now
   fits =
       let a = (start judged).args in
-      let q = (start judged).pre.1 in
+      let q = (start judged).requires.p_value in
       circuit-fits a.r a.c a.x a.ea.now a.eb.now a.ec.now q.0
-      (fine_none judged.judge-circuit.result {o = circuit_refusal q.0 (circuit judged)}
-      (judged.judge-circuit.ensures q.0 q.1) fine)
+      (fine_none judged.judge_circuit-fault.result {o = circuit_refusal q.0 (circuit judged)}
+      (judged.judge_circuit-fault.ensures q.0 q.1) fine)
 
 pub returns-then-not-is_fine : goal.returns-then-not-is_fine
 unfolding begin_from_call circuit_refusal
@@ -52,7 +52,7 @@ store-requires c =
     let s = start (judged (goal.at.store-requires c).Else-not-is_fine) in
     let a = s.args in
     let bound = size_bound a.r F.shape.R-size in record {
-      circuit_len = s.pre.0;
+      circuit_len = s.requires.circuit_len;
       three_lists = F.shape.lists;
       all = rows-below a.r a.c (entries_of a.ea.now) bound F.within.in_a;
       all_2 = rows-below a.r a.c (entries_of a.eb.now) bound F.within.in_b;
@@ -65,5 +65,5 @@ returns c q e =
     let filled = c in
     let d = (goal.at.returns filled).Else-not-is_fine in
     let j = judged d in
-    lent_filled j.judge-circuit.result {o = circuit_refusal q (circuit j)} (j.judge-circuit.ensures q e)
+    lent_filled j.judge_circuit-fault.result {o = circuit_refusal q (circuit j)} (j.judge_circuit-fault.ensures q e)
     (stored (circuit_of (circuit j))) (start j).args.circuit.now (fine d) filled.store.ensures

@@ -33,14 +33,13 @@ row_within c = omega (arith, row_below c, c.clear.auto.out)
 
 pub loop-i-init : goal.loop-i-init
 loop-i-init c =
-    let =.before.before.before.before c.before.before in
-    let a = cleared.args in
+    let a = c.args in
     let n : ℕ = length a.out.now in
-    let zeros = cleared.clear.ensures in (
+    let zeros = c.clear.ensures in (
       omega arith,
       refl,
       zeros ∙ counts-none (entries_of a.entries.now) n
-          ∙ ap (λ (n : ℕ). counts_after (entries_of a.entries.now) n 0) (sym cleared.clear.auto.0),
+          ∙ ap (λ (n : ℕ). counts_after (entries_of a.entries.now) n 0) (sym c.clear.auto.out),
     )
 
 pub overflow_mul-row : goal.overflow_mul-row

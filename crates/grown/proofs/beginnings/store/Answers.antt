@@ -24,13 +24,13 @@ module _ (s : Start) where
 -- with A, and the part for B
 module _ (m : After-store_matrix) where
   abbrev start : Start
-  start = m.before.before.before.before.before.before
+  start = (goal.at.After-store_matrix m).Start
 
   abbrev with_a : List ℕ
-  with_a = put_mid 3 4097 (sized start) m.store_matrix.last.1.0
+  with_a = put_mid 3 4097 (sized start) m.store_matrix.new.out
 
   with_a-length : length with_a ≡ 12294
-  with_a-length = same_len_mid 3 4097 (sized start) m.store_matrix.last.1.0 m.store_matrix.kept.1.0 ∙ sized-length start
+  with_a-length = same_len_mid 3 4097 (sized start) m.store_matrix.new.out m.store_matrix.auto.out ∙ sized-length start
 
   part-b : length (take 4097 (drop 4100 with_a)) ≡ 4097
   part-b = mid_len 4100 8197 with_a (omega (arith, with_a-length))
@@ -38,14 +38,14 @@ module _ (m : After-store_matrix) where
 -- with B, and the part for C
 module _ (m : After-store_matrix-2) where
   abbrev after-a : After-store_matrix
-  after-a = m.before.before.before.before
+  after-a = (goal.at.After-store_matrix-2 m).After-store_matrix
 
   abbrev with_b : List ℕ
-  with_b = put_mid 4100 4097 (with_a after-a) m.store_matrix-2.last.1.0
+  with_b = put_mid 4100 4097 (with_a after-a) m.store_matrix-2.new.out
 
   with_b-length : length with_b ≡ 12294
   with_b-length =
-      same_len_mid 4100 4097 (with_a after-a) m.store_matrix-2.last.1.0 m.store_matrix-2.kept.1.0 ∙ with_a-length after-a
+      same_len_mid 4100 4097 (with_a after-a) m.store_matrix-2.new.out m.store_matrix-2.auto.out ∙ with_a-length after-a
 
   part_c : length (take 4097 (drop 8197 with_b)) ≡ 4097
   part_c = mid_len 8197 12294 with_b (omega (arith, with_b-length))
@@ -59,11 +59,11 @@ slice_bounds-store_matrix-end-2 c = omega (arith, with_a-length (goal.at.slice_b
 pub store_matrix-requires-2 : goal.store_matrix-requires-2
 store_matrix-requires-2 c =
     let m = (goal.at.store_matrix-requires-2 c).After-store_matrix in
-    let given = (start m).requires.1 in
+    let given = (start m).requires in
     record {
       out_len = part-b m;
-      entry_words = given.0.list-b;
-      all = given.1.1.0;
+      entry_words = given.three_lists.list-b;
+      all = given.all_2;
     }
 
 pub slice_bounds-store_matrix-end-3 : goal.slice_bounds-store_matrix-end-3
@@ -72,18 +72,18 @@ slice_bounds-store_matrix-end-3 c = omega (arith, with_b-length (goal.at.slice_b
 pub store_matrix-requires-3 : goal.store_matrix-requires-3
 store_matrix-requires-3 c =
     let m = (goal.at.store_matrix-requires-3 c).After-store_matrix-2 in
-    let given = (start (after-a m)).pre.1 in
+    let given = (start (after-a m)).requires in
     record {
       out_len = part_c m;
-      entry_words = given.0.list-c;
-      all = given.1.1.1;
+      entry_words = given.three_lists.list-c;
+      all = given.all_3;
     }
 
 pub shape_of-circuit : goal.shape_of-circuit
 shape_of-circuit c =
     let b = (goal.at.shape_of-circuit c).After-store_matrix-2 in
     let last = c.store_matrix-3 in
-    same_len_mid 8197 4097 (with_b b) last.new.out last.auto.out ∙ with_b-length b ∙ sym (start (after-a b)).pre.0
+    same_len_mid 8197 4097 (with_b b) last.new.out last.auto.out ∙ with_b-length b ∙ sym (start (after-a b)).requires.circuit_len
 
 pub returns : goal.returns
 returns c =
@@ -91,10 +91,10 @@ returns c =
     let a = after-a b in
     let last = c.store_matrix-3 in
     let given = (start a).args in
-    let ma : List ℕ = a.store-matrix.last.1.0 in
+    let ma : List ℕ = a.store_matrix.new.out in
     let mb : List ℕ = b.store_matrix-2.new.out in
     let mc : List ℕ = last.new.out in
-    circuit_filled given.circuit.now given.r given.c given.x ma mb mc 4097 (start a).pre.0
-    (a.store-matrix.kept.1.0 ∙ part-a (start a)) (b.store_matrix-2.auto.out ∙ part-b a)
+    circuit_filled given.circuit.now given.r given.c given.x ma mb mc 4097 (start a).requires.circuit_len
+    (a.store_matrix.auto.out ∙ part-a (start a)) (b.store_matrix-2.auto.out ∙ part-b a)
     ∙ circuit-stored given.circuit.now given.r given.c given.x given.ea.now given.eb.now given.ec.now ma mb mc
-    a.store-matrix.ensures b.store_matrix-2.ensures last.ensures
+    a.store_matrix.ensures b.store_matrix-2.ensures last.ensures

@@ -27,13 +27,13 @@ module _ (s : Start) where
 -- the words with the counts, and the part for the entries
 module _ (m : After-count_rows) where
   abbrev start : Start
-  start = m.before.before.before.before
+  start = (goal.at.After-count_rows m).Start
 
   abbrev counted : List ℕ
-  counted = put_mid 1 1024 (begun start) m.count_rows.last.1.0
+  counted = put_mid 1 1024 (begun start) m.count_rows.new.out
 
   counted-length : length counted ≡ 4097
-  counted-length = same_len_mid 1 1024 (begun start) m.count_rows.last.1.0 m.count_rows.kept.1.0 ∙ begun-length start
+  counted-length = same_len_mid 1 1024 (begun start) m.count_rows.new.out m.count_rows.auto.out ∙ begun-length start
 
   room : length (take 3072 (drop 1025 counted)) ≡ 3072
   room = mid_len 1025 4097 counted (omega (arith, counted-length))

@@ -28,7 +28,7 @@ fine c = sym c.is_fine.ensures ∙ c.if-not-is_fine.false
 -- what is known once the place is found
 module _ (f : After-find_entry-found) where
   abbrev start : Start
-  start = f.before.before.before.before.before.before.before
+  start = (goal.at.After-find_entry-found f).Start
 
   room : (start.args.matrix < 3) × ((get_or (words start) (total_place start.args.matrix) 0 < max_size) × (start.args.row < max_size))
   room = f.judge_entry-fault.ensures.matrix_bound (fine (goal.at.After-find_entry-found f).Else-not-is_fine)

@@ -3,6 +3,7 @@ use mathlib.Core.Path.{◌≡◌, sym, ap₂, ◌∙◌}
 use mathlib.Core.Bool.{true}
 use Prim.Native.Nat.{ℕ, ◌<◌}
 use native.Mathlib.Omega.{arith}
+use borrow.Author.Tests.{not-true, not-false}
 use Rattle.domain.specs.Size.{max_size}
 use Rattle.protocol.specs.Grown.{occupied, taken_at, without_entry}
 use Rattle.grown.proofs.ChangeLaws.{taken-within, row-few, remove_no_matrix, remove_no_row, remove_vacant, remove_done}
@@ -12,7 +13,7 @@ use Rattle.grown.proofs.changes.remove_entry.Goals.{After-find_entry-found, Else
 -- what is known once the place is found
 module _ (f : After-find_entry-found) where
   abbrev start : Start
-  start = f.before.before.before.before.before
+  start = (goal.at.After-find_entry-found f).Start
 
   matrix : start.args.matrix < 3
   matrix = f.if-matrix-ge-MATRICES.false
@@ -22,7 +23,7 @@ module _ (f : After-find_entry-found) where
 
 -- past the last test: an entry stands there
 there : (c : Else-not-found) → let a = (start (goal.at.Else-not-found c).After-find_entry-found).args in occupied a.circuit.now a.matrix a.row a.column ≡ true
-there c = sym c.find_entry-found.ensures.0 ∙ c.if-not-found.false
+there c = sym c.find_entry-found.ensures.0 ∙ not-false _ c.if-not-found.false
 
 pub returns-then-matrix-ge-MATRICES : goal.returns-then-matrix-ge-MATRICES
 returns-then-matrix-ge-MATRICES c =
@@ -39,7 +40,7 @@ returns-then-not-found c =
     let f = (goal.at.returns-then-not-found c).After-find_entry-found in
     let a = (start f).args in
     remove_vacant a.circuit.now a.matrix a.row a.column (matrix f) (row f)
-    (sym f.find_entry-found.ensures.0 ∙ c.if-not-found.true)
+    (sym f.find_entry-found.ensures.0 ∙ not-true _ c.if-not-found.true)
 
 pub take_entry-requires : goal.take_entry-requires
 take_entry-requires c =
