@@ -55,7 +55,7 @@ module _ {q : Prime} {p r c : ℕ} {l : List ℕ} {k : Circuit} {M : MatrixName}
         ∙ ap₂ (λ (m n : ℕ). factors m n (get_or (at k.matrices M) i no_entry)) G.rows G.columns
         ∙ ap (λ (es : List Entry). factors r c (get_or es i no_entry)) G.matrix
         ∙ ap (factors r c) (entry_or_zeros l i h.words.whole)
-        ∙ sym (product_by_rules r c (λ i. of r ⊗ (α ⊖ element r i)) (λ i. of c ⊗ (β ⊖ element c i)) h D.by_Row D.by_column i)
+        ∙ sym (product_by_rules r c (λ i. of r ⊗ (α ⊖ element r i)) (λ i. of c ⊗ (β ⊖ element c i)) h D.by_row D.by_column i)
 
     -- b_M interpolates the products of the rows' and the columns' distances
     pub denominator_made : (n : ℕ) → n ≡ size_of l → interpolate n (tabulate n place) ≡ denominator k α β M

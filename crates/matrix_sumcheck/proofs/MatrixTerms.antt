@@ -59,8 +59,8 @@ within-at {r} {c} {l} h i = elim (dec_lt i (length (entries_of l))) [
 pub product_by_rules : {q : Prime} {rows columns l : List ℕ} (r c : ℕ) (f g : ℕ → Elem q) → EntriesWithin (length rows) (length columns) l
     → rows ≡ words (tabulate r f) → columns ≡ words (tabulate c g) → (i : ℕ)
     → product_of rows columns (entry_words l i) ≡ f (entry_words l i).row ⊗ g (entry_words l i).column
-product_by_rules r c f g h by_Row by_column i =
-    ap₂ ◌⊗◌ (at_place r f _ by_Row (within-at h i).row_below) (at_place c g _ by_column (within-at h i).column-below)
+product_by_rules r c f g h by_row by_column i =
+    ap₂ ◌⊗◌ (at_place r f _ by_row (within-at h i).row_below) (at_place c g _ by_column (within-at h i).column-below)
 
 module _ {q : Prime} (r c : ℕ) (α β : Elem q) (l : List ℕ) where
   length-terms : length (terms r c α β l) ≡ length l / 3
@@ -97,7 +97,7 @@ terms_made {q} {rows} {columns} {l} r c alpha beta n h holds L =
     ))
     (λ i below.
     get_d_tabulate n i made 𝟘 (omega (arith, length-tabulate n made))
-    ∙ ap (λ (x : Elem q). of (entry_words l i).value ⊗ x) (product_by_rules r c f g h L.by_Row L.by_column i)
+    ∙ ap (λ (x : Elem q). of (entry_words l i).value ⊗ x) (product_by_rules r c f g h L.by_row L.by_column i)
     ∙ ring (prime_ring q) (of (entry_words l i).value ∷ f (entry_words l i).row ∷ g (entry_words l i).column ∷ [])
     (λ v a b. v :* (a :* b) := v :* a :* b) tt
     ∙ sym (zeros-after ts (n - length ts) i ∙ term_at r c (of alpha) (of beta) l h.words.whole i))

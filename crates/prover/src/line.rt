@@ -134,7 +134,7 @@ fn remainder_from(p: u32, rest: &[u32], m: &[u32], out: &mut [u32])
     }
 }
 
-// h1 from the quotient of W·z(Y) by v_C: the quotient of m is added, and typeof.mask.W, since ẑ is z(Y) + mask·v_C.
+// h1 from the quotient of W·z(Y) by v_C: the quotient of m is added, and mask·W, since ẑ is z(Y) + mask·v_C.
 fn quotient_from(p: u32, mask: u32, weights: &[u32], high: &[u32], m: &[u32], out: &mut [u32])
     requires p_nonzero { 0 < p }
     requires out_nonzero { (0 < length out.old) × (length weights.now ≡ length out.old) × (length high.now ≤ length out.old) }

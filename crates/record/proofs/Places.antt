@@ -7,7 +7,7 @@ use mathlib.Core.Option.{Option, none, some}
 use Prim.Native.Nat.{ℕ, suc, ◌*◌, ◌≤◌, ◌<◌}
 use native.Mathlib.Omega.{arith}
 use lib.Dec.{ltb}
-use lib.ListN.{length, get_or, get_or-eq_default}
+use lib.ListN.{length, get_or, drop, get_or-eq_default}
 use borrow.Author.Tests.{ltb-true, ltb-false, lt-ltb, le-ltb}
 use Rattle.field.specs.Prime.{Prime}
 use Rattle.protocol.specs.Refusals.{Refusal, Done, Refused, judged, first, refuse}
@@ -23,7 +23,7 @@ use Rattle.record.proofs.Rows.{record_rows_lem}
 length-parts : (bytes l : List ℕ) → length (parts_of bytes l) ≡ length l
 unfolding parts_of
 length-parts bytes [] = refl
-length-parts bytes (n ∷ l) = ap suc (length-parts _ l)
+length-parts bytes (n ∷ l) = ap suc (length-parts (drop (4 * n) bytes) l)
 
 module _ (q : Prime) (bytes : List ℕ) (k : ℕ) where
   abbrev lengths : List ℕ

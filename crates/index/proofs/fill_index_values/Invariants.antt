@@ -18,11 +18,11 @@ use Rattle.index.proofs.IndexValues.{Lengths}
 use Rattle.index.proofs.fill_index_values.Given as goal
 
 -- the first i words of each list are those of the values
-record Made (q : Prime) (n : ℕ) (f : ℕ → Index (Elem q)) (l : Index (List ℕ)) (i : ℕ) : Type 0 where
-  row : Filled (words (tabulate n (λ j. (f j).row))) l.row i
-  col : Filled (words (tabulate n (λ j. (f j).col))) l.col i
-  rowcol : Filled (words (tabulate n (λ j. (f j).rowcol))) l.rowcol i
-  rowcolval : Filled (words (tabulate n (λ j. (f j).rowcolval))) l.rowcolval i
+pub record Made (q : Prime) (n : ℕ) (f : ℕ → Index (Elem q)) (l : Index (List ℕ)) (i : ℕ) : Type 0 where
+  pub row : Filled (words (tabulate n (λ j. (f j).row))) l.row i
+  pub col : Filled (words (tabulate n (λ j. (f j).col))) l.col i
+  pub rowcol : Filled (words (tabulate n (λ j. (f j).rowcol))) l.rowcol i
+  pub rowcolval : Filled (words (tabulate n (λ j. (f j).rowcolval))) l.rowcolval i
 
 -- the values at each place
 abbrev pub values : (q : Prime) → Circuit → List ℕ → ℕ → Index (Elem q)

@@ -7,7 +7,7 @@ use Rattle.field.specs.Prime.{Prime}
 use Rattle.domain.specs.Size.{is_size}
 use Rattle.domain.specs.Known.{Known}
 use Rattle.domain.proofs.SizeLaws.{size_positive, size_bound}
-use Rattle.poly.proofs.LentParts.{returned, back_holds, back_length}
+use Rattle.poly.proofs.LentParts.{returned, lent_length, back_holds, back_length}
 use Rattle.protocol.specs.Three.{A, B, C}
 use Rattle.protocol.specs.Circuit.{Circuit}
 use Rattle.index.specs.IndexValues.{Listed}
@@ -53,7 +53,7 @@ module _ (c : After-fill_powers-2) where
         R-size = ap is_size er ∙ c.requires.circuit_shaped.R-size;
         C-size = ap is_size ec ∙ c.requires.circuit_shaped.C-size;
         R-words =
-            listed q e.fill_powers.last.1.1.0 er (rows_fit (goal.at.After-fill_powers-2 c).Start) e.fill_powers.kept.1.1.0
+            listed q e.fill_powers.new.out er (rows_fit (goal.at.After-fill_powers-2 c).Start) e.fill_powers.auto.out
             (e.root_of.ensures q known) (e.fill_powers.ensures q known.value);
         C-words =
             listed q c.fill_powers-2.new.out ec (columns_fit (goal.at.After-fill_powers-2 c).Start) c.fill_powers-2.auto.out
@@ -66,6 +66,9 @@ root_of-requires c = c.requires.circuit_shaped.R-size
 pub slice_bounds-rows-end : goal.slice_bounds-rows-end
 slice_bounds-rows-end c = rows_fit (goal.at.slice_bounds-rows-end c).Start
 
+pub slice_bounds-fill_powers-end : goal.slice_bounds-fill_powers-end
+slice_bounds-fill_powers-end c = lent_length 1024 (rows_fit (goal.at.slice_bounds-fill_powers-end c).Start)
+
 pub fill_powers-requires : goal.fill_powers-requires
 fill_powers-requires c = c.requires.lt_p
 
@@ -75,18 +78,27 @@ root_of-requires-2 c = c.requires.circuit_shaped.C-size
 pub slice_bounds-columns-end : goal.slice_bounds-columns-end
 slice_bounds-columns-end c = columns_fit (goal.at.slice_bounds-columns-end c).Start
 
+pub slice_bounds-fill_powers-end-2 : goal.slice_bounds-fill_powers-end-2
+slice_bounds-fill_powers-end-2 c = lent_length 1024 (columns_fit (goal.at.slice_bounds-fill_powers-end-2 c).Start)
+
 pub fill_powers-requires-2 : goal.fill_powers-requires-2
 fill_powers-requires-2 c = c.requires.lt_p
 
 pub slice_bounds-rows-end-2 : goal.slice_bounds-rows-end-2
 slice_bounds-rows-end-2 c =
     let f = c in
-    back_holds 1024 (rows_fit (goal.at.slice_bounds-rows-end-2 c).Start) f.fill_powers.last.1.1.0 f.fill_powers.kept.1.1.0
+    back_holds 1024 (rows_fit (goal.at.slice_bounds-rows-end-2 c).Start) f.fill_powers.new.out f.fill_powers.auto.out
+
+pub slice_bounds-u-end : goal.slice_bounds-u-end
+slice_bounds-u-end c = rows-length (goal.at.slice_bounds-u-end c).After-fill_powers-2
 
 pub slice_bounds-columns-end-2 : goal.slice_bounds-columns-end-2
 slice_bounds-columns-end-2 c =
     let f = c in
     back_holds 1024 (columns_fit (goal.at.slice_bounds-columns-end-2 f).Start) f.fill_powers-2.new.out f.fill_powers-2.auto.out
+
+pub slice_bounds-v-end : goal.slice_bounds-v-end
+slice_bounds-v-end c = columns-length (goal.at.slice_bounds-v-end c).After-fill_powers-2
 
 pub index_matrix_into-requires : goal.index_matrix_into-requires
 index_matrix_into-requires c =

@@ -86,8 +86,14 @@ root_of-root-requires c = size_is _ (long (goal.at.root_of-root-requires c).Afte
 pub slice_bounds-powers-end : goal.slice_bounds-powers-end
 slice_bounds-powers-end c = fits (goal.at.slice_bounds-powers-end c).After-fill_index_values
 
+pub slice_bounds-fill_inverse_tables-end : goal.slice_bounds-fill_inverse_tables-end
+slice_bounds-fill_inverse_tables-end c = lent_length 1024 (fits (goal.at.slice_bounds-fill_inverse_tables-end c).After-fill_index_values)
+
 pub slice_bounds-quotients-end : goal.slice_bounds-quotients-end
 slice_bounds-quotients-end c = fits (goal.at.slice_bounds-quotients-end c).After-fill_index_values
+
+pub slice_bounds-fill_inverse_tables-end-2 : goal.slice_bounds-fill_inverse_tables-end-2
+slice_bounds-fill_inverse_tables-end-2 c = lent_length 1024 (fits (goal.at.slice_bounds-fill_inverse_tables-end-2 c).After-fill_index_values)
 
 pub fill_inverse_tables-requires : goal.fill_inverse_tables-requires
 fill_inverse_tables-requires c =
@@ -103,10 +109,16 @@ slice_bounds-powers-end-2 c =
     let t = (goal.at.slice_bounds-powers-end-2 c).After-fill_inverse_tables in
     back_holds 1024 (fits (at-values t)) (powers t) t.fill_inverse_tables.auto.powers
 
+pub slice_bounds-interpolate_four-end : goal.slice_bounds-interpolate_four-end
+slice_bounds-interpolate_four-end c = powers-length (goal.at.slice_bounds-interpolate_four-end c).After-fill_inverse_tables
+
 pub slice_bounds-quotients-end-2 : goal.slice_bounds-quotients-end-2
 slice_bounds-quotients-end-2 c =
     let t = (goal.at.slice_bounds-quotients-end-2 c).After-fill_inverse_tables in
     back_holds 1024 (fits (at-values t)) (quotients t) t.fill_inverse_tables.auto.quotients
+
+pub slice_bounds-interpolate_four-end-2 : goal.slice_bounds-interpolate_four-end-2
+slice_bounds-interpolate_four-end-2 c = quotients-length (goal.at.slice_bounds-interpolate_four-end-2 c).After-fill_inverse_tables
 
 pub interpolate_four-requires : goal.interpolate_four-requires
 interpolate_four-requires c =
@@ -134,7 +146,7 @@ returns c q known k M listed matrix =
     c.root_of-root.ensures q known in
     let (row, col, rowcol, rowcolval) =
     c.interpolate_four.ensures q known
-    (coefficients_lent q 1024 (fits v) (powers t) (quotients t) call.kept.1.1.0 call.kept.1.1.1.0
+    (coefficients_lent q 1024 (fits v) (powers t) (quotients t) call.auto.powers call.auto.quotients
     (call.ensures q known.value (root-word ∙ ap (λ (k : ℕ). (root {q = q} k).word) (lent_length 1024 (fits v))))) in
     index_interpolated q k M s.args.entries.now s.pre.1.0.1.1 matrix (length s.args.row.now) s.pre.1.1.row-length
     (values v) (long v) (v.fill-index-values.ensures q (known-qualifies known) known.value k listed) row col rowcol rowcolval

@@ -6,7 +6,7 @@ use lib.ListN.{length, take}
 use Rattle.domain.specs.Size.{is_size}
 use Rattle.domain.proofs.Qualification.{known-qualifies}
 use Rattle.domain.proofs.SizeLaws.{size_positive, size_bound}
-use Rattle.poly.proofs.LentParts.{returned, back_holds, back_length}
+use Rattle.poly.proofs.LentParts.{returned, lent_length, back_holds, back_length}
 use Rattle.index.proofs.IndexValues.{listed}
 use Rattle.index.proofs.index_values_into.Goals as goal
 use Rattle.index.proofs.index_values_into.Goals.{After-fill_powers, After-fill_powers-2, Start}
@@ -30,18 +30,31 @@ columns-length c = back_length 1024 (columns_fit (c.before.before.before.before.
 pub slice_bounds-rows-end : goal.slice_bounds-rows-end
 slice_bounds-rows-end c = rows_fit (goal.at.slice_bounds-rows-end c).Start
 
+pub slice_bounds-fill_powers-end : goal.slice_bounds-fill_powers-end
+slice_bounds-fill_powers-end c = lent_length 1024 (rows_fit (goal.at.slice_bounds-fill_powers-end c).Start)
+
 pub slice_bounds-columns-end : goal.slice_bounds-columns-end
 slice_bounds-columns-end c = columns_fit (goal.at.slice_bounds-columns-end c).Start
+
+pub slice_bounds-fill_powers-end-2 : goal.slice_bounds-fill_powers-end-2
+slice_bounds-fill_powers-end-2 c =
+    lent_length 1024 (columns_fit (goal.at.slice_bounds-fill_powers-end-2 c).Start)
 
 pub slice_bounds-rows-end-2 : goal.slice_bounds-rows-end-2
 slice_bounds-rows-end-2 c =
     let f = c in
     back_holds 1024 (rows_fit (goal.at.slice_bounds-rows-end-2 f).Start) f.fill_powers.new.out f.fill_powers.auto.out
 
+pub slice_bounds-fill_index_values-end : goal.slice_bounds-fill_index_values-end
+slice_bounds-fill_index_values-end c = rows-length (goal.at.slice_bounds-fill_index_values-end c).After-fill_powers
+
 pub slice_bounds-columns-end-2 : goal.slice_bounds-columns-end-2
 slice_bounds-columns-end-2 c =
     let f = c in
     back_holds 1024 (columns_fit (f.before.before.before.before.before.before.before.before.before.before.before.before)) f.fill_powers-2.new.out f.fill_powers-2.auto.out
+
+pub slice_bounds-fill_index_values-end-2 : goal.slice_bounds-fill_index_values-end-2
+slice_bounds-fill_index_values-end-2 c = columns-length (goal.at.slice_bounds-fill_index_values-end-2 c).After-fill_powers-2
 
 pub fill_index_values-requires : goal.fill_index_values-requires
 fill_index_values-requires c =
@@ -66,7 +79,7 @@ returns c q known k er ec =
       R-size = ap is_size er ∙ s.requires.r_value.0;
       C-size = ap is_size ec ∙ s.requires.r_value.1;
       R-words =
-          listed q e.fill_powers.last.1.1.0 er (rows_fit s) e.fill_powers.kept.1.1.0
+          listed q e.fill_powers.new.out er (rows_fit s) e.fill_powers.auto.out
           (e.root_of.ensures q known) (e.fill_powers.ensures q known.value);
       C-words =
           listed q f.fill_powers-2.new.out ec (columns_fit s) f.fill_powers-2.auto.out

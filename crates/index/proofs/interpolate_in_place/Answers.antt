@@ -29,6 +29,9 @@ slice_bounds-values-end c =
     let f = c in
     omega (arith, size_bound _ f.requires.out_value, f.copy_front.auto.out)
 
+pub slice_bounds-interpolate_with-end : goal.slice_bounds-interpolate_with-end
+slice_bounds-interpolate_with-end c = ap length (sym (copied (goal.at.slice_bounds-interpolate_with-end c).After-copy_front))
+
 pub interpolate_with-requires : goal.interpolate_with-requires
 interpolate_with-requires c =
     let f = (goal.at.interpolate_with-requires c).After-copy_front in

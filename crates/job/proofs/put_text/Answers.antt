@@ -18,6 +18,9 @@ returns-then-bytes-lt-HEAD_BYTES c =
     let bytes = c.args.bytes.now in
     written_as (text_short bytes (search rules) (search rules)) c.put_too_short.ensures
 
+pub slice_bounds-words_into-end : goal.slice_bounds-words_into-end
+slice_bounds-words_into-end c = part_length _ _ (few_words (length c.args.bytes.now) (search rules))
+
 pub words_into-requires : goal.words_into-requires
 words_into-requires c = sym (part_length _ _ (few_words (length c.args.bytes.now) (search rules)))
 
@@ -26,6 +29,12 @@ slice_bounds-words-end-2 c =
     let start = c in
     let call = c.words_into in
     filled_within _ _ (few_words (length start.args.bytes.now) (search rules)) call.new.words call.auto.words
+
+pub slice_bounds-put_words_text-end : goal.slice_bounds-put_words_text-end
+slice_bounds-put_words_text-end c =
+    let start = c in
+    let call = c.words_into in
+    filled_length _ _ (few_words (length start.args.bytes.now) (search rules)) call.new.words call.auto.words
 
 pub put_words_text-requires : goal.put_words_text-requires
 put_words_text-requires c =

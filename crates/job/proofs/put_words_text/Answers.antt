@@ -13,7 +13,7 @@ use Rattle.job.proofs.put_words_text.Goals as goal
 pub overflow_mul-due : goal.overflow_mul-due
 overflow_mul-due c =
     let ws = c.args.words.now in
-    omega (arith, c.job_length-due.ensures, length_most ws (matched c.enum_told-1.given.1 c.judge_head-head.ensures))
+    omega (arith, c.job_length-due.ensures, length_most ws (matched c.in-Fine.is c.judge_head-head.ensures))
 
 pub returns-then-due-count : goal.returns-then-due-count
 returns-then-due-count c =
@@ -23,7 +23,7 @@ returns-then-due-count c =
     let at-judge-head = at-enum-told in
     let start = at-judge-head in
     let a = start.args in
-    written_as (text_left-over a.count a.words.now (matched at-enum-told.enum_told-1.given.1 at-judge-head.judge_head-head.ensures)
+    written_as (text_left-over a.count a.words.now (matched at-enum-told.in-Fine.is at-judge-head.judge_head-head.ensures)
     (omega (arith, at-job-length.job_length-due.ensures, at-if1.if-due-count.true)))
     c.put_too_long.ensures
 
@@ -35,7 +35,7 @@ returns-then-count-due c =
     let at-judge-head = at-enum-told in
     let start = at-judge-head in
     let a = start.args in
-    written_as (text_unfinished a.count a.words.now (matched at-enum-told.enum_told-1.given.1 at-judge-head.judge_head-head.ensures)
+    written_as (text_unfinished a.count a.words.now (matched at-enum-told.in-Fine.is at-judge-head.judge_head-head.ensures)
     (omega (arith, at-job-length.job_length-due.ensures, at-if2.if-count-due.true)))
     c.put_too_short.ensures
 
@@ -48,7 +48,7 @@ put_whole-requires c =
     let same : s.args.count ≡ 4 * job_length s.args.words.now =
     omega (arith, at-job-length.job_length-due.ensures, c.if-count-due.false, c.if-due-count.false) in
     record {
-      ws_value = matched at-enum-told.enum_told-1.given.1 at-judge-head.judge_head-head.ensures;
+      ws_value = matched at-enum-told.in-Fine.is at-judge-head.judge_head-head.ensures;
       ws_len = omega (arith, s.requires.words_len, same);
       most_proof_in_bounds = search rules;
     }
@@ -59,7 +59,7 @@ returns-in-Refused c =
     let at-judge-head = at_head in
     let start = at-judge-head in
     let a = start.args in
-    written_as (head_refused a.count a.words.now (sym at-judge-head.judge_head-head.ensures ∙ ap fault_refusal at_head.head-1.given.1))
+    written_as (head_refused a.count a.words.now (sym at-judge-head.judge_head-head.ensures ∙ ap fault_refusal at_head.in-Refused.is))
     c.put_refused.ensures.written
 
 pub returns-else-count-due : goal.returns-else-count-due
@@ -72,6 +72,6 @@ returns-else-count-due c =
     let start = at-judge-head in
     let a = start.args in
     written_as
-    (text_whole a.count a.words.now (matched at-enum-told.enum_told-1.given.1 at-judge-head.judge_head-head.ensures)
+    (text_whole a.count a.words.now (matched at-enum-told.in-Fine.is at-judge-head.judge_head-head.ensures)
     (omega (arith, at-job-length.job_length-due.ensures, at-if2.if-count-due.false, at-if1.if-due-count.false)))
     c.put_whole.ensures

@@ -43,6 +43,9 @@ weights_made c =
 pub slice_bounds-rows-end : goal.slice_bounds-rows-end
 slice_bounds-rows-end c = rows_fit (goal.at.slice_bounds-rows-end c).Start
 
+pub slice_bounds-lagrange_values_into-end : goal.slice_bounds-lagrange_values_into-end
+slice_bounds-lagrange_values_into-end c = lent_length 1024 (rows_fit (goal.at.slice_bounds-lagrange_values_into-end c).Start)
+
 pub lagrange_values_into-requires : goal.lagrange_values_into-requires
 lagrange_values_into-requires c =
     let s = (goal.at.lagrange_values_into-requires c).Start in
@@ -53,6 +56,9 @@ lagrange_values_into-requires c =
 
 pub slice_bounds-columns-end : goal.slice_bounds-columns-end
 slice_bounds-columns-end c = columns_fit (goal.at.slice_bounds-columns-end c).Start
+
+pub slice_bounds-lagrange_values_into-end-2 : goal.slice_bounds-lagrange_values_into-end-2
+slice_bounds-lagrange_values_into-end-2 c = lent_length 1024 (columns_fit (goal.at.slice_bounds-lagrange_values_into-end-2 c).Start)
 
 pub lagrange_values_into-requires-2 : goal.lagrange_values_into-requires-2
 lagrange_values_into-requires-2 c =
@@ -65,8 +71,14 @@ lagrange_values_into-requires-2 c =
 pub slice_bounds-rows-end-2 : goal.slice_bounds-rows-end-2
 slice_bounds-rows-end-2 c = made_holds (rows_made (goal.at.slice_bounds-rows-end-2 c).After-lagrange_values_into)
 
+pub slice_bounds-weights_from-end : goal.slice_bounds-weights_from-end
+slice_bounds-weights_from-end c = made_length (rows_made (goal.at.slice_bounds-weights_from-end c).After-lagrange_values_into)
+
 pub slice_bounds-weights-end : goal.slice_bounds-weights-end
 slice_bounds-weights-end c = columns_fit (c.before.before.before.before.before.before.before.before.before.before.before.before)
+
+pub slice_bounds-weights_from-end-2 : goal.slice_bounds-weights_from-end-2
+slice_bounds-weights_from-end-2 c = lent_length 1024 (columns_fit (c.before.before.before.before.before.before.before.before.before.before.before.before.before))
 
 pub weights_from-requires : goal.weights_from-requires
 weights_from-requires c =
@@ -80,11 +92,20 @@ weights_from-requires c =
 pub slice_bounds-rows-end-3 : goal.slice_bounds-rows-end-3
 slice_bounds-rows-end-3 c = made_holds (rows_made (c.before.before.before.before.before.before.before.before))
 
+pub slice_bounds-opened_from-end : goal.slice_bounds-opened_from-end
+slice_bounds-opened_from-end c = made_length (rows_made (c.before.before.before.before.before.before.before.before.before))
+
 pub slice_bounds-columns-end-2 : goal.slice_bounds-columns-end-2
 slice_bounds-columns-end-2 c = made_holds (columns_made (goal.at.slice_bounds-columns-end-2 c).After-lagrange_values_into-2)
 
+pub slice_bounds-opened_from-end-2 : goal.slice_bounds-opened_from-end-2
+slice_bounds-opened_from-end-2 c = made_length (columns_made (goal.at.slice_bounds-opened_from-end-2 c).After-lagrange_values_into-2)
+
 pub slice_bounds-weights-end-2 : goal.slice_bounds-weights-end-2
 slice_bounds-weights-end-2 c = made_holds (weights_made (goal.at.slice_bounds-weights-end-2 c).After-weights_from)
+
+pub slice_bounds-opened_from-end-3 : goal.slice_bounds-opened_from-end-3
+slice_bounds-opened_from-end-3 c = made_length (weights_made (goal.at.slice_bounds-opened_from-end-3 c).After-weights_from)
 
 pub opened_from-requires : goal.opened_from-requires
 opened_from-requires c =

@@ -173,7 +173,7 @@ returns c q K L η weighed =
     (record { on_columns = on; at_point = assigned }) in
     append
     (nine_same (w.witness_at.ensures q K k F.well_formed refl refl (of a.mask) assigned) line.is-mask line.is-remainder
-    line.is-quotient (r.row_quotient_at.ensures q K L.by_Row k F.well_formed refl refl refl ẑ on)
+    line.is-quotient (r.row_quotient_at.ensures q K L.by_row k F.well_formed refl refl refl ẑ on)
     (d.joined_at.ensures q K k refl α β γ
     (three_same (λ M. (eval (matrix_quotient k α β M) γ).word) first.is-quotient second.is-quotient third.is-quotient))
     first.is-remainder second.is-remainder third.is-remainder)

@@ -1,4 +1,4 @@
--- What the loop of `transform::transform` keeps. Assumes nothing.
+-- The slice gets shorter. Assumes nothing.
 use lib.ListN.{length}
 use Rattle.transform.proofs.+transform.Given as goal
 

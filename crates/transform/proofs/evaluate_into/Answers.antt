@@ -1,11 +1,9 @@
 -- `transform::evaluate_into` meets its contract. Assumes nothing.
-use mathlib.Core.Path.{◌≡◌, sym, ◌∙◌}
-use mathlib.Core.List.{List}
-use Prim.Native.Nat.{ℕ, ◌≤◌}
+use mathlib.Core.Path.{sym, ◌∙◌}
 use native.Mathlib.Omega.{arith}
-use lib.ListN.{length, take}
+use lib.ListN.{length}
 use Rattle.domain.proofs.SizeLaws.{size_bound}
-use Rattle.poly.proofs.LentParts.{returned, lent_length, back_holds, back_length}
+use Rattle.poly.proofs.LentParts.{lent_length, back_holds, back_length}
 use Rattle.transform.proofs.TableLaws.{values-lent}
 use Rattle.transform.proofs.evaluate_into.Goals as goal
 

@@ -18,25 +18,23 @@ use Rattle.transform.proofs.evaluate_with.Goals as goal
 
 pub transform-requires : goal.transform-requires
 transform-requires c =
-    let s = c in
-    let n : ℕ = length s.args.f.now in
-    let same : length s.args.out.now ≡ n = s.requires.out_len.0 in
-    let in-powers : n ≤ length s.args.powers.now = s.requires.f_in_bounds.0 in
-    let in-quotients : n ≤ length s.args.quotients.now = s.requires.f_in_bounds.1 in record {
-      p_nonzero = omega (arith, s.requires.lt_p);
-      out_value = ap is_size same ∙ s.requires.out_len.1;
-      out_in_bounds = omega (arith, size_positive n s.requires.out_len.1);
+    let n : ℕ = length c.args.f.now in
+    let same : length c.args.out.now ≡ n = c.requires.out_len.0 in
+    let in-powers : n ≤ length c.args.powers.now = c.requires.f_in_bounds.0 in
+    let in-quotients : n ≤ length c.args.quotients.now = c.requires.f_in_bounds.1 in record {
+      p_nonzero = omega (arith, c.requires.lt_p);
+      out_value = ap is_size same ∙ c.requires.out_len.1;
+      out_in_bounds = omega (arith, size_positive n c.requires.out_len.1);
       out_in_bounds_2 = (omega arith, omega arith);
     }
 
 pub returns : goal.returns
 returns c q Q e tables =
-    let s = c in
-    let a = s.args in
+    let a = c.args in
     let f : Poly q = map of a.f.now in
     let n : ℕ = length a.f.now in
-    let (k, within, size) = size_is-power n s.requires.out_len.1 in
-    c.transform.ensures q e (below_by_value e Q.small) (root n) k (s.requires.out_len.0 ∙ size) (tables k size).levels
+    let (k, within, size) = size_is-power n c.requires.out_len.1 in
+    c.transform.ensures q e (below_by_value e Q.small) (root n) k (c.requires.out_len.0 ∙ size) (tables k size).levels
     (prepared_by_value a.powers.now a.quotients.now e (tables k size).prepared)
     ∙ ap words (part-whole 1 a.f.now k (root n) size ∙ ap (λ (m : ℕ). transform (prime_ring q) k (root m) (of 1 · f)) size
     ∙ to_values-words Q k within a.f.now size ∙ ap (λ (m : ℕ). values_on m f) (sym size))

@@ -8,8 +8,7 @@ use Rattle.transform.proofs.fill_inverse_tables.Goals as goal
 
 pub overflow_cast-n : goal.overflow_cast-n
 overflow_cast-n c =
-    let s = c in
-    omega (arith, size_bound (length s.args.powers.now) s.requires.quotients_len.1)
+    omega (arith, size_bound (length c.args.powers.now) c.requires.quotients_len.1)
 
 pub overflow_sub-n : goal.overflow_sub-n
 overflow_sub-n c = size_positive _ c.requires.quotients_len.1

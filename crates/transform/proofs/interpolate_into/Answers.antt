@@ -1,13 +1,12 @@
 -- `transform::interpolate_into` meets its contract. Assumes nothing.
-use mathlib.Core.Path.{◌≡◌, sym, ap, ◌∙◌}
-use mathlib.Core.List.{List}
-use Prim.Native.Nat.{ℕ, ◌≤◌}
+use mathlib.Core.Path.{sym, ap, ◌∙◌}
+use Prim.Native.Nat.{ℕ}
 use native.Mathlib.Omega.{arith}
-use lib.ListN.{length, take}
+use lib.ListN.{length}
 use Rattle.domain.specs.Size.{is_size}
 use Rattle.domain.specs.Domain.{root}
 use Rattle.domain.proofs.SizeLaws.{size_bound}
-use Rattle.poly.proofs.LentParts.{returned, lent_length, back_holds, back_length}
+use Rattle.poly.proofs.LentParts.{lent_length, back_holds, back_length}
 use Rattle.transform.proofs.TableLaws.{coefficients_lent}
 use Rattle.transform.proofs.interpolate_into.Goals as goal
 

@@ -19,31 +19,28 @@ use Rattle.transform.proofs.interpolate_with.Goals as goal
 
 pub overflow_cast-values : goal.overflow_cast-values
 overflow_cast-values c =
-    let s = c in
-    omega (arith, size_bound (length s.args.values.now) s.requires.out_len.1)
+    omega (arith, size_bound (length c.args.values.now) c.requires.out_len.1)
 
 pub transform-requires : goal.transform-requires
 transform-requires c =
-    let s = c in
-    let n : ℕ = length s.args.values.now in
-    let same : length s.args.out.now ≡ n = s.requires.out_len.0 in
-    let in-powers : n ≤ length s.args.powers.now = s.requires.values_in_bounds.0 in
-    let in-quotients : n ≤ length s.args.quotients.now = s.requires.values_in_bounds.1 in record {
-      p_nonzero = omega (arith, s.requires.lt_p);
-      out_value = ap is_size same ∙ s.requires.out_len.1;
-      out_in_bounds = omega (arith, size_positive n s.requires.out_len.1);
+    let n : ℕ = length c.args.values.now in
+    let same : length c.args.out.now ≡ n = c.requires.out_len.0 in
+    let in-powers : n ≤ length c.args.powers.now = c.requires.values_in_bounds.0 in
+    let in-quotients : n ≤ length c.args.quotients.now = c.requires.values_in_bounds.1 in record {
+      p_nonzero = omega (arith, c.requires.lt_p);
+      out_value = ap is_size same ∙ c.requires.out_len.1;
+      out_in_bounds = omega (arith, size_positive n c.requires.out_len.1);
       out_in_bounds_2 = (omega arith, omega arith);
     }
 
 pub returns : goal.returns
 returns c q Q e tables =
-    let s = c in
-    let a = s.args in
+    let a = c.args in
     let vs : List (Elem q) = map of a.values.now in
     let n : ℕ = length a.values.now in
-    let (k, within, size) = size_is-power n s.requires.out_len.1 in
+    let (k, within, size) = size_is-power n c.requires.out_len.1 in
     let share = c.size_inverse-share in
-    c.transform.ensures q e (below_by_value e Q.small) (element n (n - 1)) k (s.requires.out_len.0 ∙ size)
+    c.transform.ensures q e (below_by_value e Q.small) (element n (n - 1)) k (c.requires.out_len.0 ∙ size)
     (tables k size).levels (prepared_by_value a.powers.now a.quotients.now e (tables k size).prepared)
     ∙ ap words (part-whole share.result a.values.now k (element n (n - 1)) size
     ∙ ap (λ (m : ℕ). transform (prime_ring q) k (element m (m - 1)) (of share.result · vs)) size

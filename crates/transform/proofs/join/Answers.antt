@@ -140,16 +140,15 @@ shape_of-out c = c.loop-i.invariant.2 ∙ simp length-set
 pub returns : goal.returns
 returns c q e small w level prepared es os even-length odd-length split =
     let l = c.loop-i in
-    let f = c in
-    let d : List ℕ = f.args.out.now in
+    let d : List ℕ = c.args.out.now in
     let h : ℕ = length d / 2 in
-    let some : 0 < h = omega (arith, f.requires.in_bounds) in
+    let some : 0 < h = omega (arith, c.requires.in_bounds) in
     let x : Elem q = get_or es 0 𝟘 in
     let y : Elem q = get_or os 0 𝟘 in
     let even : get_or d 0 0 ≡ x.word = ap (λ (r : List ℕ). get_or r 0 0) split ∙ first_even h w es os even-length odd-length some in
     let odd : get_or d h 0 ≡ y.word = ap (λ (r : List ℕ). get_or r h 0) split ∙ first_odd h w es os even-length odd-length some in
-    let plus = f.add_reduced in
-    let minus = f.subtract_reduced in
+    let plus = c.add_reduced in
+    let minus = c.subtract_reduced in
     let one : set (set d 0 plus.result) h minus.result ≡ so_far w es os h 1 =
     ap (λ (r : List ℕ). set (set r 0 plus.result) h minus.result) split
     ∙ first_turned h w es os even-length odd-length some plus.result minus.result

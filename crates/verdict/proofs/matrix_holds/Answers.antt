@@ -1,5 +1,4 @@
 -- `verdict::matrix_holds` meets its contract. Assumes nothing.
-use Prim.Native.Nat.{◌<◌}
 use Rattle.domain.specs.Domain.{vanishing}
 use Rattle.domain.specs.Size.{is_size}
 use Rattle.field.proofs.Words.{of-result}
@@ -16,47 +15,42 @@ use native.Mathlib.Omega.{arith}
 use Rattle.verdict.proofs.matrix_holds.Goals as goal
 use Rattle.verdict.proofs.matrix_holds.Goals.{Start}
 
--- what one matrix's term takes
-takes : (start : Start) (M : MatrixName) → let a = start.args in (1 < a.p) × (is_size (at (three a.s.k) M) ≡ true)
-takes start M = (start.requires.lt_p, (allowed (sizes start.args.s) start.requires.s_value).K-size M)
+-- the size of one matrix's part is a size
+takes : (start : Start) (M : MatrixName) → is_size (at (three start.args.s.k) M) ≡ true
+takes start M = (allowed (sizes start.args.s) start.requires.s_value).K-size M
 
 pub matrix_term-a-requires : goal.matrix_term-a-requires
-matrix_term-a-requires c = takes (goal.at.matrix_term-a-requires c).Start A
+matrix_term-a-requires c = record { lt_p = c.requires.lt_p; size_value = takes (goal.at.matrix_term-a-requires c).Start A }
 
 pub matrix_term-b-requires : goal.matrix_term-b-requires
-matrix_term-b-requires c = takes (goal.at.matrix_term-b-requires c).Start B
+matrix_term-b-requires c = record { lt_p = c.requires.lt_p; size_value = takes (goal.at.matrix_term-b-requires c).Start B }
 
 pub matrix_term-c-requires : goal.matrix_term-c-requires
-matrix_term-c-requires c =
-    takes (goal.at.matrix_term-c-requires c).Start C
+matrix_term-c-requires c = record { lt_p = c.requires.lt_p; size_value = takes (goal.at.matrix_term-c-requires c).Start C }
 
 pub multiply-requires : goal.multiply-requires
 multiply-requires c =
-    let v = c in
-    omega (arith, v.requires.lt_p)
+    omega (arith, c.requires.lt_p)
 
 pub returns : goal.returns
 unfolding joined_left joined_right
 returns c q Q e is-scale x =
-    let d = c in
-    let chosen = d in
-    let v = (goal.at.returns chosen).After-add-left in
-    let a = v.args in
+    let a = c.args in
     let s = sizes a.s in
     let t = map_transcript (of {q = q}) (transcript a.t) in
     let o = map_openings (of {q = q}) (openings a.o a.index) in
-    let whole = v.vanishing_value-whole.ensures q e ∙ ap (λ k. (vanishing k t.γ).word) v.largest.ensures in
-    let shares = chosen.selectors-share.ensures q Q e whole in
+    let whole = c.vanishing_value-whole.ensures q e ∙ ap (λ k. (vanishing k t.γ).word) c.largest.ensures in
+    let shares = c.selectors-share.ensures q Q e whole in
     let left : MatrixName → Elem q = λ M. matrix_left s t M (at o.index M) (at o.matrix_remainders M) in
     let term : MatrixName → Elem q = λ M. at t.δ M ⊗ selector s M t.γ ⊗ left M in
     let first = of-result (term A)
-    (d.matrix_term-a.ensures q Q e is-scale A refl refl
+    (c.matrix_term-a.ensures q Q e is-scale A refl refl
     ∙ ap (λ u. (t.δ.a ⊗ u ⊗ left A).word) (of-result (selector s A t.γ) (ap (λ w. w.a) shares))) in
     let second = of-result (term B)
-    (d.matrix_term-b.ensures q Q e is-scale B refl refl
+    (c.matrix_term-b.ensures q Q e is-scale B refl refl
     ∙ ap (λ u. (t.δ.b ⊗ u ⊗ left B).word) (of-result (selector s B t.γ) (ap (λ w. w.b) shares))) in
     let third = of-result (term C)
-    (d.matrix_term-c.ensures q Q e is-scale C refl refl
+    (c.matrix_term-c.ensures q Q e is-scale C refl refl
     ∙ ap (λ u. (t.δ.c ⊗ u ⊗ left C).word) (of-result (selector s C t.γ) (ap (λ w. w.c) shares))) in
     let two = of-result (of {q = q} _ ⊕ of _) (c.add.ensures q e) ∙ ap₂ ◌⊕◌ first second in
     let sum = c.add-left.ensures q e ∙ ap₂ (λ u v. (u ⊕ v).word) two third in

@@ -25,10 +25,18 @@ lagrange_values_into-requires c =
       out_value = ap is_size (sym (part_length _ _ (bound start))) ∙ start.requires.n_value;
     }
 
+pub slice_bounds-lagrange_values_into-end : goal.slice_bounds-lagrange_values_into-end
+slice_bounds-lagrange_values_into-end c = part_length _ _ (bound (goal.at.slice_bounds-lagrange_values_into-end c).Start)
+
 pub slice_bounds-weights-end-2 : goal.slice_bounds-weights-end-2
 slice_bounds-weights-end-2 c =
     let call = c.lagrange_values_into in
     filled_within _ _ (bound (goal.at.slice_bounds-weights-end-2 c).Start) call.new.out call.auto.out
+
+pub slice_bounds-interpolated_at-end : goal.slice_bounds-interpolated_at-end
+slice_bounds-interpolated_at-end c =
+    let call = c.lagrange_values_into in
+    filled_length _ _ (bound (goal.at.slice_bounds-interpolated_at-end c).Start) call.new.out call.auto.out
 
 pub interpolated_at-requires : goal.interpolated_at-requires
 interpolated_at-requires c =

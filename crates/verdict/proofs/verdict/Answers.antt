@@ -11,36 +11,33 @@ use Rattle.protocol.specs.Checks.{map_transcript, map_openings, Check, Row, Line
 use Rattle.shared.specs.Meanings.{sizes, transcript, openings}
 use Rattle.protocol.proofs.AllowedSizes.{allowed}
 use Rattle.verdict.specs.Scale.{scale_word}
-use borrow.Author.Tests.{not-true, not-false}
-use mathlib.Core.Bool.{Bool, true, false, not}
+use mathlib.Core.Bool.{Bool, true, false}
 use mathlib.Core.List.{[], map}
 use mathlib.Core.Path.{◌≡◌, sym, ap₂, ◌∙◌}
 use Rattle.verdict.proofs.verdict.Goals as goal
 use Rattle.verdict.proofs.verdict.Goals.{After-multiply-scale, Else-not-line_holds, Else-not-row_holds, Start}
 
 -- a test that was found to fail, or to pass
-fails : {found test : Bool} → found ≡ test → not found ≡ true → test ≡ false
-fails e n = sym e ∙ not-true _ n
+fails : {found test : Bool} → found ≡ test → found ≡ false → test ≡ false
+fails e n = sym e ∙ n
 
-holds : {found test : Bool} → found ≡ test → not found ≡ false → test ≡ true
-holds e n = sym e ∙ not-false _ n
+holds : {found test : Bool} → found ≡ test → found ≡ true → test ≡ true
+holds e n = sym e ∙ n
 
 pub returns-then-not-row_holds : goal.returns-then-not-row_holds
 unfolding verdict
 returns-then-not-row_holds c q K Q =
-    let v = c in
-    let s = sizes v.args.s in
-    let found = c.row_holds.ensures q K.value s [] [] (v.vanishing_value-rows.ensures q K.value) in
+    let s = sizes c.args.s in
+    let found = c.row_holds.ensures q K.value s [] [] (c.vanishing_value-rows.ensures q K.value) in
     sym (pick-false _ _ (fails found c.if-not-row_holds.true))
 
 pub line_holds-requires : goal.line_holds-requires
 line_holds-requires c =
-    let start = c in
-    let W = allowed (sizes start.args.s) start.requires.s_value in
+    let W = allowed (sizes c.args.s) c.requires.s_value in
     record {
-      modulus = (start.requires.lt_p, start.requires.outside_domain.over);
+      modulus = (c.requires.lt_p, c.requires.outside_domain.over);
       x_value = W.X-size;
-      x_len = start.requires.x_len;
+      x_len = c.requires.x_len;
       c_value = W.C-size;
     }
 
@@ -54,17 +51,15 @@ test s q =
 row_passed : (c : Else-not-row_holds) (q : Prime) → Known q c.args.p
     → test (goal.at.Else-not-row_holds c).Start q Row ≡ true
 row_passed c q K =
-    let v = c in
-    let s = sizes v.args.s in
-    holds (c.row_holds.ensures q K.value s [] [] (v.vanishing_value-rows.ensures q K.value)) c.if-not-row_holds.false
+    let s = sizes c.args.s in
+    holds (c.row_holds.ensures q K.value s [] [] (c.vanishing_value-rows.ensures q K.value)) c.if-not-row_holds.false
 
 pub returns-then-not-line_holds : goal.returns-then-not-line_holds
 unfolding verdict
 returns-then-not-line_holds c q K Q =
-    let v = c in
     sym
-    (pick_true _ _ (row_passed (goal.at.returns-then-not-line_holds v).Else-not-row_holds q K)
-    ∙ pick-false _ _ (fails (c.line_holds.ensures q K Q [] (v.vanishing_value-columns.ensures q K.value)) c.if-not-line_holds.true))
+    (pick_true _ _ (row_passed (goal.at.returns-then-not-line_holds c).Else-not-row_holds q K)
+    ∙ pick-false _ _ (fails (c.line_holds.ensures q K Q [] (c.vanishing_value-columns.ensures q K.value)) c.if-not-line_holds.true))
 
 -- past the check Line
 line_passed : (c : Else-not-line_holds) (q : Prime) → Known q c.args.p → Qualifies q
@@ -76,12 +71,10 @@ line_passed c q K Q =
 scaled : (c : After-multiply-scale) (q : Prime) → let a = c.args in
     q.p ≡ a.p → c.multiply-scale.result ≡ scale_word q (sizes a.s) a.t.alpha a.t.beta
 scaled c q e =
-    let v = c in
-    let u = v in
-    let a = u.args in
+    let a = c.args in
     c.multiply-scale.ensures q e
-    ∙ ap₂ (λ x y. (x ⊗ y).word) (of-result (vanishing a.s.r (of {q = q} a.t.alpha)) (u.vanishing_value-rows.ensures q e))
-    (of-result (vanishing a.s.c (of {q = q} a.t.beta)) (v.vanishing_value-columns.ensures q e))
+    ∙ ap₂ (λ x y. (x ⊗ y).word) (of-result (vanishing a.s.r (of {q = q} a.t.alpha)) (c.vanishing_value-rows.ensures q e))
+    (of-result (vanishing a.s.c (of {q = q} a.t.beta)) (c.vanishing_value-columns.ensures q e))
 
 pub returns-then-not-matrix_holds : goal.returns-then-not-matrix_holds
 unfolding verdict

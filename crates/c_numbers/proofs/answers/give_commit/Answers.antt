@@ -13,7 +13,7 @@ pub returns-in-Judged : goal.returns-in-Judged
 returns-in-Judged c =
     let at-into-words = c in
     let at_told = at-into-words in
-    ap₂ beside (rw at_told.enum_told-1.given.1 at-into-words.into_words.ensures) c.give_verdict.ensures
+    ap₂ beside (rw at_told.in-Judged.is at-into-words.into_words.ensures) c.give_verdict.ensures
 
 pub returns-in-Refused : goal.returns-in-Refused
-returns-in-Refused c = ap₂ beside (rw c.enum_told-in-Refused-1.given.1) c.give_verdict-in-Refused.ensures
+returns-in-Refused c = ap₂ beside (rw c.in-Refused.is) c.give_verdict-in-Refused.ensures

@@ -2,7 +2,7 @@
 use Rattle.c_numbers.proofs.answers.give_evaluated.Goals as goal
 
 pub returns-in-Value : goal.returns-in-Value
-returns-in-Value c = rw c.answer-1.given.1
+returns-in-Value c = rw c.in-Value.is
 
 pub returns-in-Refused : goal.returns-in-Refused
-returns-in-Refused c = rw c.answer-in-Refused-1.given.1
+returns-in-Refused c = rw c.in-Refused.is

@@ -2,4 +2,4 @@
 use Rattle.c_numbers.proofs.answers.give_place.Goals as goal
 
 pub returns-in-Refused : goal.returns-in-Refused
-returns-in-Refused c = rw c.answer-in-Refused-1.given.1
+returns-in-Refused c = rw c.in-Refused.is

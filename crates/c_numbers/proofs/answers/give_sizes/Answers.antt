@@ -2,7 +2,7 @@
 use Rattle.c_numbers.proofs.answers.give_sizes.Goals as goal
 
 pub returns-in-Whole : goal.returns-in-Whole
-returns-in-Whole c = rw c.answer-1.given.1
+returns-in-Whole c = rw c.in-Whole.is
 
 pub returns-in-Refused : goal.returns-in-Refused
-returns-in-Refused c = rw c.answer-in-Refused-1.given.1
+returns-in-Refused c = rw c.in-Refused.is

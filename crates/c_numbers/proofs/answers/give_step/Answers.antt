@@ -4,7 +4,7 @@ use Rattle.c_numbers.specs.Answers.{told}
 use Rattle.c_numbers.proofs.answers.give_step.Goals as goal
 
 pub returns-in-Taken : goal.returns-in-Taken
-returns-in-Taken c = rw c.enum_told-1.given.1 (ap (told 0 0) c.into_words.ensures)
+returns-in-Taken c = rw c.in-Taken.is (ap (told 0 0) c.into_words.ensures)
 
 pub returns-in-Refused : goal.returns-in-Refused
-returns-in-Refused c = rw c.answer-1.given.1
+returns-in-Refused c = rw c.in-Refused.is

@@ -4,7 +4,7 @@ use Rattle.c_numbers.specs.Answers.{told}
 use Rattle.c_numbers.proofs.answers.give_verdict.Goals as goal
 
 pub returns-in-Judged : goal.returns-in-Judged
-returns-in-Judged c = rw c.answer-1.given.1 (ap (told 0 0) c.verdict_number.ensures)
+returns-in-Judged c = rw c.in-Judged.is (ap (told 0 0) c.verdict_number.ensures)
 
 pub returns-in-Refused : goal.returns-in-Refused
-returns-in-Refused c = rw c.answer-in-Refused-1.given.1
+returns-in-Refused c = rw c.in-Refused.is

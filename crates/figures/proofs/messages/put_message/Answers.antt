@@ -8,19 +8,19 @@ use Rattle.figures.proofs.messages.put_message.Goals as goal
 pub returns-in-NotSix : goal.returns-in-NotSix
 returns-in-NotSix c =
     let told = c in
-    written_as (sym (ap (λ f. message_of (found_line f)) told.enum_told-1.given.1)) c.put_bytes.ensures
+    written_as (sym (ap (λ f. message_of (found_line f)) told.in-NotSix.is)) c.put_bytes.ensures
 
 pub returns-in-Refused : goal.returns-in-Refused
 returns-in-Refused c =
     let told = c in
-    written_as (sym (ap (λ f. message_of (found_line f)) told.found-1.given.1)) c.put_refused.ensures
+    written_as (sym (ap (λ f. message_of (found_line f)) told.in-Refused.is)) c.put_refused.ensures
 
 pub returns-in-Nothing : goal.returns-in-Nothing
 returns-in-Nothing c =
     let start = c in
-    written_as (sym (ap (λ f. message_of (found_line f)) c.enum_told-in-Nothing-1.given.1)) (written_none start.args.out.now start.args.at (search rules))
+    written_as (sym (ap (λ f. message_of (found_line f)) c.in-Nothing.is)) (written_none start.args.out.now start.args.at (search rules))
 
 pub returns-in-Circuit : goal.returns-in-Circuit
 returns-in-Circuit c =
     let start = c in
-    written_as (sym (ap (λ f. message_of (found_line f)) c.enum_told-in-Circuit-1.given.1)) (written_none start.args.out.now start.args.at (search rules))
+    written_as (sym (ap (λ f. message_of (found_line f)) c.in-Circuit.is)) (written_none start.args.out.now start.args.at (search rules))

@@ -10,13 +10,11 @@ use Rattle.grown_words.proofs.places.find_place.Goals as goal
 use Rattle.grown_words.proofs.places.find_place.Goals.{In-loop-count}
 
 -- the word that a turn reads is the column in the middle
-middle : (turn : In-loop-count) → let t = turn in let a = t.args in
-    let k = t.loop-count.from + t.loop-count.count / 2 in
-    get_or a.circuit.now (t.entries_place-entries.result + 3 * k + 1) 0 ≡ column_at a.circuit.now a.matrix k
+middle : (turn : In-loop-count) → let a = turn.args in let k = turn.loop-count.from + turn.loop-count.count / 2 in
+    get_or a.circuit.now (turn.entries_place-entries.result + 3 * k + 1) 0 ≡ column_at a.circuit.now a.matrix k
 middle turn =
-    let t = turn in
-    ap (λ (e : ℕ). get_or t.args.circuit.now (e + 3 * (t.loop-count.from + t.loop-count.count / 2) + 1) 0)
-    t.entries_place-entries.ensures
+    ap (λ (e : ℕ). get_or turn.args.circuit.now (e + 3 * (turn.loop-count.from + turn.loop-count.count / 2) + 1) 0)
+    turn.entries_place-entries.ensures
 
 pub loop-count-init : goal.loop-count-init
 loop-count-init c =

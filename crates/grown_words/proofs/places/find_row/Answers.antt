@@ -34,12 +34,11 @@ row_end-start-requires c =
 
 pub loop-i-preserved : goal.loop-i-preserved
 loop-i-preserved c =
-    let t = c in
-    let a = t.args in (
+    let a = c.args in (
       omega arith,
-      c.row_end-start.ensures ∙ next a.circuit.now a.matrix t.loop-i.i t.loop-i.invariant.1 t.total_of-total.ensures
-          (ap (λ (k : ℕ). k + 1) t.total_place-counts.ensures)
-          ∙ ap (row_start a.circuit.now a.matrix) (sym (add-one t.loop-i.i)),
+      c.row_end-start.ensures ∙ next a.circuit.now a.matrix c.loop-i.i c.loop-i.invariant.1 c.total_of-total.ensures
+          (ap (λ (k : ℕ). k + 1) c.total_place-counts.ensures)
+          ∙ ap (row_start a.circuit.now a.matrix) (sym (add-one c.loop-i.i)),
     )
 
 pub row_end-requires : goal.row_end-requires

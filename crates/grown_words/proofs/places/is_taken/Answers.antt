@@ -16,7 +16,6 @@ returns-then-place-end c =
 
 pub returns : goal.returns
 returns c =
-    let start = c in
-    let a = start.args in
+    let a = c.args in
     ap₂ (λ (b : Bool) (k : ℕ). b && eqb (get_or a.circuit.now (k + 3 * a.place + 1) 0) a.column)
     (sym (lt-ltb a.place a.end c.if-place-end.false)) c.entries_place.ensures

@@ -45,6 +45,9 @@ overflow_sub-n c = sized_positive _ c.size_of-size.ensures
 pub slice_bounds-quotient-end : goal.slice_bounds-quotient-end
 slice_bounds-quotient-end c = fits (goal.at.slice_bounds-quotient-end c).After-size_of-size
 
+pub slice_bounds-product_quotient_into-end : goal.slice_bounds-product_quotient_into-end
+slice_bounds-product_quotient_into-end c = lent_length 1024 (fits (goal.at.slice_bounds-product_quotient_into-end c).After-size_of-size)
+
 pub product_quotient_into-requires : goal.product_quotient_into-requires
 product_quotient_into-requires c =
     let size = (goal.at.product_quotient_into-requires c).After-size_of-size in
@@ -60,6 +63,9 @@ pub slice_bounds-quotient-end-2 : goal.slice_bounds-quotient-end-2
 slice_bounds-quotient-end-2 c =
     let h = (goal.at.slice_bounds-quotient-end-2 c).After-product_quotient_into in
     back_holds 1024 (fits (goal.at.After-product_quotient_into h).After-size_of-size) (made h) h.product_quotient_into.auto.out
+
+pub slice_bounds-add_scaled-end : goal.slice_bounds-add_scaled-end
+slice_bounds-add_scaled-end c = made_length (goal.at.slice_bounds-add_scaled-end c).After-product_quotient_into
 
 pub add_scaled-requires : goal.add_scaled-requires
 add_scaled-requires c =

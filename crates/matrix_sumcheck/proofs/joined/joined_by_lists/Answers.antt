@@ -89,10 +89,10 @@ returns c q k r m alpha beta G H L D =
     let n : ℕ = length a.out.now in
     let δ : Three (Elem q) = map_three of (three a.delta) in
     let term : ℕ → MatrixName → Poly q = joined_term (lists a.ea.now a.eb.now a.ec.now) k (of alpha) (of beta) δ in
-    let zeros : map of cleared.clear.last.0 ≡ replicate n (𝟘 {q = q}) = ap (map of) cleared.clear.ensures ∙ of-zeros n in
-    let one : map of first.add_matrix.last.1.1.1.1.1.1.1.0 ≡ replicate n 𝟘 ⊞ term n A =
+    let zeros : map of cleared.clear.new.out ≡ replicate n (𝟘 {q = q}) = ap (map of) cleared.clear.ensures ∙ of-zeros n in
+    let one : map of first.add_matrix.new.out ≡ replicate n 𝟘 ⊞ term n A =
     of_results _ (first.add_matrix.ensures q k A r m alpha beta (G A) H L D)
-    ∙ ap₂ ◌⊞◌ zeros (ap (λ z. term z A) cleared.clear.kept.0) in
+    ∙ ap₂ ◌⊞◌ zeros (ap (λ z. term z A) cleared.clear.auto.out) in
     let two : map of second.add_matrix-2.new.out ≡ replicate n 𝟘 ⊞ term n A ⊞ term n B =
     of_results _ (second.add_matrix-2.ensures q k B r m alpha beta (G B) H L D)
     ∙ ap₂ ◌⊞◌ one (ap (λ z. term z B) (kept_by_first first)) in

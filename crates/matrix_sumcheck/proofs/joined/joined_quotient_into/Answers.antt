@@ -62,6 +62,9 @@ column-distances-length c = back_length 1024 (columns_fit (goal.at.After-distanc
 pub slice_bounds-rows-end : goal.slice_bounds-rows-end
 slice_bounds-rows-end c = rows_fit (goal.at.slice_bounds-rows-end c).Start
 
+pub slice_bounds-lagrange_values_into-end : goal.slice_bounds-lagrange_values_into-end
+slice_bounds-lagrange_values_into-end c = lent_length 1024 (rows_fit (goal.at.slice_bounds-lagrange_values_into-end c).Start)
+
 pub lagrange_values_into-requires : goal.lagrange_values_into-requires
 lagrange_values_into-requires c = let s = (goal.at.lagrange_values_into-requires c).Start in record {
   lt_p = s.requires.modulus.0;
@@ -70,6 +73,9 @@ lagrange_values_into-requires c = let s = (goal.at.lagrange_values_into-requires
 
 pub slice_bounds-columns-end : goal.slice_bounds-columns-end
 slice_bounds-columns-end c = columns_fit (goal.at.slice_bounds-columns-end c).Start
+
+pub slice_bounds-lagrange_values_into-end-2 : goal.slice_bounds-lagrange_values_into-end-2
+slice_bounds-lagrange_values_into-end-2 c = lent_length 1024 (columns_fit (goal.at.slice_bounds-lagrange_values_into-end-2 c).Start)
 
 pub lagrange_values_into-requires-2 : goal.lagrange_values_into-requires-2
 lagrange_values_into-requires-2 c = let s = (goal.at.lagrange_values_into-requires-2 c).Start in record {
@@ -80,6 +86,9 @@ lagrange_values_into-requires-2 c = let s = (goal.at.lagrange_values_into-requir
 pub slice_bounds-rowDistances-end : goal.slice_bounds-rowDistances-end
 slice_bounds-rowDistances-end c = rows_fit (c.before.before.before.before.before.before.before.before.before.before)
 
+pub slice_bounds-distances_into-end : goal.slice_bounds-distances_into-end
+slice_bounds-distances_into-end c = lent_length 1024 (rows_fit (c.before.before.before.before.before.before.before.before.before.before.before))
+
 pub distances_into-requires : goal.distances_into-requires
 distances_into-requires c = let s = (goal.at.distances_into-requires c).Start in record {
   modulus = s.requires.modulus;
@@ -88,6 +97,9 @@ distances_into-requires c = let s = (goal.at.distances_into-requires c).Start in
 
 pub slice_bounds-columnDistances-end : goal.slice_bounds-columnDistances-end
 slice_bounds-columnDistances-end c = columns_fit (start (c.before.before.before.before.before.before.before))
+
+pub slice_bounds-distances_into-end-2 : goal.slice_bounds-distances_into-end-2
+slice_bounds-distances_into-end-2 c = lent_length 1024 (columns_fit (start (c.before.before.before.before.before.before.before.before)))
 
 pub distances_into-requires-2 : goal.distances_into-requires-2
 distances_into-requires-2 c = let s = start (c.before.before.before.before.before.before.before.before) in record {
@@ -100,20 +112,32 @@ slice_bounds-rows-end-2 c =
     let r = at_rows (c.before.before.before.before.before.before.before) in
     back_holds 1024 (rows_fit r.before.before.before.before.before.before) (rows r) r.lagrange-values-into.kept.1.1.0
 
+pub slice_bounds-joined_by_lists-end : goal.slice_bounds-joined_by_lists-end
+slice_bounds-joined_by_lists-end c = rows-length (at_rows (c.before.before.before.before.before.before.before.before))
+
 pub slice_bounds-columns-end-2 : goal.slice_bounds-columns-end-2
 slice_bounds-columns-end-2 c =
     let l = (goal.at.slice_bounds-columns-end-2 c).After-lagrange_values_into-2 in
-    back_holds 1024 (columns_fit (l.before.before.before.before.before.before.before.before.before)) (columns l) l.lagrange_values_into-2.kept.1.1.0
+    back_holds 1024 (columns_fit (l.before.before.before.before.before.before.before.before.before)) (columns l) l.lagrange_values_into-2.auto.out
+
+pub slice_bounds-joined_by_lists-end-2 : goal.slice_bounds-joined_by_lists-end-2
+slice_bounds-joined_by_lists-end-2 c = columns-length (c.before.before.before.before.before.before.before.before.before)
 
 pub slice_bounds-rowDistances-end-2 : goal.slice_bounds-rowDistances-end-2
 slice_bounds-rowDistances-end-2 c =
     let d = (goal.at.slice_bounds-rowDistances-end-2 c).After-distances_into in
-    back_holds 1024 (rows_fit (start (d.before.before.before.before.before.before))) (row-distances d) d.distances_into.kept.1.1.0
+    back_holds 1024 (rows_fit (start (d.before.before.before.before.before.before))) (row-distances d) d.distances_into.auto.out
+
+pub slice_bounds-joined_by_lists-end-3 : goal.slice_bounds-joined_by_lists-end-3
+slice_bounds-joined_by_lists-end-3 c = row-distances-length (goal.at.slice_bounds-joined_by_lists-end-3 c).After-distances_into
 
 pub slice_bounds-columnDistances-end-2 : goal.slice_bounds-columnDistances-end-2
 slice_bounds-columnDistances-end-2 c =
     let d = (goal.at.slice_bounds-columnDistances-end-2 c).After-distances_into-2 in
     back_holds 1024 (columns_fit (goal.at.After-distances_into-2 d).Start) (column-distances d) d.distances_into-2.auto.out
+
+pub slice_bounds-joined_by_lists-end-4 : goal.slice_bounds-joined_by_lists-end-4
+slice_bounds-joined_by_lists-end-4 c = column-distances-length (goal.at.slice_bounds-joined_by_lists-end-4 c).After-distances_into-2
 
 pub joined_by_lists-requires : goal.joined_by_lists-requires
 joined_by_lists-requires c =
@@ -140,15 +164,15 @@ returns c q k G H =
     j.joined_by_lists.ensures q k a.r a.c a.alpha a.beta G H
     (record {
       by_row =
-          lent-list (λ (n : ℕ). lagrange_values {q = q} n (of a.alpha)) (rows_fit s) (rows r) r.lagrange_values_into.kept.1.1.0
+          lent-list (λ (n : ℕ). lagrange_values {q = q} n (of a.alpha)) (rows_fit s) (rows r) r.lagrange_values_into.auto.out
           (r.lagrange_values_into.ensures q known);
       by_column =
           lent-list (λ (n : ℕ). lagrange_values {q = q} n (of a.beta)) (columns_fit s) (columns l)
-          l.lagrange_values_into-2.kept.1.1.0 (l.lagrange_values_into-2.ensures q known);
+          l.lagrange_values_into-2.auto.out (l.lagrange_values_into-2.ensures q known);
     })
     (record {
       by_row =
-          lent-list (λ (n : ℕ). distances {q = q} n (of a.alpha)) (rows_fit s) (row-distances e) e.distances_into.kept.1.1.0
+          lent-list (λ (n : ℕ). distances {q = q} n (of a.alpha)) (rows_fit s) (row-distances e) e.distances_into.auto.out
           (e.distances_into.ensures q known);
       by_column =
           lent-list (λ (n : ℕ). distances {q = q} n (of a.beta)) (columns_fit s) (column-distances d)

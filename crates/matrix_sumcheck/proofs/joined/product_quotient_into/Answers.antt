@@ -51,6 +51,9 @@ made_length c = back_length 1024 (fits (c.before.before.before.before.before.bef
 pub slice_bounds-below-end : goal.slice_bounds-below-end
 slice_bounds-below-end c = fits (goal.at.slice_bounds-below-end c).Start
 
+pub slice_bounds-products_into-end : goal.slice_bounds-products_into-end
+slice_bounds-products_into-end c = lent_length 1024 (fits (goal.at.slice_bounds-products_into-end c).Start)
+
 pub products_into-requires : goal.products_into-requires
 products_into-requires c =
     let s = (goal.at.products_into-requires c).Start in
@@ -62,6 +65,9 @@ products_into-requires c =
 
 pub slice_bounds-terms-end : goal.slice_bounds-terms-end
 slice_bounds-terms-end c = fits (goal.at.slice_bounds-terms-end c).Start
+
+pub slice_bounds-terms_into-end : goal.slice_bounds-terms_into-end
+slice_bounds-terms_into-end c = lent_length 1024 (fits (goal.at.slice_bounds-terms_into-end c).Start)
 
 pub terms_into-requires : goal.terms_into-requires
 terms_into-requires c =
@@ -75,18 +81,30 @@ terms_into-requires c =
 pub slice_bounds-below-end-2 : goal.slice_bounds-below-end-2
 slice_bounds-below-end-2 c =
     let b = (goal.at.slice_bounds-below-end-2 c).After-products_into in
-    back_holds 1024 (fits (goal.at.After-products_into b).Start) (below b) b.products_into.kept.1.1.1.1.0
+    back_holds 1024 (fits (goal.at.After-products_into b).Start) (below b) b.products_into.auto.out
+
+pub slice_bounds-divide_product_into-end : goal.slice_bounds-divide_product_into-end
+slice_bounds-divide_product_into-end c = below_length (goal.at.slice_bounds-divide_product_into-end c).After-products_into
 
 pub slice_bounds-terms-end-2 : goal.slice_bounds-terms-end-2
 slice_bounds-terms-end-2 c =
     let t = (goal.at.slice_bounds-terms-end-2 c).After-terms_into in
     back_holds 1024 (fits (t.before.before.before.before.before.before.before.before.before.before.before)) (made t) t.terms_into.auto.out
 
+pub slice_bounds-divide_product_into-end-2 : goal.slice_bounds-divide_product_into-end-2
+slice_bounds-divide_product_into-end-2 c = made_length (goal.at.slice_bounds-divide_product_into-end-2 c).After-terms_into
+
 pub slice_bounds-factor-end : goal.slice_bounds-factor-end
 slice_bounds-factor-end c = fits (c.before.before.before.before.before.before.before.before.before.before.before.before.before.before)
 
+pub slice_bounds-divide_product_into-end-3 : goal.slice_bounds-divide_product_into-end-3
+slice_bounds-divide_product_into-end-3 c = lent_length 1024 (fits (c.before.before.before.before.before.before.before.before.before.before.before.before.before.before.before))
+
 pub slice_bounds-rest-end : goal.slice_bounds-rest-end
 slice_bounds-rest-end c = fits (c.before.before.before.before.before.before.before.before.before.before.before.before.before.before.before)
+
+pub slice_bounds-divide_product_into-end-4 : goal.slice_bounds-divide_product_into-end-4
+slice_bounds-divide_product_into-end-4 c = lent_length 1024 (fits (c.before.before.before.before.before.before.before.before.before.before.before.before.before.before.before.before))
 
 pub divide_product_into-requires : goal.divide_product_into-requires
 divide_product_into-requires c =
@@ -114,7 +132,7 @@ returns c q k M r m alpha beta G H L D =
     let ts : List (Elem q) = terms r m (of alpha) (of beta) a.entries.now in
     let lent = sym (lent_length 1024 (fits s)) in
     let left =
-    back_list 1024 (fits s) (below b) b.products_into.kept.1.1.1.1.0 (tabulate n place)
+    back_list 1024 (fits s) (below b) b.products_into.auto.out (tabulate n place)
     (b.products_into.ensures q G.known.value ∙ ap (λ (j : ℕ). words (tabulate j place)) lent) in
     let right =
     back_list 1024 (fits s) (made t) t.terms_into.auto.out (padded n ts)

@@ -39,6 +39,9 @@ made_length c = back_length 1024 (fits (goal.at.After-terms_into c).Start) (made
 pub slice_bounds-values-end : goal.slice_bounds-values-end
 slice_bounds-values-end c = fits (goal.at.slice_bounds-values-end c).Start
 
+pub slice_bounds-terms_into-end : goal.slice_bounds-terms_into-end
+slice_bounds-terms_into-end c = lent_length 1024 (fits (goal.at.slice_bounds-terms_into-end c).Start)
+
 pub terms_into-requires : goal.terms_into-requires
 terms_into-requires c =
     let s = (goal.at.terms_into-requires c).Start in
@@ -58,6 +61,9 @@ pub slice_bounds-values-end-2 : goal.slice_bounds-values-end-2
 slice_bounds-values-end-2 c =
     let t = (goal.at.slice_bounds-values-end-2 c).After-terms_into in
     back_holds 1024 (fits (goal.at.After-terms_into t).Start) (made t) t.terms_into.auto.out
+
+pub slice_bounds-interpolate_into-end : goal.slice_bounds-interpolate_into-end
+slice_bounds-interpolate_into-end c = made_length (goal.at.slice_bounds-interpolate_into-end c).After-terms_into
 
 pub interpolate_into-requires : goal.interpolate_into-requires
 interpolate_into-requires c =

@@ -33,6 +33,9 @@ made_first c =
 pub slice_bounds-ratio-end : goal.slice_bounds-ratio-end
 slice_bounds-ratio-end c = fits (goal.at.slice_bounds-ratio-end c).Start
 
+pub slice_bounds-ratio_into-end : goal.slice_bounds-ratio_into-end
+slice_bounds-ratio_into-end c = lent_length 1024 (fits (goal.at.slice_bounds-ratio_into-end c).Start)
+
 pub ratio_into-requires : goal.ratio_into-requires
 ratio_into-requires c =
     let s = (goal.at.ratio_into-requires c).Start in
@@ -46,6 +49,9 @@ pub slice_bounds-ratio-end-2 : goal.slice_bounds-ratio-end-2
 slice_bounds-ratio-end-2 c =
     let t = (goal.at.slice_bounds-ratio-end-2 c).After-ratio_into in
     back_holds 1024 (fits (goal.at.After-ratio_into t).Start) (made t) t.ratio_into.auto.out
+
+pub slice_bounds-copy_tail-end : goal.slice_bounds-copy_tail-end
+slice_bounds-copy_tail-end c = made_length (goal.at.slice_bounds-copy_tail-end c).After-ratio_into
 
 pub copy_tail-requires : goal.copy_tail-requires
 copy_tail-requires c = sym (made_length (goal.at.copy_tail-requires c).After-ratio_into)

@@ -39,6 +39,9 @@ columns-length c = back_length 1024 (columns_fit (c.before.before.before.before.
 pub slice_bounds-rows-end : goal.slice_bounds-rows-end
 slice_bounds-rows-end c = rows_fit (goal.at.slice_bounds-rows-end c).Start
 
+pub slice_bounds-lagrange_values_into-end : goal.slice_bounds-lagrange_values_into-end
+slice_bounds-lagrange_values_into-end c = lent_length 1024 (rows_fit (goal.at.slice_bounds-lagrange_values_into-end c).Start)
+
 pub lagrange_values_into-requires : goal.lagrange_values_into-requires
 lagrange_values_into-requires c =
     let s = (goal.at.lagrange_values_into-requires c).Start in
@@ -49,6 +52,9 @@ lagrange_values_into-requires c =
 
 pub slice_bounds-columns-end : goal.slice_bounds-columns-end
 slice_bounds-columns-end c = columns_fit (goal.at.slice_bounds-columns-end c).Start
+
+pub slice_bounds-lagrange_values_into-end-2 : goal.slice_bounds-lagrange_values_into-end-2
+slice_bounds-lagrange_values_into-end-2 c = lent_length 1024 (columns_fit (goal.at.slice_bounds-lagrange_values_into-end-2 c).Start)
 
 pub lagrange_values_into-requires-2 : goal.lagrange_values_into-requires-2
 lagrange_values_into-requires-2 c =
@@ -61,12 +67,18 @@ lagrange_values_into-requires-2 c =
 pub slice_bounds-rows-end-2 : goal.slice_bounds-rows-end-2
 slice_bounds-rows-end-2 c =
     let r = (goal.at.slice_bounds-rows-end-2 c).After-lagrange_values_into in
-    back_holds 1024 (rows_fit (goal.at.After-lagrange_values_into r).Start) (rows r) r.lagrange_values_into.kept.1.1.0
+    back_holds 1024 (rows_fit (goal.at.After-lagrange_values_into r).Start) (rows r) r.lagrange_values_into.auto.out
+
+pub slice_bounds-values_by_lists-end : goal.slice_bounds-values_by_lists-end
+slice_bounds-values_by_lists-end c = rows-length (goal.at.slice_bounds-values_by_lists-end c).After-lagrange_values_into
 
 pub slice_bounds-columns-end-2 : goal.slice_bounds-columns-end-2
 slice_bounds-columns-end-2 c =
     let l = (goal.at.slice_bounds-columns-end-2 c).After-lagrange_values_into-2 in
     back_holds 1024 (columns_fit (l.before.before.before.before.before.before.before.before.before.before.before)) (columns l) l.lagrange_values_into-2.auto.out
+
+pub slice_bounds-values_by_lists-end-2 : goal.slice_bounds-values_by_lists-end-2
+slice_bounds-values_by_lists-end-2 c = columns-length (goal.at.slice_bounds-values_by_lists-end-2 c).After-lagrange_values_into-2
 
 pub values_by_lists-requires : goal.values_by_lists-requires
 values_by_lists-requires c =
@@ -85,7 +97,7 @@ returns c q k G H =
     (record {
       by_row =
           lent-list (λ (n : ℕ). lagrange_values {q = q} n (of a.alpha)) (rows_fit (goal.at.After-lagrange_values_into r).Start) (rows r)
-          r.lagrange_values_into.kept.1.1.0 (r.lagrange_values_into.ensures q known);
+          r.lagrange_values_into.auto.out (r.lagrange_values_into.ensures q known);
       by_column =
           lent-list (λ (n : ℕ). lagrange_values {q = q} n (of a.beta)) (columns_fit (goal.at.After-lagrange_values_into r).Start) (columns l)
           l.lagrange_values_into-2.auto.out (l.lagrange_values_into-2.ensures q known);

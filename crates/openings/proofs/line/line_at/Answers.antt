@@ -31,6 +31,9 @@ left c = take c.args.c (returned 1024 c.args.c c.rest_into.new.out)
 pub slice_bounds-rest-end : goal.slice_bounds-rest-end
 slice_bounds-rest-end c = room (goal.at.slice_bounds-rest-end c).Start
 
+pub slice_bounds-rest_into-end : goal.slice_bounds-rest_into-end
+slice_bounds-rest_into-end c = lent_length 1024 (room (goal.at.slice_bounds-rest_into-end c).Start)
+
 pub rest_into-requires : goal.rest_into-requires
 rest_into-requires c =
     let s = (goal.at.rest_into-requires c).Start in
@@ -43,6 +46,9 @@ rest_into-requires c =
 
 pub slice_bounds-rest-end-2 : goal.slice_bounds-rest-end-2
 slice_bounds-rest-end-2 c = made_holds (made (goal.at.slice_bounds-rest-end-2 c).After-rest_into)
+
+pub slice_bounds-parted_at-end : goal.slice_bounds-parted_at-end
+slice_bounds-parted_at-end c = made_length (made (goal.at.slice_bounds-parted_at-end c).After-rest_into)
 
 pub parted_at-parts-requires : goal.parted_at-parts-requires
 parted_at-parts-requires c =

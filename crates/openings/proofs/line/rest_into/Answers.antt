@@ -34,6 +34,9 @@ product_made c = record { fits = room (c.before.before.before.before.before.befo
 pub slice_bounds-products-end : goal.slice_bounds-products-end
 slice_bounds-products-end c = room (goal.at.slice_bounds-products-end c).Start
 
+pub slice_bounds-products_into-end : goal.slice_bounds-products_into-end
+slice_bounds-products_into-end c = lent_length 1024 (room (goal.at.slice_bounds-products_into-end c).Start)
+
 pub products_into-requires : goal.products_into-requires
 products_into-requires c =
     let s = (goal.at.products_into-requires c).Start in
@@ -49,8 +52,14 @@ overflow_cast-n c = omega (arith, room (goal.at.overflow_cast-n c).Start)
 pub slice_bounds-products-end-2 : goal.slice_bounds-products-end-2
 slice_bounds-products-end-2 c = made_holds (products_made (goal.at.slice_bounds-products-end-2 c).After-products_into)
 
+pub slice_bounds-interpolate_into-end : goal.slice_bounds-interpolate_into-end
+slice_bounds-interpolate_into-end c = made_length (products_made (goal.at.slice_bounds-interpolate_into-end c).After-products_into)
+
 pub slice_bounds-product-end : goal.slice_bounds-product-end
 slice_bounds-product-end c = room (goal.at.slice_bounds-product-end c).Start
+
+pub slice_bounds-interpolate_into-end-2 : goal.slice_bounds-interpolate_into-end-2
+slice_bounds-interpolate_into-end-2 c = lent_length 1024 (room (goal.at.slice_bounds-interpolate_into-end-2 c).Start)
 
 pub interpolate_into-requires : goal.interpolate_into-requires
 interpolate_into-requires c =
@@ -72,6 +81,9 @@ remainder_into-requires c =
 
 pub slice_bounds-product-end-2 : goal.slice_bounds-product-end-2
 slice_bounds-product-end-2 c = made_holds (product_made (goal.at.slice_bounds-product-end-2 c).After-interpolate_into)
+
+pub slice_bounds-add_scaled-end : goal.slice_bounds-add_scaled-end
+slice_bounds-add_scaled-end c = made_length (product_made (goal.at.slice_bounds-add_scaled-end c).After-interpolate_into)
 
 pub add_scaled-requires : goal.add_scaled-requires
 add_scaled-requires c =

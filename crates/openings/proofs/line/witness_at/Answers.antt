@@ -37,6 +37,9 @@ public_made c = record { fits = room (c.before.before.before.before.before.befor
 pub slice_bounds-lagrange-end : goal.slice_bounds-lagrange-end
 slice_bounds-lagrange-end c = room (goal.at.slice_bounds-lagrange-end c).Start
 
+pub slice_bounds-lagrange_values_into-end : goal.slice_bounds-lagrange_values_into-end
+slice_bounds-lagrange_values_into-end c = lent_length 1024 (room (goal.at.slice_bounds-lagrange_values_into-end c).Start)
+
 pub lagrange_values_into-requires : goal.lagrange_values_into-requires
 lagrange_values_into-requires c =
     let s = (goal.at.lagrange_values_into-requires c).Start in
@@ -56,6 +59,9 @@ overflow_cast-c c =
 pub slice_bounds-public-end : goal.slice_bounds-public-end
 slice_bounds-public-end c = room (goal.at.slice_bounds-public-end c).Start
 
+pub slice_bounds-public_words_into-end : goal.slice_bounds-public_words_into-end
+slice_bounds-public_words_into-end c = lent_length 1024 (room (goal.at.slice_bounds-public_words_into-end c).Start)
+
 pub public_words_into-requires : goal.public_words_into-requires
 public_words_into-requires c =
     let s = (goal.at.public_words_into-requires c).Start in
@@ -67,8 +73,14 @@ public_words_into-requires c =
 pub slice_bounds-lagrange-end-2 : goal.slice_bounds-lagrange-end-2
 slice_bounds-lagrange-end-2 c = made_holds (lagrange_made (goal.at.slice_bounds-lagrange-end-2 c).After-lagrange_values_into)
 
+pub slice_bounds-interpolated_at-end : goal.slice_bounds-interpolated_at-end
+slice_bounds-interpolated_at-end c = made_length (lagrange_made (goal.at.slice_bounds-interpolated_at-end c).After-lagrange_values_into)
+
 pub slice_bounds-public-end-2 : goal.slice_bounds-public-end-2
 slice_bounds-public-end-2 c = made_holds (public_made (goal.at.slice_bounds-public-end-2 c).After-public_words_into)
+
+pub slice_bounds-interpolated_at-end-2 : goal.slice_bounds-interpolated_at-end-2
+slice_bounds-interpolated_at-end-2 c = made_length (public_made (goal.at.slice_bounds-interpolated_at-end-2 c).After-public_words_into)
 
 pub interpolated_at-known-requires : goal.interpolated_at-known-requires
 interpolated_at-known-requires c =

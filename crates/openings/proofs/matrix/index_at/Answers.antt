@@ -44,14 +44,26 @@ lengths_same s e = (omega (arith, s.requires.lt_p), sym e)
 pub slice_bounds-row-end : goal.slice_bounds-row-end
 slice_bounds-row-end c = room (goal.at.slice_bounds-row-end c).Start
 
+pub slice_bounds-index_values_into-end : goal.slice_bounds-index_values_into-end
+slice_bounds-index_values_into-end c = lent_length 1024 (room (goal.at.slice_bounds-index_values_into-end c).Start)
+
 pub slice_bounds-col-end : goal.slice_bounds-col-end
 slice_bounds-col-end c = room (goal.at.slice_bounds-col-end c).Start
+
+pub slice_bounds-index_values_into-end-2 : goal.slice_bounds-index_values_into-end-2
+slice_bounds-index_values_into-end-2 c = lent_length 1024 (room (goal.at.slice_bounds-index_values_into-end-2 c).Start)
 
 pub slice_bounds-rowcol-end : goal.slice_bounds-rowcol-end
 slice_bounds-rowcol-end c = room (goal.at.slice_bounds-rowcol-end c).Start
 
+pub slice_bounds-index_values_into-end-3 : goal.slice_bounds-index_values_into-end-3
+slice_bounds-index_values_into-end-3 c = lent_length 1024 (room (goal.at.slice_bounds-index_values_into-end-3 c).Start)
+
 pub slice_bounds-rowcolval-end : goal.slice_bounds-rowcolval-end
 slice_bounds-rowcolval-end c = room (goal.at.slice_bounds-rowcolval-end c).Start
+
+pub slice_bounds-index_values_into-end-4 : goal.slice_bounds-index_values_into-end-4
+slice_bounds-index_values_into-end-4 c = lent_length 1024 (room (goal.at.slice_bounds-index_values_into-end-4 c).Start)
 
 pub index_values_into-requires : goal.index_values_into-requires
 index_values_into-requires c =
@@ -65,6 +77,9 @@ index_values_into-requires c =
 pub slice_bounds-row-end-2 : goal.slice_bounds-row-end-2
 slice_bounds-row-end-2 c = made_holds (row_made (goal.at.slice_bounds-row-end-2 c).After-index_values_into)
 
+pub slice_bounds-interpolated_at-end : goal.slice_bounds-interpolated_at-end
+slice_bounds-interpolated_at-end c = made_length (row_made (goal.at.slice_bounds-interpolated_at-end c).After-index_values_into)
+
 pub interpolated_at-requires : goal.interpolated_at-requires
 interpolated_at-requires c =
     let v = (goal.at.interpolated_at-requires c).After-index_values_into in
@@ -72,6 +87,9 @@ interpolated_at-requires c =
 
 pub slice_bounds-col-end-2 : goal.slice_bounds-col-end-2
 slice_bounds-col-end-2 c = made_holds (col_made (goal.at.slice_bounds-col-end-2 c).After-index_values_into)
+
+pub slice_bounds-interpolated_at-end-2 : goal.slice_bounds-interpolated_at-end-2
+slice_bounds-interpolated_at-end-2 c = made_length (col_made (goal.at.slice_bounds-interpolated_at-end-2 c).After-index_values_into)
 
 pub interpolated_at-requires-2 : goal.interpolated_at-requires-2
 interpolated_at-requires-2 c =
@@ -81,6 +99,9 @@ interpolated_at-requires-2 c =
 pub slice_bounds-rowcol-end-2 : goal.slice_bounds-rowcol-end-2
 slice_bounds-rowcol-end-2 c = made_holds (rowcol_made (goal.at.slice_bounds-rowcol-end-2 c).After-index_values_into)
 
+pub slice_bounds-interpolated_at-end-3 : goal.slice_bounds-interpolated_at-end-3
+slice_bounds-interpolated_at-end-3 c = made_length (rowcol_made (goal.at.slice_bounds-interpolated_at-end-3 c).After-index_values_into)
+
 pub interpolated_at-requires-3 : goal.interpolated_at-requires-3
 interpolated_at-requires-3 c =
     let v = (goal.at.interpolated_at-requires-3 c).After-index_values_into in
@@ -88,6 +109,9 @@ interpolated_at-requires-3 c =
 
 pub slice_bounds-rowcolval-end-2 : goal.slice_bounds-rowcolval-end-2
 slice_bounds-rowcolval-end-2 c = made_holds (rowcolval_made (goal.at.slice_bounds-rowcolval-end-2 c).After-index_values_into)
+
+pub slice_bounds-interpolated_at-end-4 : goal.slice_bounds-interpolated_at-end-4
+slice_bounds-interpolated_at-end-4 c = made_length (rowcolval_made (goal.at.slice_bounds-interpolated_at-end-4 c).After-index_values_into)
 
 pub interpolated_at-requires-4 : goal.interpolated_at-requires-4
 interpolated_at-requires-4 c =

@@ -47,6 +47,9 @@ left c =
 pub slice_bounds-places-end : goal.slice_bounds-places-end
 slice_bounds-places-end c = room c
 
+pub slice_bounds-lagrange_values_into-end : goal.slice_bounds-lagrange_values_into-end
+slice_bounds-lagrange_values_into-end c = lent_length 1024 (room (goal.at.slice_bounds-lagrange_values_into-end c).After-size_of-size)
+
 pub lagrange_values_into-requires : goal.lagrange_values_into-requires
 lagrange_values_into-requires c =
     let n = (goal.at.lagrange_values_into-requires c).After-size_of-size in
@@ -57,6 +60,9 @@ lagrange_values_into-requires c =
 
 pub slice_bounds-places-end-2 : goal.slice_bounds-places-end-2
 slice_bounds-places-end-2 c = made_holds (places_made (goal.at.slice_bounds-places-end-2 c).After-lagrange_values_into)
+
+pub slice_bounds-index_at-end : goal.slice_bounds-index_at-end
+slice_bounds-index_at-end c = made_length (places_made (goal.at.slice_bounds-index_at-end c).After-lagrange_values_into)
 
 pub index_at-opened-requires : goal.index_at-opened-requires
 index_at-opened-requires c =
@@ -73,6 +79,9 @@ index_at-opened-requires c =
 pub slice_bounds-ratio-end : goal.slice_bounds-ratio-end
 slice_bounds-ratio-end c = room (goal.at.slice_bounds-ratio-end c).After-size_of-size
 
+pub slice_bounds-ratio_into-end : goal.slice_bounds-ratio_into-end
+slice_bounds-ratio_into-end c = lent_length 1024 (room (goal.at.slice_bounds-ratio_into-end c).After-size_of-size)
+
 pub ratio_into-requires : goal.ratio_into-requires
 ratio_into-requires c =
     let n = (goal.at.ratio_into-requires c).After-size_of-size in
@@ -85,6 +94,9 @@ ratio_into-requires c =
 
 pub slice_bounds-ratio-end-2 : goal.slice_bounds-ratio-end-2
 slice_bounds-ratio-end-2 c = made_holds (ratio_made (goal.at.slice_bounds-ratio-end-2 c).After-ratio_into)
+
+pub slice_bounds-parted_at-end : goal.slice_bounds-parted_at-end
+slice_bounds-parted_at-end c = made_length (ratio_made (goal.at.slice_bounds-parted_at-end c).After-ratio_into)
 
 pub parted_at-parts-requires : goal.parted_at-parts-requires
 parted_at-parts-requires c =

@@ -24,6 +24,9 @@ made c = record { fits = room (goal.at.After-products_into c).Start; kept = c.pr
 pub slice_bounds-products-end : goal.slice_bounds-products-end
 slice_bounds-products-end c = room (goal.at.slice_bounds-products-end c).Start
 
+pub slice_bounds-products_into-end : goal.slice_bounds-products_into-end
+slice_bounds-products_into-end c = lent_length 1024 (room (goal.at.slice_bounds-products_into-end c).Start)
+
 pub products_into-requires : goal.products_into-requires
 products_into-requires c =
     let s = (goal.at.products_into-requires c).Start in
@@ -35,6 +38,9 @@ products_into-requires c =
 
 pub slice_bounds-products-end-2 : goal.slice_bounds-products-end-2
 slice_bounds-products-end-2 c = made_holds (made (goal.at.slice_bounds-products-end-2 c).After-products_into)
+
+pub slice_bounds-interpolated_at-end : goal.slice_bounds-interpolated_at-end
+slice_bounds-interpolated_at-end c = made_length (made (goal.at.slice_bounds-interpolated_at-end c).After-products_into)
 
 pub interpolated_at-both-requires : goal.interpolated_at-both-requires
 interpolated_at-both-requires c =

@@ -36,6 +36,9 @@ part n l = take n (returned 1024 n l)
 pub slice_bounds-left-end : goal.slice_bounds-left-end
 slice_bounds-left-end c = room (goal.at.slice_bounds-left-end c).Start
 
+pub slice_bounds-row_sums-end : goal.slice_bounds-row_sums-end
+slice_bounds-row_sums-end c = lent_length 1024 (room (goal.at.slice_bounds-row_sums-end c).Start)
+
 pub row_sums-requires : goal.row_sums-requires
 row_sums-requires c =
     let s = (goal.at.row_sums-requires c).Start in
@@ -46,6 +49,9 @@ row_sums-requires c =
 
 pub slice_bounds-right-end : goal.slice_bounds-right-end
 slice_bounds-right-end c = room (goal.at.slice_bounds-right-end c).Start
+
+pub slice_bounds-row_sums-end-2 : goal.slice_bounds-row_sums-end-2
+slice_bounds-row_sums-end-2 c = lent_length 1024 (room (goal.at.slice_bounds-row_sums-end-2 c).Start)
 
 pub row_sums-requires-2 : goal.row_sums-requires-2
 row_sums-requires-2 c =
@@ -58,8 +64,14 @@ row_sums-requires-2 c =
 pub slice_bounds-left-end-2 : goal.slice_bounds-left-end-2
 slice_bounds-left-end-2 c = made_holds (left_made (goal.at.slice_bounds-left-end-2 c).After-row_sums)
 
+pub slice_bounds-product_quotient_at-end : goal.slice_bounds-product_quotient_at-end
+slice_bounds-product_quotient_at-end c = made_length (left_made (goal.at.slice_bounds-product_quotient_at-end c).After-row_sums)
+
 pub slice_bounds-right-end-2 : goal.slice_bounds-right-end-2
 slice_bounds-right-end-2 c = made_holds (right_made (goal.at.slice_bounds-right-end-2 c).After-row_sums-2)
+
+pub slice_bounds-product_quotient_at-end-2 : goal.slice_bounds-product_quotient_at-end-2
+slice_bounds-product_quotient_at-end-2 c = made_length (right_made (goal.at.slice_bounds-product_quotient_at-end-2 c).After-row_sums-2)
 
 pub product_quotient_at-requires : goal.product_quotient_at-requires
 product_quotient_at-requires c =
@@ -79,7 +91,7 @@ returns c q K lagrange k W eR matrix-a matrix-b ẑ on =
     let z : List (Elem q) = map of a.z.now in
     c.product_quotient_at.ensures q K lagrange (eval (row_quotient k ẑ) (of a.alpha))
     (row-quotient_made (known-qualifies K) k (known_formed K W) eR ẑ z on
-    (part a.r l.row_sums.last.1.1.1.0) (part a.r b.row_sums-2.new.out)
+    (part a.r l.row_sums.new.out) (part a.r b.row_sums-2.new.out)
     (made_list (left_made l) (tabulate a.r (row_sum k A z))
     (made_by_length (left_made l) (λ n. tabulate n (row_sum k A z)) (l.row_sums.ensures q K.value k A matrix-a)))
     (made_list (right_made b) (tabulate a.r (row_sum k B z))

@@ -32,7 +32,7 @@ put_proof-requires c =
     let at-openings = c in
     let found =
     judged-done (refusal (goal.at.put_proof-requires at-openings).Start) _
-    (sym at-openings.openings-opened.ensures ∙ ap openings_meaning c.opened-in-Value-1.given.1) in
+    (sym at-openings.openings-opened.ensures ∙ ap openings_meaning c.in-Value.is) in
     record {
       free_job = record { none-refused = found.0 };
       most_proof_in_bounds = search rules;
@@ -45,7 +45,7 @@ returns-in-Refused c =
     let at-openings = at-opened in
     let s = (goal.at.returns-in-Refused at-openings).Start in
     let found =
-    judged-refused (refusal s) _ (sym at-openings.openings-opened.ensures ∙ ap openings_meaning at-opened.opened-1.given.1) in
+    judged-refused (refusal s) _ (sym at-openings.openings-opened.ensures ∙ ap openings_meaning at-opened.in-Refused.is) in
     written_as (refused_text_lem (input s) s.args.drawn s.requires.ec_value found) c.put_refused.ensures.written
 
 pub returns-in-Value : goal.returns-in-Value
@@ -55,6 +55,6 @@ returns-in-Value c =
     let at-openings = at-opened2 in
     let s = (goal.at.returns-in-Value at-openings).Start in
     let found =
-    judged-done (refusal s) _ (sym at-openings.openings-opened.ensures ∙ ap openings_meaning at-opened2.opened-in-Value-1.given.1) in
+    judged-done (refusal s) _ (sym at-openings.openings-opened.ensures ∙ ap openings_meaning at-opened2.in-Value.is) in
     written_as (free_text (input s) s.args.drawn s.requires.ec_value _ _ (record { none-refused = found.0 }) (sym found.1))
     c.put_proof.ensures.written

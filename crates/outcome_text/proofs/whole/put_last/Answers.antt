@@ -8,7 +8,7 @@ use Rattle.algebra.specs.Lists.{tabulate}
 use Rattle.domain.proofs.SizeLaws.{size_positive, size_bound, size_quotient_positive}
 use Rattle.protocol.specs.Messages.{lengths}
 use Rattle.shared.specs.Meanings.{three, sizes, openings}
-use Rattle.poly.proofs.LentParts.{lent_length, back_holds, back_is}
+use Rattle.poly.proofs.LentParts.{lent_length, back_holds, back_length, back_is}
 use Rattle.prover.proofs.WitnessLaws.{public_within}
 use Rattle.report.specs.ProofText.{answer_text}
 use Rattle.report.specs.Stages.{last_answer}
@@ -26,6 +26,9 @@ overflow_cast-s c =
 pub slice_bounds-x-end : goal.slice_bounds-x-end
 slice_bounds-x-end c = size_bound _ c.requires.c_value.1
 
+pub slice_bounds-public_words_into-end : goal.slice_bounds-public_words_into-end
+slice_bounds-public_words_into-end c = lent_length 1024 (size_bound _ c.requires.c_value.1)
+
 pub public_words_into-requires : goal.public_words_into-requires
 public_words_into-requires c =
     let start = c in
@@ -38,6 +41,11 @@ pub slice_bounds-x-end-2 : goal.slice_bounds-x-end-2
 slice_bounds-x-end-2 c =
     let call = c.public_words_into in
     back_holds 1024 (size_bound _ c.requires.c_value.1) call.new.out call.auto.out
+
+pub slice_bounds-last_answer-end : goal.slice_bounds-last_answer-end
+slice_bounds-last_answer-end c =
+    let call = c.public_words_into in
+    back_length 1024 (size_bound _ c.requires.c_value.1) call.new.out call.auto.out
 
 pub last_answer-answer-requires : goal.last_answer-answer-requires
 last_answer-answer-requires c = size_bound _ c.requires.c_value.0

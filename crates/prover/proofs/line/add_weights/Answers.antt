@@ -60,7 +60,7 @@ returns c q e =
     let in_a : ℕ → Elem q = λ j. of a.eta.a ⊗ column_total rows (entries_of a.ea.now) j in
     let in_b : ℕ → Elem q = λ j. of a.eta.b ⊗ column_total rows (entries_of a.eb.now) j in
     let in_c : ℕ → Elem q = λ j. of a.eta.c ⊗ column_total rows (entries_of a.ec.now) j in
-    then second.last.1.1.1.1.0 third.new.out n (λ j. old j ⊕ in_a j ⊕ in_b j) in_c
-    (then first.last.1.1.1.1.0 second.last.1.1.1.1.0 n (λ j. old j ⊕ in_a j) in_b (first.ensures q e) (second.ensures q e))
+    then second.new.out third.new.out n (λ j. old j ⊕ in_a j ⊕ in_b j) in_c
+    (then first.new.out second.new.out n (λ j. old j ⊕ in_a j) in_b (first.ensures q e) (second.ensures q e))
     (third.ensures q e)
     ∙ gather n old in_a in_b in_c

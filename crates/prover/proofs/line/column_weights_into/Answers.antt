@@ -23,6 +23,9 @@ left c = c.lagrange_values_into.new.out
 pub slice_bounds-rows-end : goal.slice_bounds-rows-end
 slice_bounds-rows-end c = bound (goal.at.slice_bounds-rows-end c).Start
 
+pub slice_bounds-lagrange_values_into-end : goal.slice_bounds-lagrange_values_into-end
+slice_bounds-lagrange_values_into-end c = part_length _ _ (bound (goal.at.slice_bounds-lagrange_values_into-end c).Start)
+
 pub lagrange_values_into-requires : goal.lagrange_values_into-requires
 lagrange_values_into-requires c =
     let s = (goal.at.lagrange_values_into-requires c).Start in
@@ -35,6 +38,11 @@ pub slice_bounds-rows-end-2 : goal.slice_bounds-rows-end-2
 slice_bounds-rows-end-2 c =
     let r = (goal.at.slice_bounds-rows-end-2 c).After-lagrange_values_into in
     filled_within _ _ (bound (goal.at.After-lagrange_values_into r).Start) (left r) r.lagrange_values_into.auto.out
+
+pub slice_bounds-weights_from-end : goal.slice_bounds-weights_from-end
+slice_bounds-weights_from-end c =
+    let r = (goal.at.slice_bounds-weights_from-end c).After-lagrange_values_into in
+    filled_length _ _ (bound (goal.at.After-lagrange_values_into r).Start) (left r) r.lagrange_values_into.auto.out
 
 pub weights_from-requires : goal.weights_from-requires
 weights_from-requires c =

@@ -76,6 +76,9 @@ overflow_sub-l c = omega (arith, positive (goal.at.overflow_sub-l c).Start)
 pub slice_bounds-values-end : goal.slice_bounds-values-end
 slice_bounds-values-end c = bound (goal.at.slice_bounds-values-end c).Start
 
+pub slice_bounds-column_weights_into-end : goal.slice_bounds-column_weights_into-end
+slice_bounds-column_weights_into-end c = lent_length 1024 (bound (goal.at.slice_bounds-column_weights_into-end c).Start)
+
 pub column_weights_into-requires : goal.column_weights_into-requires
 column_weights_into-requires c =
     let s = (goal.at.column_weights_into-requires c).Start in
@@ -91,14 +94,26 @@ slice_bounds-values-end-2 c =
     let v = (goal.at.slice_bounds-values-end-2 c).After-column_weights_into in
     back_holds 1024 (bound (goal.at.After-column_weights_into v).Start) (values v) v.column_weights_into.auto.out
 
+pub slice_bounds-divide_product_into-end : goal.slice_bounds-divide_product_into-end
+slice_bounds-divide_product_into-end c = values-whole (goal.at.slice_bounds-divide_product_into-end c).After-column_weights_into
+
 pub slice_bounds-weights-end : goal.slice_bounds-weights-end
 slice_bounds-weights-end c = bound (goal.at.slice_bounds-weights-end c).Start
+
+pub slice_bounds-divide_product_into-end-2 : goal.slice_bounds-divide_product_into-end-2
+slice_bounds-divide_product_into-end-2 c = lent_length 1024 (bound (goal.at.slice_bounds-divide_product_into-end-2 c).Start)
 
 pub slice_bounds-rest-end : goal.slice_bounds-rest-end
 slice_bounds-rest-end c = bound (goal.at.slice_bounds-rest-end c).Start
 
+pub slice_bounds-divide_product_into-end-3 : goal.slice_bounds-divide_product_into-end-3
+slice_bounds-divide_product_into-end-3 c = lent_length 1024 (bound (goal.at.slice_bounds-divide_product_into-end-3 c).Start)
+
 pub slice_bounds-high-end : goal.slice_bounds-high-end
 slice_bounds-high-end c = short (goal.at.slice_bounds-high-end c).Start
+
+pub slice_bounds-divide_product_into-end-4 : goal.slice_bounds-divide_product_into-end-4
+slice_bounds-divide_product_into-end-4 c = lent_length 1024 (short (goal.at.slice_bounds-divide_product_into-end-4 c).Start)
 
 pub divide_product_into-requires : goal.divide_product_into-requires
 divide_product_into-requires c =
@@ -119,6 +134,9 @@ slice_bounds-rest-end-2 c =
     let d = (goal.at.slice_bounds-rest-end-2 c).After-divide_product_into in
     back_holds 1024 (bound (d.before.before.before.before.before.before.before.before.before.before.before.before.before.before.before)) (rest d) d.divide_product_into.auto.rest
 
+pub slice_bounds-remainder_from-end : goal.slice_bounds-remainder_from-end
+slice_bounds-remainder_from-end c = rest-whole (goal.at.slice_bounds-remainder_from-end c).After-divide_product_into
+
 pub remainder_from-requires : goal.remainder_from-requires
 remainder_from-requires c =
     let d = (goal.at.remainder_from-requires c).After-divide_product_into in
@@ -132,12 +150,18 @@ remainder_from-requires c =
 pub slice_bounds-weights-end-2 : goal.slice_bounds-weights-end-2
 slice_bounds-weights-end-2 c =
     let d = (goal.at.slice_bounds-weights-end-2 c).After-divide_product_into in
-    back_holds 1024 (bound (d.before.before.before.before.before.before.before.before.before.before.before.before.before.before.before)) (weights d) d.divide_product_into.kept.1.1.1.0
+    back_holds 1024 (bound (d.before.before.before.before.before.before.before.before.before.before.before.before.before.before.before)) (weights d) d.divide_product_into.auto.factor
+
+pub slice_bounds-quotient_from-end : goal.slice_bounds-quotient_from-end
+slice_bounds-quotient_from-end c = weights_whole (goal.at.slice_bounds-quotient_from-end c).After-divide_product_into
 
 pub slice_bounds-high-end-2 : goal.slice_bounds-high-end-2
 slice_bounds-high-end-2 c =
     let d = (goal.at.slice_bounds-high-end-2 c).After-divide_product_into in
-    back_holds 1024 (short (d.before.before.before.before.before.before.before.before.before.before.before.before.before.before.before)) (high d) d.divide_product_into.kept.1.1.1.1.1.0
+    back_holds 1024 (short (d.before.before.before.before.before.before.before.before.before.before.before.before.before.before.before)) (high d) d.divide_product_into.auto.out
+
+pub slice_bounds-quotient_from-end-2 : goal.slice_bounds-quotient_from-end-2
+slice_bounds-quotient_from-end-2 c = high_whole (goal.at.slice_bounds-quotient_from-end-2 c).After-divide_product_into
 
 pub quotient_from-requires : goal.quotient_from-requires
 quotient_from-requires c =
@@ -179,15 +203,15 @@ returns c q known Q =
     let P : Poly q = columns Q k W z (of a.mask) m m-length α η in
     let divided = d.divide_product_into.ensures q known in
     let left : map of (take n (returned 1024 n (values v))) ≡ tabulate n f =
-    ap (map of) (back_is 1024 (bound s) (values v) v.column_weights_into.kept.1.1.1.1.1.1.1.0)
+    ap (map of) (back_is 1024 (bound s) (values v) v.column_weights_into.auto.out)
     ∙ v.column_weights_into.ensures q known k refl refl ∙ ap (λ (l : ℕ). tabulate l f) (sym (lent_length 1024 (bound s))) in
     let size = sym (values-whole v) in
     let is-rest : map of (take n (returned 1024 n (rest d))) ≡ remainder n (P ⊠ interpolate n z) =
-    back_list 1024 (bound s) (rest d) d.divide_product_into.kept.1.1.1.1.0 _ (rest_made divided size left refl) in
+    back_list 1024 (bound s) (rest d) d.divide_product_into.auto.rest _ (rest_made divided size left refl) in
     let is-weights : map of (take n (returned 1024 n (weights d))) ≡ P =
-    back_list 1024 (bound s) (weights d) d.divide_product_into.kept.1.1.1.0 _ (factor_made divided size left refl) in
+    back_list 1024 (bound s) (weights d) d.divide_product_into.auto.factor _ (factor_made divided size left refl) in
     let is-high : map of (take (n - 1) (returned 1024 (n - 1) (high d))) ≡ quotient n (P ⊠ interpolate n z) =
-    back_list 1024 (short s) (high d) d.divide_product_into.kept.1.1.1.1.1.0 _ (quotient_made divided size left refl) in (
+    back_list 1024 (short s) (high d) d.divide_product_into.auto.out _ (quotient_made divided size left refl) in (
       first.remainder_from.ensures q known.value
           ∙ (λ t. words (tail (remainder (sym (rest-whole d) t) m ⊞ is-rest t)))
           ∙ ap words (line-remainder_made Q k W z (of a.mask) m m-length α η),

@@ -29,6 +29,9 @@ sums-b c = c.row_sums-2.new.out
 pub slice_bounds-left-end : goal.slice_bounds-left-end
 slice_bounds-left-end c = bound (goal.at.slice_bounds-left-end c).Start
 
+pub slice_bounds-row_sums-end : goal.slice_bounds-row_sums-end
+slice_bounds-row_sums-end c = part_length _ _ (bound (goal.at.slice_bounds-row_sums-end c).Start)
+
 pub row_sums-requires : goal.row_sums-requires
 row_sums-requires c =
     let s = (goal.at.row_sums-requires c).Start in
@@ -39,6 +42,9 @@ row_sums-requires c =
 
 pub slice_bounds-right-end : goal.slice_bounds-right-end
 slice_bounds-right-end c = bound (goal.at.slice_bounds-right-end c).Start
+
+pub slice_bounds-row_sums-end-2 : goal.slice_bounds-row_sums-end-2
+slice_bounds-row_sums-end-2 c = part_length _ _ (bound (goal.at.slice_bounds-row_sums-end-2 c).Start)
 
 pub row_sums-requires-2 : goal.row_sums-requires-2
 row_sums-requires-2 c =
@@ -51,25 +57,41 @@ row_sums-requires-2 c =
 pub slice_bounds-left-end-2 : goal.slice_bounds-left-end-2
 slice_bounds-left-end-2 c =
     let a = (goal.at.slice_bounds-left-end-2 c).After-row_sums in
-    filled_within _ _ (bound (goal.at.After-row_sums a).Start) (sums-a a) a.row_sums.kept.1.1.1.0
+    filled_within _ _ (bound (goal.at.After-row_sums a).Start) (sums-a a) a.row_sums.auto.out
+
+pub slice_bounds-divide_product_into-end : goal.slice_bounds-divide_product_into-end
+slice_bounds-divide_product_into-end c =
+    let a = (goal.at.slice_bounds-divide_product_into-end c).After-row_sums in
+    filled_length _ _ (bound (goal.at.After-row_sums a).Start) (sums-a a) a.row_sums.auto.out
 
 pub slice_bounds-right-end-2 : goal.slice_bounds-right-end-2
 slice_bounds-right-end-2 c =
     let b = (goal.at.slice_bounds-right-end-2 c).After-row_sums-2 in
     filled_within _ _ (bound (b.before.before.before.before.before.before.before.before.before)) (sums-b b) b.row_sums-2.auto.out
 
+pub slice_bounds-divide_product_into-end-2 : goal.slice_bounds-divide_product_into-end-2
+slice_bounds-divide_product_into-end-2 c =
+    let b = (goal.at.slice_bounds-divide_product_into-end-2 c).After-row_sums-2 in
+    filled_length _ _ (bound (b.before.before.before.before.before.before.before.before.before)) (sums-b b) b.row_sums-2.auto.out
+
 pub slice_bounds-factor-end : goal.slice_bounds-factor-end
 slice_bounds-factor-end c = bound (c.before.before.before.before.before.before.before.before.before.before.before.before)
 
+pub slice_bounds-divide_product_into-end-3 : goal.slice_bounds-divide_product_into-end-3
+slice_bounds-divide_product_into-end-3 c = part_length _ _ (bound (c.before.before.before.before.before.before.before.before.before.before.before.before.before))
+
 pub slice_bounds-rest-end : goal.slice_bounds-rest-end
 slice_bounds-rest-end c = bound (c.before.before.before.before.before.before.before.before.before.before.before.before.before)
+
+pub slice_bounds-divide_product_into-end-4 : goal.slice_bounds-divide_product_into-end-4
+slice_bounds-divide_product_into-end-4 c = part_length _ _ (bound (c.before.before.before.before.before.before.before.before.before.before.before.before.before.before))
 
 pub divide_product_into-requires : goal.divide_product_into-requires
 divide_product_into-requires c =
     let b = (goal.at.divide_product_into-requires c).After-row_sums-2 in
     let a = (goal.at.After-row_sums-2 b).After-row_sums in
     let s = (goal.at.After-row_sums a).Start in
-    let left = filled_length _ _ (bound s) (sums-a a) a.row_sums.kept.1.1.1.0 in
+    let left = filled_length _ _ (bound s) (sums-a a) a.row_sums.auto.out in
     let right = filled_length _ _ (bound s) (sums-b b) b.row_sums-2.auto.out in
     let lent = sym (part_length _ _ (bound s)) ∙ left in
     let whole : length s.args.out.now + 1 ≡ s.args.r = omega (arith, size_positive s.args.r s.requires.r_value) in
@@ -93,8 +115,8 @@ returns c q known Q k W eR ea eb ẑ values =
     let z : List (Elem q) = map of s.args.z.now in
     let whole = part_length _ _ (bound s) in
     quotient_made (d.divide_product_into.ensures q known)
-    (sym (filled_length _ _ (bound s) (sums-a a) a.row_sums.kept.1.1.1.0))
-    (of_filled _ _ (bound s) (sums-a a) a.row_sums.kept.1.1.1.0 (tabulate r (row_sum k A z))
+    (sym (filled_length _ _ (bound s) (sums-a a) a.row_sums.auto.out))
+    (of_filled _ _ (bound s) (sums-a a) a.row_sums.auto.out (tabulate r (row_sum k A z))
     (a.row_sums.ensures q known.value k A ea ∙ ap (λ (n : ℕ). words (tabulate n (row_sum k A z))) (sym whole)))
     (of_filled _ _ (bound s) (sums-b b) b.row_sums-2.auto.out (tabulate r (row_sum k B z))
     (b.row_sums-2.ensures q known.value k B eb ∙ ap (λ (n : ℕ). words (tabulate n (row_sum k B z))) (sym whole)))

@@ -49,6 +49,9 @@ rows_made c {q} known =
 pub slice_bounds-rows-end : goal.slice_bounds-rows-end
 slice_bounds-rows-end c = bound (goal.at.slice_bounds-rows-end c).Start
 
+pub slice_bounds-lagrange_values_into-end : goal.slice_bounds-lagrange_values_into-end
+slice_bounds-lagrange_values_into-end c = part_length _ _ (bound (goal.at.slice_bounds-lagrange_values_into-end c).Start)
+
 pub lagrange_values_into-requires : goal.lagrange_values_into-requires
 lagrange_values_into-requires c =
     let s = (goal.at.lagrange_values_into-requires c).Start in
@@ -59,6 +62,9 @@ lagrange_values_into-requires c =
 
 pub slice_bounds-rows-end-2 : goal.slice_bounds-rows-end-2
 slice_bounds-rows-end-2 c = part_again (goal.at.slice_bounds-rows-end-2 c).After-lagrange_values_into
+
+pub slice_bounds-entries_sum-end : goal.slice_bounds-entries_sum-end
+slice_bounds-entries_sum-end c = whole_again (goal.at.slice_bounds-entries_sum-end c).After-lagrange_values_into
 
 pub entries_sum-requires : goal.entries_sum-requires
 entries_sum-requires c =
@@ -72,6 +78,9 @@ entries_sum-requires c =
 pub slice_bounds-rows-end-3 : goal.slice_bounds-rows-end-3
 slice_bounds-rows-end-3 c = part_again (goal.at.slice_bounds-rows-end-3 c).After-lagrange_values_into
 
+pub slice_bounds-entries_sum-end-2 : goal.slice_bounds-entries_sum-end-2
+slice_bounds-entries_sum-end-2 c = whole_again (goal.at.slice_bounds-entries_sum-end-2 c).After-lagrange_values_into
+
 pub entries_sum-requires-2 : goal.entries_sum-requires-2
 entries_sum-requires-2 c =
     let r = (goal.at.entries_sum-requires-2 c).After-lagrange_values_into in
@@ -83,6 +92,9 @@ entries_sum-requires-2 c =
 
 pub slice_bounds-rows-end-4 : goal.slice_bounds-rows-end-4
 slice_bounds-rows-end-4 c = part_again (goal.at.slice_bounds-rows-end-4 c).After-lagrange_values_into
+
+pub slice_bounds-entries_sum-end-3 : goal.slice_bounds-entries_sum-end-3
+slice_bounds-entries_sum-end-3 c = whole_again (goal.at.slice_bounds-entries_sum-end-3 c).After-lagrange_values_into
 
 pub entries_sum-requires-3 : goal.entries_sum-requires-3
 entries_sum-requires-3 c =

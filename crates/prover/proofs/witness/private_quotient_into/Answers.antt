@@ -20,6 +20,9 @@ bound c = size_bound c.args.c c.requires.c_value.0
 pub slice_bounds-whole-end : goal.slice_bounds-whole-end
 slice_bounds-whole-end c = bound (goal.at.slice_bounds-whole-end c).Start
 
+pub slice_bounds-interpolate_into-end : goal.slice_bounds-interpolate_into-end
+slice_bounds-interpolate_into-end c = part_length _ _ (bound (goal.at.slice_bounds-interpolate_into-end c).Start)
+
 pub interpolate_into-requires : goal.interpolate_into-requires
 interpolate_into-requires c =
     let s = (goal.at.interpolate_into-requires c).Start in
@@ -33,6 +36,11 @@ pub slice_bounds-whole-end-2 : goal.slice_bounds-whole-end-2
 slice_bounds-whole-end-2 c =
     let v = c in
     filled_within _ _ (bound (goal.at.slice_bounds-whole-end-2 v).Start) v.interpolate_into.new.out v.interpolate_into.auto.out
+
+pub slice_bounds-quotient_into-end : goal.slice_bounds-quotient_into-end
+slice_bounds-quotient_into-end c =
+    let v = c in
+    filled_length _ _ (bound (goal.at.slice_bounds-quotient_into-end v).Start) v.interpolate_into.new.out v.interpolate_into.auto.out
 
 pub quotient_into-requires : goal.quotient_into-requires
 quotient_into-requires c =

@@ -22,6 +22,9 @@ overflow_add-n c = omega arith
 pub slice_bounds-vanishing-end : goal.slice_bounds-vanishing-end
 slice_bounds-vanishing-end c = bound (goal.at.slice_bounds-vanishing-end c).Start
 
+pub slice_bounds-fill_vanishing-end : goal.slice_bounds-fill_vanishing-end
+slice_bounds-fill_vanishing-end c = part_length _ _ (bound (goal.at.slice_bounds-fill_vanishing-end c).Start)
+
 pub fill_vanishing-requires : goal.fill_vanishing-requires
 fill_vanishing-requires c =
     let s = (goal.at.fill_vanishing-requires c).Start in
@@ -34,6 +37,11 @@ pub slice_bounds-vanishing-end-2 : goal.slice_bounds-vanishing-end-2
 slice_bounds-vanishing-end-2 c =
     let f = c in
     filled_within _ _ (bound (goal.at.slice_bounds-vanishing-end-2 f).Start) f.fill_vanishing.new.out f.fill_vanishing.auto.out
+
+pub slice_bounds-quotient_into-end : goal.slice_bounds-quotient_into-end
+slice_bounds-quotient_into-end c =
+    let f = c in
+    filled_length _ _ (bound (goal.at.slice_bounds-quotient_into-end f).Start) f.fill_vanishing.new.out f.fill_vanishing.auto.out
 
 pub quotient_into-requires : goal.quotient_into-requires
 quotient_into-requires c =

@@ -34,6 +34,9 @@ overflow_cast-n c = omega arith
 pub slice_bounds-private_quotient_into-end : goal.slice_bounds-private_quotient_into-end
 slice_bounds-private_quotient_into-end c = omega arith
 
+pub slice_bounds-private_quotient_into-end-2 : goal.slice_bounds-private_quotient_into-end-2
+slice_bounds-private_quotient_into-end-2 c = part_length _ _ (short (goal.at.slice_bounds-private_quotient_into-end-2 c).Start)
+
 pub private_quotient_into-requires : goal.private_quotient_into-requires
 private_quotient_into-requires c =
     let s = (goal.at.private_quotient_into-requires c).Start in
@@ -55,6 +58,9 @@ overflow_add-l c = omega arith
 pub slice_bounds-ratio-end : goal.slice_bounds-ratio-end
 slice_bounds-ratio-end c = bound (goal.at.slice_bounds-ratio-end c).Start
 
+pub slice_bounds-vanishing_ratio_into-end : goal.slice_bounds-vanishing_ratio_into-end
+slice_bounds-vanishing_ratio_into-end c = part_length _ _ (bound (goal.at.slice_bounds-vanishing_ratio_into-end c).Start)
+
 pub vanishing_ratio_into-requires : goal.vanishing_ratio_into-requires
 vanishing_ratio_into-requires c =
     let s = (goal.at.vanishing_ratio_into-requires c).Start in
@@ -70,6 +76,12 @@ slice_bounds-ratio-end-2 c =
     let ratio = r.vanishing_ratio_into in
     filled_within _ _ (bound (r.before.before.before.before.before.before.before.before)) ratio.new.out ratio.auto.out
 
+pub slice_bounds-add_scaled-end : goal.slice_bounds-add_scaled-end
+slice_bounds-add_scaled-end c =
+    let r = c in
+    let ratio = r.vanishing_ratio_into in
+    filled_length _ _ (bound (r.before.before.before.before.before.before.before.before)) ratio.new.out ratio.auto.out
+
 pub add_scaled-requires : goal.add_scaled-requires
 add_scaled-requires c =
     let r = c in
@@ -78,14 +90,14 @@ add_scaled-requires c =
     let first = r.private_quotient_into in record {
       p_nonzero = omega arith;
       g_in_bounds = part_order (filled_length _ _ (bound s) ratio.new.out ratio.auto.out)
-          (omega (arith, padded-length s first.last.1.1.1.1.0 first.kept.1.1.1.1.0));
+          (omega (arith, padded-length s first.new.out first.auto.out));
     }
 
 pub shape_of-out : goal.shape_of-out
 shape_of-out c =
     let d = c in
     let first = d.private_quotient_into in
-    c.add_scaled.auto.f ∙ padded-length (goal.at.shape_of-out d).Start first.last.1.1.1.1.0 first.kept.1.1.1.1.0
+    c.add_scaled.auto.f ∙ padded-length (goal.at.shape_of-out d).Start first.new.out first.auto.out
 
 pub returns : goal.returns
 returns c q known k eC eX =
@@ -99,7 +111,7 @@ returns c q known k eC eX =
     let part = part_length n a.out.now (short s) in
     c.add_scaled.ensures q known.value
     ∙ witness_made q k (map of a.z.now) (of a.mask) eC eX sizes.2
-    (padded n a.out.now first.last.1.1.1.1.0 s.requires.z_len.1 (first.kept.1.1.1.1.0 ∙ sym part))
+    (padded n a.out.now first.new.out s.requires.z_len.1 (first.auto.out ∙ sym part))
     (first.ensures q known)
     (of_filled _ _ (bound s) ratio.new.out ratio.auto.out (quotient a.x (vanishing_poly a.c)) (ratio.ensures q known.value))
-    (omega (arith, first.kept.1.1.1.1.0, part, length_vanishing_ratio q a.x a.c sizes.1 sizes.0 sizes.2))
+    (omega (arith, first.auto.out, part, length_vanishing_ratio q a.x a.c sizes.1 sizes.0 sizes.2))

@@ -17,20 +17,17 @@ fine c = sym c.is_fine.ensures ∙ c.if-not-is_fine.false
 pub returns-then-not-is_fine : goal.returns-then-not-is_fine
 unfolding layout_refusal
 returns-then-not-is_fine c =
-    let e = c in
-    stops e.end_fault-end.result e.end_fault-end.ensures (trailer_row e.args.bytes.now ∷ [])
+    stops c.end_fault-end.result c.end_fault-end.ensures (trailer_row c.args.bytes.now ∷ [])
     (sym c.is_fine.ensures ∙ c.if-not-is_fine.true)
 
 pub trailer_fault-requires : goal.trailer_fault-requires
 trailer_fault-requires c =
-    let e = c in
-    let bytes = e.args.bytes.now in
-    end_long (length bytes) (trailer_word bytes 17) (fine_none e.end_fault-end.result e.end_fault-end.ensures (fine c))
+    let bytes = c.args.bytes.now in
+    end_long (length bytes) (trailer_word bytes 17) (fine_none c.end_fault-end.result c.end_fault-end.ensures (fine c))
 
 pub returns : goal.returns
 unfolding layout_refusal
 returns c =
     let d = (goal.at.returns c).Else-not-is_fine in
-    let e = d in
-    goes_on e.end_fault-end.result e.end_fault-end.ensures (trailer_row e.args.bytes.now ∷ []) (fine d)
+    goes_on d.end_fault-end.result d.end_fault-end.ensures (trailer_row d.args.bytes.now ∷ []) (fine d)
     (last_answer_lem c.trailer_fault.ensures)

@@ -17,36 +17,32 @@ free j told = sym j.layout_fault.ensures ∙ ap fault_refusal told
 
 pub returns-in-Refused : goal.returns-in-Refused
 returns-in-Refused c q e =
-    let j = c in
-    let bytes = j.args.bytes.now in
+    let bytes = c.args.bytes.now in
     sym (read-refused bytes q
     (record_rows_lem bytes q
-    ∙ first_stop (word_row bytes q ∷ []) (sym j.layout_fault.ensures ∙ ap fault_refusal c.number-1.given.1)))
+    ∙ first_stop (word_row bytes q ∷ []) (sym c.layout_fault.ensures ∙ ap fault_refusal c.in-Refused.is)))
 
 pub section_words_fault-requires : goal.section_words_fault-requires
-section_words_fault-requires c = free (goal.at.section_words_fault-requires c).After-layout_fault c.enum_told-1.given.1
+section_words_fault-requires c = free (goal.at.section_words_fault-requires c).After-layout_fault c.in_default.is
 
 pub returns-in-Refused-section_words_fault : goal.returns-in-Refused-section_words_fault
 returns-in-Refused-section_words_fault c q e =
-    let scanned = c in
-    let j = (goal.at.returns-in-Refused-section_words_fault scanned).After-layout_fault in
+    let j = (goal.at.returns-in-Refused-section_words_fault c).After-layout_fault in
     let bytes = j.args.bytes.now in
     sym (read-refused bytes q
-    (record_rows_lem bytes q ∙ first_pass (word_row bytes q) (free j scanned.enum_told-1.given.1)
-    ∙ sym (scanned.section_words_fault.ensures q e) ∙ ap fault_refusal c.number-in-Refused-section_words_fault-1.given.1))
+    (record_rows_lem bytes q ∙ first_pass (word_row bytes q) (free j c.in_default.is)
+    ∙ sym (c.section_words_fault.ensures q e) ∙ ap fault_refusal c.in-Refused-section_words_fault.is))
 
 pub sizes_in-requires : goal.sizes_in-requires
 sizes_in-requires c =
-    let scanned = c in
-    let j = (goal.at.sizes_in-requires scanned).After-layout_fault in
-    (laid j.args.bytes.now (free j scanned.enum_told-1.given.1)).long
+    let j = (goal.at.sizes_in-requires c).After-layout_fault in
+    (laid j.args.bytes.now (free j c.in_default.is)).long
 
 pub returns : goal.returns
 returns c q e =
-    let scanned = c in
-    let j = (goal.at.returns scanned).After-layout_fault in
+    let j = (goal.at.returns c).After-layout_fault in
     let bytes = j.args.bytes.now in
     ap Done c.sizes_in.ensures
     ∙ sym (read_whole bytes q
-    (record_rows_lem bytes q ∙ first_pass (word_row bytes q) (free j scanned.enum_told-1.given.1)
-    ∙ sym (scanned.section_words_fault.ensures q e) ∙ ap fault_refusal c.enum_told-in_default-section_words_fault-1.given.1))
+    (record_rows_lem bytes q ∙ first_pass (word_row bytes q) (free j c.in_default.is)
+    ∙ sym (c.section_words_fault.ensures q e) ∙ ap fault_refusal c.in_default-section_words_fault.is))

@@ -34,9 +34,8 @@ returns-then-not-is_fine c =
 
 pub starts_fault-requires : goal.starts_fault-requires
 starts_fault-requires c =
-    let j = c in
-    let s = j.sizes_in-s.result in
-    (search rules, refuse-none 3 11 (six_size_tests (sizes s)) (fine_none j.judge_sizes-size.result j.judge_sizes-size.ensures (fine c)))
+    let s = c.sizes_in-s.result in
+    (search rules, refuse-none 3 11 (six_size_tests (sizes s)) (fine_none c.judge_sizes-size.result c.judge_sizes-size.ensures (fine c)))
 
 pub returns : goal.returns
 returns c =

@@ -15,8 +15,5 @@ four_bytes bytes i e f g h = let first = e ∙ ap (λ n. get_or bytes n 0) (sym 
 
 pub returns : goal.returns
 returns c =
-    let d = c in
-    let b = d in
-    let a = b in
-    let s = a.args in
-    four_bytes s.bytes.now s.i a.wide.ensures.0 b.wide-2.ensures.0 d.wide-3.ensures.0 c.wide-4.ensures.0
+    let s = c.args in
+    four_bytes s.bytes.now s.i c.wide.ensures.0 c.wide-2.ensures.0 c.wide-3.ensures.0 c.wide-4.ensures.0

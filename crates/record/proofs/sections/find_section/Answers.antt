@@ -23,7 +23,7 @@ free j told = sym j.layout_fault.ensures ∙ ap fault_refusal told
 -- what is known of the record once its words are looked through
 module _ (w : After-section_words_fault) where
   abbrev judged : After-layout_fault
-  judged = w.before.before.before.before
+  judged = (goal.at.After-section_words_fault w).After-layout_fault
 
   abbrev bytes : List ℕ
   bytes = judged.args.bytes.now
@@ -41,12 +41,12 @@ module _ (w : After-section_words_fault) where
   within = omega (arith, below, eleven (sizes_read bytes))
 
   layout_free : layout_refusal bytes ≡ none
-  layout_free = free judged w.enum_told-1.given.1
+  layout_free = free judged w.in_default.is
 
 -- the bounds of the sections
 module _ (b : After-section_bounds-bounds) where
   abbrev scanned : After-section_words_fault
-  scanned = b.before.before.before.before
+  scanned = (goal.at.After-section_bounds-bounds b).After-section_words_fault
 
   abbrev given : List ℕ
   given = b.section_bounds-bounds.result
@@ -59,9 +59,8 @@ module _ (b : After-section_bounds-bounds) where
 
 pub returns-in-Refused : goal.returns-in-Refused
 returns-in-Refused c =
-    let j = c in
-    let a = j.args in
-    let stopped = sym j.layout_fault.ensures ∙ ap fault_refusal c.number-1.given.1 in
+    let a = c.args in
+    let stopped = sym c.layout_fault.ensures ∙ ap fault_refusal c.in-Refused.is in
     record {
       result_value = λ q e. sym (place_by_layout q a.bytes.now a.k stopped);
       within = tt;
@@ -72,18 +71,18 @@ returns-then-k-ge-SECTIONS c =
     let j = (goal.at.returns-then-k-ge-SECTIONS c).After-layout_fault in
     let a = j.args in
     record {
-      result_value = λ q e. sym (place_by_number q a.bytes.now a.k (free j c.enum_told-1.given.1) c.if-k-ge-SECTIONS.true);
+      result_value = λ q e. sym (place_by_number q a.bytes.now a.k (free j c.in_default.is) c.if-k-ge-SECTIONS.true);
       within = tt;
     }
 
 pub section_words_fault-requires : goal.section_words_fault-requires
-section_words_fault-requires c = free (goal.at.section_words_fault-requires c).After-layout_fault c.enum_told-1.given.1
+section_words_fault-requires c = free (goal.at.section_words_fault-requires c).After-layout_fault c.in_default.is
 
 pub returns-in-Refused-section_words_fault : goal.returns-in-Refused-section_words_fault
 returns-in-Refused-section_words_fault c =
     let w = (goal.at.returns-in-Refused-section_words_fault c).After-section_words_fault in record {
       result_value = λ q e. sym (place_by_words q (bytes w) (k w) (layout_free w) (below w)
-          (sym (w.section_words_fault.ensures q e) ∙ ap fault_refusal c.number-in-Refused-section_words_fault-1.given.1));
+          (sym (w.section_words_fault.ensures q e) ∙ ap fault_refusal c.in-Refused-section_words_fault.is));
       within = tt;
     }
 
@@ -94,7 +93,7 @@ pub section_bounds-bounds-requires : goal.section_bounds-bounds-requires
 section_bounds-bounds-requires c = let w = (goal.at.section_bounds-bounds-requires c).After-section_words_fault in rw c.sizes_in.ensures (laid (bytes w) (layout_free w)).allowed
 
 pub overflow_sub-result : goal.overflow_sub-result
-overflow_sub-result c = rises c
+overflow_sub-result c = rises (goal.at.overflow_sub-result c).After-section_bounds-bounds
 
 pub returns : goal.returns
 unfolding section_bytes
@@ -105,6 +104,6 @@ returns c =
       result_value = λ q e. ap₂ (λ start len. Done (start, len)) (start_between (lengths w) b (same c) (k w) (within w))
           (length-between (lengths w) b (same c) (k w) (within w))
           ∙ sym (place_found q (bytes w) (k w) (layout_free w) (below w)
-          (sym (w.section-words-fault.ensures q e) ∙ ap fault_refusal c.enum_told-in_default-section_words_fault-1.given.1));
+          (sym (w.section_words_fault.ensures q e) ∙ ap fault_refusal c.in_default-section_words_fault.is));
       within = omega (arith, rises c, bounds-within (lengths w) b (same c) (k w) (within w), l.total, l.long);
     }

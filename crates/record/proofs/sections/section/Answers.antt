@@ -25,19 +25,19 @@ found_within : (f : After-find_section) {start len : ℕ} → f.find_section.res
 found_within f told = rw told at f.find_section.ensures.within
 
 pub overflow_add-result : goal.overflow_add-result
-overflow_add-result c = omega (arith, found_within (goal.at.overflow_add-result c).After-find_section c.start-1.given.1)
+overflow_add-result c = omega (arith, found_within (goal.at.overflow_add-result c).After-find_section c.in-At.is)
 
 pub slice_bounds-result-end : goal.slice_bounds-result-end
-slice_bounds-result-end c = omega (arith, found_within (goal.at.slice_bounds-result-end c).After-find_section c.start-1.given.1)
+slice_bounds-result-end c = omega (arith, found_within (goal.at.slice_bounds-result-end c).After-find_section c.in-At.is)
 
 pub returns-in-At : goal.returns-in-At
 returns-in-At c q e =
     let f = (goal.at.returns-in-At c).After-find_section in
     let a = f.args in
-    let start = c.start-1.given.0.0 in
-    let len = c.start-1.given.0.1.0 in
+    let start = c.in-At.start in
+    let len = c.in-At.len in
     let long : start + len - start ≡ len = omega arith in
-    ap (λ n. take n (drop start a.bytes.now)) long ∙ rw c.start-1.given.1 at (part-found f q e)
+    ap (λ n. take n (drop start a.bytes.now)) long ∙ rw c.in-At.is at (part-found f q e)
 
 pub returns-in-Refused : goal.returns-in-Refused
-returns-in-Refused c q e = rw c.enum_told-1.given.1 at (part-found (goal.at.returns-in-Refused c).After-find_section q e)
+returns-in-Refused c q e = rw c.in-Refused.is at (part-found (goal.at.returns-in-Refused c).After-find_section q e)

@@ -20,7 +20,7 @@ use Rattle.record_writer.proofs.judging.lengths_fault.Goals.{After-section_bound
 -- the row of the lengths, and the refusal by it, from where the bounds are known
 module _ (b : After-section_bounds-bounds) where
   abbrev start : Start
-  start = b.before.before.before
+  start = (goal.at.After-section_bounds-bounds b).Start
 
   abbrev tests : List Bool
   tests = pairs eqb start.args.found.now b.section_lengths-due.result
@@ -30,7 +30,7 @@ module _ (b : After-section_bounds-bounds) where
 
   rows : length_refusals (sizes start.args.s) start.args.found.now start.args.lent ≡ first (refuse 5 0 tests ∷ lent_row ∷ [])
   rows =
-      length-rows (sizes start.args.s) start.args.found.now _ _ start.args.lent start.pre.1
+      length-rows (sizes start.args.s) start.args.found.now _ _ start.args.lent start.requires.1
       b.section_lengths-due.ensures b.section_bounds-bounds.ensures
 
   length_tests : length tests ≡ 11
@@ -38,13 +38,13 @@ module _ (b : After-section_bounds-bounds) where
       omega (
         arith,
         length_pairs eqb start.args.found.now b.section_lengths-due.result,
-        start.pre.1,
+        start.requires.1,
         length-due (sizes start.args.s) b.section_lengths-due.ensures,
       )
 
   test_at : (k : ℕ) → k < 11 → get_or tests k false ≡ eqb (get_or start.args.found.now k 0) (get_or b.section_lengths-due.result k 0)
   test_at k below =
-      pairs-at eqb start.args.found.now b.section_lengths-due.result k 0 0 false (omega (arith, start.pre.1))
+      pairs-at eqb start.args.found.now b.section_lengths-due.result k 0 0 false (omega (arith, start.requires.1))
       (omega (arith, length-due (sizes start.args.s) b.section_lengths-due.ensures))
 
 pub section_bounds-bounds-requires : goal.section_bounds-bounds-requires
@@ -55,40 +55,35 @@ loop-k-init c = (omega arith, passed_none 5 0 _)
 
 pub returns-then-found-k : goal.returns-then-found-k
 returns-then-found-k c =
-    let l = c in
-    let b = (goal.at.returns-then-found-k l).After-section_bounds-bounds in
-    let stops = passed_stop 5 0 (tests b) l.loop-k.k l.loop-k.invariant.1 (omega (arith, length_tests b)) false l.loop-k.k (omega arith)
-    (test_at b l.loop-k.k (omega arith) ∙ ne_eqb _ _ c.if-found-k.true) in
+    let b = (goal.at.returns-then-found-k c).After-section_bounds-bounds in
+    let stops = passed_stop 5 0 (tests b) c.loop-k.k c.loop-k.invariant.1 (omega (arith, length_tests b)) false c.loop-k.k (omega arith)
+    (test_at b c.loop-k.k (omega arith) ∙ ne_eqb _ _ c.if-found-k.true) in
     sym (rows b ∙ first_stop (lent_row b ∷ []) (sym stops))
 
 pub loop-k-preserved : goal.loop-k-preserved
 loop-k-preserved c =
-    let l = c in
-    let b = (goal.at.loop-k-preserved l).After-section_bounds-bounds in (
+    let b = (goal.at.loop-k-preserved c).After-section_bounds-bounds in (
       search rules,
-      passed_turn 5 0 (tests b) l.loop-k.k l.loop-k.invariant.1 (omega (arith, length_tests b)) false
-          (test_at b l.loop-k.k (omega arith) ∙ eq-eqb _ _ c.if-found-k.false),
+      passed_turn 5 0 (tests b) c.loop-k.k c.loop-k.invariant.1 (omega (arith, length_tests b)) false
+          (test_at b c.loop-k.k (omega arith) ∙ eq-eqb _ _ c.if-found-k.false),
     )
 
 pub overflow_add-bounds : goal.overflow_add-bounds
 overflow_add-bounds c =
-    let a = c in
     omega (
       arith,
-      total_bound (sizes a.args.s) a.requires.0 c.section_bounds-bounds.result
+      total_bound (sizes c.args.s) c.requires.0 c.section_bounds-bounds.result
           c.section_bounds-bounds.ensures,
     )
 
 pub returns-then-lent-bounds : goal.returns-then-lent-bounds
 returns-then-lent-bounds c =
-    let l = c in
-    let b = (goal.at.returns-then-lent-bounds l).After-section_bounds-bounds in
-    sym (rows b ∙ first_pass (lent_row b) (passed_end 5 0 (tests b) l.loop-k.k l.loop-k.invariant.1 (omega (arith, length_tests b)))
+    let b = (goal.at.returns-then-lent-bounds c).After-section_bounds-bounds in
+    sym (rows b ∙ first_pass (lent_row b) (passed_end 5 0 (tests b) c.loop-k.k c.loop-k.invariant.1 (omega (arith, length_tests b)))
     ∙ ap (λ t. refuse 5 11 (t ∷ [])) (ne_eqb _ _ c.if-lent-bounds.true))
 
 pub returns : goal.returns
 returns c =
-    let l = c in
-    let b = (goal.at.returns l).After-section_bounds-bounds in
-    sym (rows b ∙ first_pass (lent_row b) (passed_end 5 0 (tests b) l.loop-k.k l.loop-k.invariant.1 (omega (arith, length_tests b)))
+    let b = (goal.at.returns c).After-section_bounds-bounds in
+    sym (rows b ∙ first_pass (lent_row b) (passed_end 5 0 (tests b) c.loop-k.k c.loop-k.invariant.1 (omega (arith, length_tests b)))
     ∙ ap (λ t. refuse 5 11 (t ∷ [])) (eq-eqb _ _ c.if-lent-bounds.false))

@@ -22,8 +22,7 @@ returns-then-not-is_fine c =
 
 pub returns : goal.returns
 returns c =
-    let d = c in
-    let s = (goal.at.returns d).Start in record {
+    let s = (goal.at.returns c).Start in record {
       count_value = refl;
-      fault_value = goes_on s.args.scan.fault refl (here s) (sym d.is_fine.ensures ∙ d.if-not-is_fine.false) (last_answer_lem c.judge_words.ensures);
+      fault_value = goes_on s.args.scan.fault refl (here s) (sym c.is_fine.ensures ∙ c.if-not-is_fine.false) (last_answer_lem c.judge_words.ensures);
     }

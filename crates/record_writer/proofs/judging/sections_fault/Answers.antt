@@ -8,137 +8,92 @@ use Rattle.record_writer.proofs.judging.sections_fault.Goals as goal
 
 pub scan_words-scan-requires-7 : goal.scan_words-scan-requires-7
 scan_words-scan-requires-7 c =
-    let c5 = c in
-    let c4 = c5 in
-    let c3 = c4 in
-    let c2 = c3 in
-    let c1 = c2 in
     omega (
       arith,
       c.scan_words-scan-6.ensures.count_value,
-      c5.scan_words-scan-5.ensures.count_value,
-      c4.scan_words-scan-4.ensures.count_value,
-      c3.scan_words-scan-3.ensures.count_value,
-      c2.scan_words-scan-2.ensures.count_value,
-      c1.scan_words-scan.ensures.count_value,
-      c1.requires,
+      c.scan_words-scan-5.ensures.count_value,
+      c.scan_words-scan-4.ensures.count_value,
+      c.scan_words-scan-3.ensures.count_value,
+      c.scan_words-scan-2.ensures.count_value,
+      c.scan_words-scan.ensures.count_value,
+      c.requires,
     )
 
 pub scan_words-scan-requires-8 : goal.scan_words-scan-requires-8
 scan_words-scan-requires-8 c =
-    let c6 = c in
-    let c5 = c6 in
-    let c4 = c5 in
-    let c3 = c4 in
-    let c2 = c3 in
-    let c1 = c2 in
     omega (
       arith,
       c.scan_words-scan-7.ensures.count_value,
-      c6.scan_words-scan-6.ensures.count_value,
-      c5.scan_words-scan-5.ensures.count_value,
-      c4.scan_words-scan-4.ensures.count_value,
-      c3.scan_words-scan-3.ensures.count_value,
-      c2.scan_words-scan-2.ensures.count_value,
-      c1.scan_words-scan.ensures.count_value,
-      c1.requires,
+      c.scan_words-scan-6.ensures.count_value,
+      c.scan_words-scan-5.ensures.count_value,
+      c.scan_words-scan-4.ensures.count_value,
+      c.scan_words-scan-3.ensures.count_value,
+      c.scan_words-scan-2.ensures.count_value,
+      c.scan_words-scan.ensures.count_value,
+      c.requires,
     )
 
 pub scan_words-scan-requires-9 : goal.scan_words-scan-requires-9
 scan_words-scan-requires-9 c =
-    let c7 = c in
-    let c6 = c7 in
-    let c5 = c6 in
-    let c4 = c5 in
-    let c3 = c4 in
-    let c2 = c3 in
-    let c1 = c2 in
     omega (
       arith,
       c.scan_words-scan-8.ensures.count_value,
-      c7.scan_words-scan-7.ensures.count_value,
-      c6.scan_words-scan-6.ensures.count_value,
-      c5.scan_words-scan-5.ensures.count_value,
-      c4.scan_words-scan-4.ensures.count_value,
-      c3.scan_words-scan-3.ensures.count_value,
-      c2.scan_words-scan-2.ensures.count_value,
-      c1.scan_words-scan.ensures.count_value,
-      c1.requires,
+      c.scan_words-scan-7.ensures.count_value,
+      c.scan_words-scan-6.ensures.count_value,
+      c.scan_words-scan-5.ensures.count_value,
+      c.scan_words-scan-4.ensures.count_value,
+      c.scan_words-scan-3.ensures.count_value,
+      c.scan_words-scan-2.ensures.count_value,
+      c.scan_words-scan.ensures.count_value,
+      c.requires,
     )
 
 pub scan_words-scan-requires-10 : goal.scan_words-scan-requires-10
 scan_words-scan-requires-10 c =
-    let c8 = c in
-    let c7 = c8 in
-    let c6 = c7 in
-    let c5 = c6 in
-    let c4 = c5 in
-    let c3 = c4 in
-    let c2 = c3 in
-    let c1 = c2 in
     omega (
       arith,
       c.scan_words-scan-9.ensures.count_value,
-      c8.scan_words-scan-8.ensures.count_value,
-      c7.scan_words-scan-7.ensures.count_value,
-      c6.scan_words-scan-6.ensures.count_value,
-      c5.scan_words-scan-5.ensures.count_value,
-      c4.scan_words-scan-4.ensures.count_value,
-      c3.scan_words-scan-3.ensures.count_value,
-      c2.scan_words-scan-2.ensures.count_value,
-      c1.scan_words-scan.ensures.count_value,
-      c1.requires,
+      c.scan_words-scan-8.ensures.count_value,
+      c.scan_words-scan-7.ensures.count_value,
+      c.scan_words-scan-6.ensures.count_value,
+      c.scan_words-scan-5.ensures.count_value,
+      c.scan_words-scan-4.ensures.count_value,
+      c.scan_words-scan-3.ensures.count_value,
+      c.scan_words-scan-2.ensures.count_value,
+      c.scan_words-scan.ensures.count_value,
+      c.requires,
     )
 
 pub scan_words-scan-requires-11 : goal.scan_words-scan-requires-11
 scan_words-scan-requires-11 c =
-    let c9 = c in
-    let c8 = c9 in
-    let c7 = c8 in
-    let c6 = c7 in
-    let c5 = c6 in
-    let c4 = c5 in
-    let c3 = c4 in
-    let c2 = c3 in
-    let c1 = c2 in
     omega (
       arith,
       c.scan_words-scan-10.ensures.count_value,
-      c9.scan_words-scan-9.ensures.count_value,
-      c8.scan_words-scan-8.ensures.count_value,
-      c7.scan_words-scan-7.ensures.count_value,
-      c6.scan_words-scan-6.ensures.count_value,
-      c5.scan_words-scan-5.ensures.count_value,
-      c4.scan_words-scan-4.ensures.count_value,
-      c3.scan_words-scan-3.ensures.count_value,
-      c2.scan_words-scan-2.ensures.count_value,
-      c1.scan_words-scan.ensures.count_value,
-      c1.requires,
+      c.scan_words-scan-9.ensures.count_value,
+      c.scan_words-scan-8.ensures.count_value,
+      c.scan_words-scan-7.ensures.count_value,
+      c.scan_words-scan-6.ensures.count_value,
+      c.scan_words-scan-5.ensures.count_value,
+      c.scan_words-scan-4.ensures.count_value,
+      c.scan_words-scan-3.ensures.count_value,
+      c.scan_words-scan-2.ensures.count_value,
+      c.scan_words-scan.ensures.count_value,
+      c.requires,
     )
 
 pub returns : goal.returns
 returns c =
-    let c10 = c in
-    let c9 = c10 in
-    let c8 = c9 in
-    let c7 = c8 in
-    let c6 = c7 in
-    let c5 = c6 in
-    let c4 = c5 in
-    let c3 = c4 in
-    let c2 = c3 in
-    let c1 = c2 in
-    let a = c1.args in
-    let s1 = scanned_more (scanned-none a.p) a.w.now c1.scan_words-scan.ensures.count_value c1.scan_words-scan.ensures.fault_value in
-    let s2 = scanned_more s1 a.m.now c2.scan_words-scan-2.ensures.count_value c2.scan_words-scan-2.ensures.fault_value in
-    let s3 = scanned_more s2 a.h0.now c3.scan_words-scan-3.ensures.count_value c3.scan_words-scan-3.ensures.fault_value in
-    let s4 = scanned_more s3 a.s.now c4.scan_words-scan-4.ensures.count_value c4.scan_words-scan-4.ensures.fault_value in
-    let s5 = scanned_more s4 a.g1.now c5.scan_words-scan-5.ensures.count_value c5.scan_words-scan-5.ensures.fault_value in
-    let s6 = scanned_more s5 a.h1.now c6.scan_words-scan-6.ensures.count_value c6.scan_words-scan-6.ensures.fault_value in
-    let s7 = scanned_more s6 a.o.now c7.scan_words-scan-7.ensures.count_value c7.scan_words-scan-7.ensures.fault_value in
-    let s8 = scanned_more s7 a.ga.now c8.scan_words-scan-8.ensures.count_value c8.scan_words-scan-8.ensures.fault_value in
-    let s9 = scanned_more s8 a.gb.now c9.scan_words-scan-9.ensures.count_value c9.scan_words-scan-9.ensures.fault_value in
-    let s10 = scanned_more s9 a.gc.now c10.scan_words-scan-10.ensures.count_value c10.scan_words-scan-10.ensures.fault_value in
+    let a = c.args in
+    let s1 = scanned_more (scanned-none a.p) a.w.now c.scan_words-scan.ensures.count_value c.scan_words-scan.ensures.fault_value in
+    let s2 = scanned_more s1 a.m.now c.scan_words-scan-2.ensures.count_value c.scan_words-scan-2.ensures.fault_value in
+    let s3 = scanned_more s2 a.h0.now c.scan_words-scan-3.ensures.count_value c.scan_words-scan-3.ensures.fault_value in
+    let s4 = scanned_more s3 a.s.now c.scan_words-scan-4.ensures.count_value c.scan_words-scan-4.ensures.fault_value in
+    let s5 = scanned_more s4 a.g1.now c.scan_words-scan-5.ensures.count_value c.scan_words-scan-5.ensures.fault_value in
+    let s6 = scanned_more s5 a.h1.now c.scan_words-scan-6.ensures.count_value c.scan_words-scan-6.ensures.fault_value in
+    let s7 = scanned_more s6 a.o.now c.scan_words-scan-7.ensures.count_value c.scan_words-scan-7.ensures.fault_value in
+    let s8 = scanned_more s7 a.ga.now c.scan_words-scan-8.ensures.count_value c.scan_words-scan-8.ensures.fault_value in
+    let s9 = scanned_more s8 a.gb.now c.scan_words-scan-9.ensures.count_value c.scan_words-scan-9.ensures.fault_value in
+    let s10 = scanned_more s9 a.gc.now c.scan_words-scan-10.ensures.count_value c.scan_words-scan-10.ensures.fault_value in
     let s11 = scanned_more s10 a.h2.now c.scan_words-scan-11.ensures.count_value c.scan_words-scan-11.ensures.fault_value in
     s11.same
     ∙ ap (refuse_words a.p 0)

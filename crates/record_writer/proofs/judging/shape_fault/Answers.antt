@@ -21,18 +21,14 @@ fine c = sym c.is_fine.ensures ∙ c.if-not-is_fine.false
 pub returns-then-not-is_fine : goal.returns-then-not-is_fine
 unfolding shape_refusal size_refusal
 returns-then-not-is_fine c =
-    let j = c in
-    stops j.judge_sizes-size.result j.judge_sizes-size.ensures (rest (goal.at.returns-then-not-is_fine j).Start) (sym c.is_fine.ensures ∙ c.if-not-is_fine.true)
+    stops c.judge_sizes-size.result c.judge_sizes-size.ensures (rest (goal.at.returns-then-not-is_fine c).Start) (sym c.is_fine.ensures ∙ c.if-not-is_fine.true)
 
 pub lengths_fault-requires : goal.lengths_fault-requires
 lengths_fault-requires c =
-    let j = c in
-    let s = j in
-    (refuse-none 4 0 (six_size_tests (sizes s.args.s)) (fine_none j.judge_sizes-size.result j.judge_sizes-size.ensures (fine c)), s.requires)
+    (refuse-none 4 0 (six_size_tests (sizes c.args.s)) (fine_none c.judge_sizes-size.result c.judge_sizes-size.ensures (fine c)), c.requires)
 
 pub returns : goal.returns
 unfolding shape_refusal size_refusal
 returns c =
     let d = (goal.at.returns c).Else-not-is_fine in
-    let j = d in
-    goes_on j.judge_sizes-size.result j.judge_sizes-size.ensures (rest (goal.at.Else-not-is_fine j).Start) (fine d) (last_answer_lem c.lengths_fault.ensures)
+    goes_on d.judge_sizes-size.result d.judge_sizes-size.ensures (rest (goal.at.Else-not-is_fine d).Start) (fine d) (last_answer_lem c.lengths_fault.ensures)

@@ -14,17 +14,13 @@ use Rattle.record_writer.proofs.writer.fill_record.Goals as goal
 pub returns : goal.returns
 unfolding write_record
 returns c =
-    let c2 = c in
-    let c1 = c2 in
-    let c0 = c1 in
-    let start = c0 in
-    let a = start.args in
-    let front = c1.put_six-at in
-    let back = c2.put_six in
-    let t = c0.trailer_words-trailer in
+    let a = c.args in
+    let front = c.put_six-at in
+    let back = c.put_six in
+    let t = c.trailer_words-trailer in
     let long : length t.result ≡ 18 = ap length t.ensures ∙ eighteen (sizes a.sizes) in
     let full : length back.new.out ≤ back.result =
-    omega (arith, start.requires.trailer_bytes_value, long, front.auto.out, back.auto.out, front.ensures.value, back.ensures.value) in
+    omega (arith, c.requires.trailer_bytes_value, long, front.auto.out, back.auto.out, front.ensures.value, back.ensures.value) in
     record_filled a.w.now a.m.now a.h0.now a.s.now a.g1.now a.h1.now a.o.now a.ga.now a.gb.now
     a.gc.now a.h2.now
     t.result front.new.out back.new.out front.result back.result front.ensures.out_after back.ensures.out_after full

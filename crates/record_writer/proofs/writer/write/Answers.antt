@@ -57,12 +57,11 @@ sections_fault-word-requires c =
 
 pub returns-then-not-is_fine-2 : goal.returns-then-not-is_fine-2
 returns-then-not-is_fine-2 c q e =
-    let w = c in
-    let j = (goal.at.returns-then-not-is_fine-2 w).After-shape_fault-shape in
+    let j = (goal.at.returns-then-not-is_fine-2 c).After-shape_fault-shape in
     let stop = sym c.is_fine-2.ensures ∙ c.if-not-is_fine-2.true in
-    write_refused q (given j) (parts j) (length (lent j)) w.sections_fault-word.result (lent j) stop
-    (goes_on j.shape_fault-shape.result j.shape_fault-shape.ensures (words_row q j) (shape_fine (goal.at.returns-then-not-is_fine-2 w).Else-not-is_fine)
-    (last_answer_lem (w.sections_fault-word.ensures ∙ word_row q e (joined (parts j)))))
+    write_refused q (given j) (parts j) (length (lent j)) c.sections_fault-word.result (lent j) stop
+    (goes_on j.shape_fault-shape.result j.shape_fault-shape.ensures (words_row q j) (shape_fine (goal.at.returns-then-not-is_fine-2 c).Else-not-is_fine)
+    (last_answer_lem (c.sections_fault-word.ensures ∙ word_row q e (joined (parts j)))))
 
 pub fill_record-requires : goal.fill_record-requires
 fill_record-requires c =
@@ -75,11 +74,8 @@ fill_record-requires c =
 
 pub returns : goal.returns
 returns c q e =
-    let filled = c in
-    let n = filled in
-    let w = n in
-    let j = (goal.at.returns w).After-shape_fault-shape in
-    let words-fine = sym n.is_fine-2.ensures ∙ n.if-not-is_fine-2.false in
-    write_done q (given j) (parts j) (length (lent j)) (lent j) filled.fill_record.new.out
-    (shape_free (goal.at.returns w).Else-not-is_fine) (fine_none w.sections_fault-word.result (w.sections_fault-word.ensures ∙ word_row q e (joined (parts j))) words-fine)
-    filled.fill_record.ensures
+    let j = (goal.at.returns c).After-shape_fault-shape in
+    let words_fine = sym c.is_fine-2.ensures ∙ c.if-not-is_fine-2.false in
+    write_done q (given j) (parts j) (length (lent j)) (lent j) c.fill_record.new.out
+    (shape_free (goal.at.returns c).Else-not-is_fine) (fine_none c.sections_fault-word.result (c.sections_fault-word.ensures ∙ word_row q e (joined (parts j))) words_fine)
+    c.fill_record.ensures

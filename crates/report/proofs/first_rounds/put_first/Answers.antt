@@ -26,8 +26,14 @@ room c = roomy (input c) c.requires.free c.lengths_of-due.ensures
 pub slice_bounds-witness-end : goal.slice_bounds-witness-end
 slice_bounds-witness-end c = (room c).witness_most
 
+pub slice_bounds-first_round-end : goal.slice_bounds-first_round-end
+slice_bounds-first_round-end c = lent_length 1024 (room (goal.at.slice_bounds-first_round-end c).After-lengths_of-due).witness_most
+
 pub slice_bounds-quotient-end : goal.slice_bounds-quotient-end
 slice_bounds-quotient-end c = (room (goal.at.slice_bounds-quotient-end c).After-lengths_of-due).row_quotient_most
+
+pub slice_bounds-first_round-end-2 : goal.slice_bounds-first_round-end-2
+slice_bounds-first_round-end-2 c = lent_length 1024 (room (goal.at.slice_bounds-first_round-end-2 c).After-lengths_of-due).row_quotient_most
 
 pub slice_bounds-witness-end-2 : goal.slice_bounds-witness-end-2
 slice_bounds-witness-end-2 c =
@@ -35,10 +41,22 @@ slice_bounds-witness-end-2 c =
     back_holds 1024 (room (goal.at.slice_bounds-witness-end-2 f).After-lengths_of-due).witness_most f.first_round.new.witness
     f.first_round.auto.witness
 
+pub slice_bounds-put_first_lines-end : goal.slice_bounds-put_first_lines-end
+slice_bounds-put_first_lines-end c =
+    let f = c in
+    back_length 1024 (room (goal.at.slice_bounds-put_first_lines-end f).After-lengths_of-due).witness_most f.first_round.new.witness
+    f.first_round.auto.witness
+
 pub slice_bounds-quotient-end-2 : goal.slice_bounds-quotient-end-2
 slice_bounds-quotient-end-2 c =
     let f = c in
     back_holds 1024 (room (goal.at.slice_bounds-quotient-end-2 f).After-lengths_of-due).row_quotient_most f.first_round.new.row_quotient
+    f.first_round.auto.row_quotient
+
+pub slice_bounds-put_first_lines-end-2 : goal.slice_bounds-put_first_lines-end-2
+slice_bounds-put_first_lines-end-2 c =
+    let f = c in
+    back_length 1024 (room (goal.at.slice_bounds-put_first_lines-end-2 f).After-lengths_of-due).row_quotient_most f.first_round.new.row_quotient
     f.first_round.auto.row_quotient
 
 pub put_first_lines-requires : goal.put_first_lines-requires

@@ -26,8 +26,14 @@ room c = roomy (input c) c.requires.free c.lengths_of-due.ensures
 pub slice_bounds-remainder-end : goal.slice_bounds-remainder-end
 slice_bounds-remainder-end c = (room c).line_remainder_most
 
+pub slice_bounds-third_round-end : goal.slice_bounds-third_round-end
+slice_bounds-third_round-end c = lent_length 1024 (room (goal.at.slice_bounds-third_round-end c).After-lengths_of-due).line_remainder_most
+
 pub slice_bounds-quotient-end : goal.slice_bounds-quotient-end
 slice_bounds-quotient-end c = (room (goal.at.slice_bounds-quotient-end c).After-lengths_of-due).line_quotient_most
+
+pub slice_bounds-third_round-end-2 : goal.slice_bounds-third_round-end-2
+slice_bounds-third_round-end-2 c = lent_length 1024 (room (goal.at.slice_bounds-third_round-end-2 c).After-lengths_of-due).line_quotient_most
 
 pub slice_bounds-remainder-end-2 : goal.slice_bounds-remainder-end-2
 slice_bounds-remainder-end-2 c =
@@ -35,10 +41,22 @@ slice_bounds-remainder-end-2 c =
     back_holds 1024 (room (goal.at.slice_bounds-remainder-end-2 f).After-lengths_of-due).line_remainder_most f.third_round.new.remainder
     f.third_round.auto.remainder
 
+pub slice_bounds-put_third_lines-end : goal.slice_bounds-put_third_lines-end
+slice_bounds-put_third_lines-end c =
+    let f = c in
+    back_length 1024 (room (goal.at.slice_bounds-put_third_lines-end f).After-lengths_of-due).line_remainder_most f.third_round.new.remainder
+    f.third_round.auto.remainder
+
 pub slice_bounds-quotient-end-2 : goal.slice_bounds-quotient-end-2
 slice_bounds-quotient-end-2 c =
     let f = c in
     back_holds 1024 (room (goal.at.slice_bounds-quotient-end-2 f).After-lengths_of-due).line_quotient_most f.third_round.new.quotient
+    f.third_round.auto.quotient
+
+pub slice_bounds-put_third_lines-end-2 : goal.slice_bounds-put_third_lines-end-2
+slice_bounds-put_third_lines-end-2 c =
+    let f = c in
+    back_length 1024 (room (goal.at.slice_bounds-put_third_lines-end-2 f).After-lengths_of-due).line_quotient_most f.third_round.new.quotient
     f.third_round.auto.quotient
 
 pub put_third_lines-requires : goal.put_third_lines-requires

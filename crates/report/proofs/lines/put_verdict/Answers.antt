@@ -11,7 +11,7 @@ use Rattle.report.proofs.lines.put_verdict.Goals as goal
 pub returns-in-Accept : goal.returns-in-Accept
 unfolding answer_text
 returns-in-Accept c =
-    printed_as (sym (ap (λ v. answer_text (Judged (verdict_meaning v))) c.enum_told-1.given.1))
+    printed_as (sym (ap (λ v. answer_text (Judged (verdict_meaning v))) c.in-Accept.is))
     (record { written = c.put_bytes.ensures; short = omega arith })
 
 pub returns-in-Row : goal.returns-in-Row
@@ -21,8 +21,8 @@ returns-in-Row c =
     let at-verdict = at-enum-told2 in
     printed_as
     (sym
-    (ap (λ v. answer_text (Judged (verdict_meaning v))) at-verdict.verdict-1.given.1
-    ∙ ap (λ k. answer_text (Judged (Fails (check_of k)))) at-enum-told2.enum_told-in-Row-1.given.1))
+    (ap (λ v. answer_text (Judged (verdict_meaning v))) at-verdict.in-Fails.is
+    ∙ ap (λ k. answer_text (Judged (Fails (check_of k)))) at-enum-told2.in-Row.is))
     (record { written = c.put_bytes-in-Row.ensures; short = omega arith })
 
 pub returns-in-Line : goal.returns-in-Line
@@ -32,8 +32,8 @@ returns-in-Line c =
     let at-verdict = at-enum-told3 in
     printed_as
     (sym
-    (ap (λ v. answer_text (Judged (verdict_meaning v))) at-verdict.verdict-1.given.1
-    ∙ ap (λ k. answer_text (Judged (Fails (check_of k)))) at-enum-told3.enum_told-in-Line-1.given.1))
+    (ap (λ v. answer_text (Judged (verdict_meaning v))) at-verdict.in-Fails.is
+    ∙ ap (λ k. answer_text (Judged (Fails (check_of k)))) at-enum-told3.in-Line.is))
     (record { written = c.put_bytes-in-Line.ensures; short = omega arith })
 
 pub returns-in-Matrix : goal.returns-in-Matrix
@@ -43,6 +43,6 @@ returns-in-Matrix c =
     let at-verdict = at-enum-told4 in
     printed_as
     (sym
-    (ap (λ v. answer_text (Judged (verdict_meaning v))) at-verdict.verdict-1.given.1
-    ∙ ap (λ k. answer_text (Judged (Fails (check_of k)))) at-enum-told4.enum_told-in-Matrix-1.given.1))
+    (ap (λ v. answer_text (Judged (verdict_meaning v))) at-verdict.in-Fails.is
+    ∙ ap (λ k. answer_text (Judged (Fails (check_of k)))) at-enum-told4.in-Matrix.is))
     (record { written = c.put_bytes-in-Matrix.ensures; short = omega arith })

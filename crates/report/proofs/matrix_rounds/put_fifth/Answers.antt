@@ -25,6 +25,9 @@ room c = roomy (input c) c.requires.free c.lengths_of-n.ensures
 pub slice_bounds-quotient-end : goal.slice_bounds-quotient-end
 slice_bounds-quotient-end c = (room c).joined_quotient_most
 
+pub slice_bounds-fifth_round-end : goal.slice_bounds-fifth_round-end
+slice_bounds-fifth_round-end c = lent_length 1024 (room (goal.at.slice_bounds-fifth_round-end c).After-lengths_of-n).joined_quotient_most
+
 pub slice_bounds-quotient-end-2 : goal.slice_bounds-quotient-end-2
 slice_bounds-quotient-end-2 c =
     let f = c in

@@ -29,16 +29,31 @@ room c = roomy (input c) c.requires.free c.lengths_of.ensures
 pub slice_bounds-ga-end : goal.slice_bounds-ga-end
 slice_bounds-ga-end c = (room (goal.at.slice_bounds-ga-end c).After-lengths_of).a_most
 
+pub slice_bounds-fourth_round-end : goal.slice_bounds-fourth_round-end
+slice_bounds-fourth_round-end c = lent_length 1024 (room (goal.at.slice_bounds-fourth_round-end c).After-lengths_of).a_most
+
 pub slice_bounds-gb-end : goal.slice_bounds-gb-end
 slice_bounds-gb-end c = (room (goal.at.slice_bounds-gb-end c).After-lengths_of).b_most
 
+pub slice_bounds-fourth_round-end-2 : goal.slice_bounds-fourth_round-end-2
+slice_bounds-fourth_round-end-2 c = lent_length 1024 (room (goal.at.slice_bounds-fourth_round-end-2 c).After-lengths_of).b_most
+
 pub slice_bounds-gc-end : goal.slice_bounds-gc-end
 slice_bounds-gc-end c = (room (goal.at.slice_bounds-gc-end c).After-lengths_of).c_most
+
+pub slice_bounds-fourth_round-end-3 : goal.slice_bounds-fourth_round-end-3
+slice_bounds-fourth_round-end-3 c = lent_length 1024 (room (goal.at.slice_bounds-fourth_round-end-3 c).After-lengths_of).c_most
 
 pub slice_bounds-ga-end-2 : goal.slice_bounds-ga-end-2
 slice_bounds-ga-end-2 c =
     let f = c in
     back_holds 1024 (room (goal.at.slice_bounds-ga-end-2 f).After-lengths_of).a_most f.fourth_round-answer.new.ga
+    f.fourth_round-answer.auto.ga
+
+pub slice_bounds-put_fourth_lines-end : goal.slice_bounds-put_fourth_lines-end
+slice_bounds-put_fourth_lines-end c =
+    let f = c in
+    back_length 1024 (room (goal.at.slice_bounds-put_fourth_lines-end f).After-lengths_of).a_most f.fourth_round-answer.new.ga
     f.fourth_round-answer.auto.ga
 
 pub slice_bounds-gb-end-2 : goal.slice_bounds-gb-end-2
@@ -47,10 +62,22 @@ slice_bounds-gb-end-2 c =
     back_holds 1024 (room (goal.at.slice_bounds-gb-end-2 f).After-lengths_of).b_most f.fourth_round-answer.new.gb
     f.fourth_round-answer.auto.gb
 
+pub slice_bounds-put_fourth_lines-end-2 : goal.slice_bounds-put_fourth_lines-end-2
+slice_bounds-put_fourth_lines-end-2 c =
+    let f = c in
+    back_length 1024 (room (goal.at.slice_bounds-put_fourth_lines-end-2 f).After-lengths_of).b_most f.fourth_round-answer.new.gb
+    f.fourth_round-answer.auto.gb
+
 pub slice_bounds-gc-end-2 : goal.slice_bounds-gc-end-2
 slice_bounds-gc-end-2 c =
     let f = c in
     back_holds 1024 (room (goal.at.slice_bounds-gc-end-2 f).After-lengths_of).c_most f.fourth_round-answer.new.gc
+    f.fourth_round-answer.auto.gc
+
+pub slice_bounds-put_fourth_lines-end-3 : goal.slice_bounds-put_fourth_lines-end-3
+slice_bounds-put_fourth_lines-end-3 c =
+    let f = c in
+    back_length 1024 (room (goal.at.slice_bounds-put_fourth_lines-end-3 f).After-lengths_of).c_most f.fourth_round-answer.new.gc
     f.fourth_round-answer.auto.gc
 
 pub put_fourth_lines-place-requires : goal.put_fourth_lines-place-requires

@@ -5,7 +5,7 @@ use Rattle.report.specs.Stages.{three_or_zeros}
 use Rattle.report.proofs.messages.words_or_zeros.Goals as goal
 
 pub returns-in-Value : goal.returns-in-Value
-returns-in-Value c = sym (ap (λ a. three_or_zeros (three_meaning a)) c.answer-1.given.1)
+returns-in-Value c = sym (ap (λ a. three_or_zeros (three_meaning a)) c.in-Value.is)
 
 pub returns-in-Refused : goal.returns-in-Refused
-returns-in-Refused c = sym (ap (λ a. three_or_zeros (three_meaning a)) c.enum_told-1.given.1)
+returns-in-Refused c = sym (ap (λ a. three_or_zeros (three_meaning a)) c.in-Refused.is)

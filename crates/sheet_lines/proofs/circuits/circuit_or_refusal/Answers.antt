@@ -9,10 +9,10 @@ pub returns-in-Fine : goal.returns-in-Fine
 returns-in-Fine c =
     let c1 = c in
     let g = given c1.args.request in
-    ap (circuit_line g) (sym (ap fault_refusal c.enum_told-1.given.1) ∙ c1.judge-fault.ensures)
+    ap (circuit_line g) (sym (ap fault_refusal c.in-Fine.is) ∙ c1.judge-fault.ensures)
 
 pub returns-in-Refused : goal.returns-in-Refused
 returns-in-Refused c =
     let c1 = c in
     let g = given c1.args.request in
-    ap (circuit_line g) (sym (ap fault_refusal c.fault-1.given.1) ∙ c1.judge-fault.ensures)
+    ap (circuit_line g) (sym (ap fault_refusal c.in-Refused.is) ∙ c1.judge-fault.ensures)

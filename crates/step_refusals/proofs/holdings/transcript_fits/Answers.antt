@@ -32,31 +32,29 @@ module _ (q : Prime) where
     abbrev from_α : Bool
     from_α = not (inside {q = q} s.args.s.r (of s.args.t.alpha)) && from_β
 
-  words-is : (c : After-all_below) → let s = (goal.at.Else-is_inside-2 c).After-is_inside in q.p ≡ s.args.p
+  words-is : (c : After-all_below) → let s = (goal.at.After-all_below c).Start in q.p ≡ s.args.p
       → c.all_below.result ≡ all_below q (list_transcript (transcript s.args.t))
   words-is c e =
       c.all_below.ensures ∙ ap₂ (λ p ws. all (map (λ w. ltb w p) ws)) (sym e) c.transcript_words-words.ensures
 
   -- past the words, past α, past β
-  past_words : (c : Else-not-all_below) → let s = (goal.at.Else-is_inside-2 c).Else-not-all_below in q.p ≡ s.args.p
+  past_words : (c : Else-not-all_below) → let s = (goal.at.Else-not-all_below c).Start in q.p ≡ s.args.p
       → from_α s ≡ (all_below q (list_transcript (transcript s.args.t)) && from_α s)
-  past_words c e = ap (λ b. b && from_α c.before.before.before.before) (sym c.if-not-all_below.false ∙ words-is c.before e)
+  past_words c e =
+      let here = goal.at.Else-not-all_below c in
+      ap (λ b. b && from_α here.Start) (sym c.if-not-all_below.false ∙ words-is here.After-all_below e)
 
-  past_α : (c : Else-is_inside) → let i = (goal.at.Else-is_inside-2 c).After-is_inside-2 in let s = (goal.at.After-is_inside-2 i).After-words-1 in Qualifies q → q.p ≡ s.args.p → from_β s ≡ from_α s
-  past_α c Q e =
-      let i = (goal.at.Else-is_inside-2 c).After-is_inside-2 in
-      ap (λ b. not b && from_β i.before.before.before.before.before) (sym c.if-is_inside.false ∙ i.is_inside.ensures q Q e)
+  past_α : (c : Else-is_inside) → let s = (goal.at.Else-is_inside c).Start in Qualifies q → q.p ≡ s.args.p → from_β s ≡ from_α s
+  past_α c Q e = ap (λ b. not b && from_β (goal.at.Else-is_inside c).Start) (sym c.if-is_inside.false ∙ c.is_inside.ensures q Q e)
 
-  past_β : (c : Else-is_inside-2) → let i = (goal.at.Else-is_inside-2 c).After-is_inside-2 in let s = (goal.at.After-is_inside-2 i).Start in Qualifies q → q.p ≡ s.args.p → at-γ s ≡ from_β s
-  past_β c Q e =
-      let i = c in
-      ap (λ b. not b && at-γ i.before.before.before.before.before.before.before) (sym c.if-is_inside-2.false ∙ i.is_inside-2.ensures q Q e)
+  past_β : (c : Else-is_inside-2) → let s = (goal.at.Else-is_inside-2 c).Start in Qualifies q → q.p ≡ s.args.p → at-γ s ≡ from_β s
+  past_β c Q e = ap (λ b. not b && at-γ (goal.at.Else-is_inside-2 c).Start) (sym c.if-is_inside-2.false ∙ c.is_inside-2.ensures q Q e)
 
 pub returns-then-not-all_below : goal.returns-then-not-all_below
 unfolding transcript_fits
 returns-then-not-all_below c q Q e =
-    let s = (goal.at.returns-then-not-all_below c).Start in
-    ap (λ b. b && from_α q s) (sym c.if-not-all_below.true ∙ words-is q (goal.at.returns-then-not-all_below c).After-all_below e)
+    let here = goal.at.returns-then-not-all_below c in
+    ap (λ b. b && from_α q here.Start) (sym c.if-not-all_below.true ∙ words-is q here.After-all_below e)
 
 pub is_inside-requires : goal.is_inside-requires
 is_inside-requires c = record {
@@ -67,9 +65,9 @@ is_inside-requires c = record {
 pub returns-then-is_inside : goal.returns-then-is_inside
 unfolding transcript_fits
 returns-then-is_inside c q Q e =
-    let i = c in
-    let s = (goal.at.returns-then-is_inside i).After-transcript_words-words in
-    ap (λ b. not b && from_β q s) (sym c.if-is_inside.true ∙ i.is_inside.ensures q Q e) ∙ past_words q (goal.at.returns-then-is_inside i).Else-not-all_below e
+    let here = goal.at.returns-then-is_inside c in
+    ap (λ b. not b && from_β q here.Start) (sym c.if-is_inside.true ∙ c.is_inside.ensures q Q e)
+    ∙ past_words q here.Else-not-all_below e
 
 pub is_inside-requires-2 : goal.is_inside-requires-2
 is_inside-requires-2 c = record {
@@ -80,9 +78,9 @@ is_inside-requires-2 c = record {
 pub returns-then-is_inside-2 : goal.returns-then-is_inside-2
 unfolding transcript_fits
 returns-then-is_inside-2 c q Q e =
-    let i = c in
-    let s = (goal.at.returns-then-is_inside-2 i).After-transcript_words-words in
-    ap (λ b. not b && at-γ q s) (sym c.if-is_inside-2.true ∙ i.is_inside-2.ensures q Q e) ∙ past_α q (goal.at.returns-then-is_inside-2 i).Else-is_inside Q e ∙ past_words q (goal.at.returns-then-is_inside-2 i).Else-not-all_below e
+    let here = goal.at.returns-then-is_inside-2 c in
+    ap (λ b. not b && at-γ q here.Start) (sym c.if-is_inside-2.true ∙ c.is_inside-2.ensures q Q e)
+    ∙ past_α q here.Else-is_inside Q e ∙ past_words q here.Else-not-all_below e
 
 pub is_inside-requires-3 : goal.is_inside-requires-3
 is_inside-requires-3 c =
@@ -95,8 +93,6 @@ is_inside-requires-3 c =
 pub returns : goal.returns
 unfolding transcript_fits
 returns c q Q e =
-    let β = (goal.at.returns c).Else-is_inside-2 in
-    let α = (goal.at.Else-is_inside-2 β).Else-is_inside in
-    let s = α in
-    ap not (c.is_inside-3.ensures q Q e ∙ ap (λ n. inside {q = q} n (of s.args.t.gamma)) c.largest.ensures)
-    ∙ sym (and-true _) ∙ past_β q β Q e ∙ past_α q α Q e ∙ past_words q (goal.at.Else-is_inside α).Else-not-all_below e
+    let here = goal.at.returns c in
+    ap not (c.is_inside-3.ensures q Q e ∙ ap (λ n. inside {q = q} n (of c.args.t.gamma)) c.largest.ensures)
+    ∙ sym (and-true _) ∙ past_β q here.Else-is_inside-2 Q e ∙ past_α q here.Else-is_inside Q e ∙ past_words q here.Else-not-all_below e

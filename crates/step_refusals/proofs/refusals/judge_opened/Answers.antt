@@ -55,51 +55,41 @@ module _ (s : Start) where
 
 -- past the messages, past A, past B
 module _ (q : Prime) {x : Option Refusal} where
-  past_messages : (c : Else-not-is_fine) → let s = (goal.at.Else-not-is_fine-2 c).Start in q.p ≡ s.args.p
+  past_messages : (c : Else-not-is_fine) → let s = (goal.at.Else-not-is_fine c).Start in q.p ≡ s.args.p
       → x ≡ first (after-messages s) → x ≡ word_refusal q (list_openings (openings s.args.o s.args.index))
   past_messages c e y =
-      let w = c in
-      let s = (goal.at.Else-not-is_fine-2 w).Start in
-      goes_on w.judge_words-messages.result w.judge_words-messages.ensures (after-messages s) (sym c.is_fine.ensures ∙ c.if-not-is_fine.false) y
+      let s = (goal.at.Else-not-is_fine c).Start in
+      goes_on c.judge_words-messages.result c.judge_words-messages.ensures (after-messages s) (sym c.is_fine.ensures ∙ c.if-not-is_fine.false) y
       ∙ in_parts s q e
 
   past_a : (c : Else-not-is_fine-2) → let s = (goal.at.Else-not-is_fine-2 c).Start in q.p ≡ s.args.p
       → x ≡ first (after-a s) → x ≡ word_refusal q (list_openings (openings s.args.o s.args.index))
   past_a c e y =
-      let a = c in
-      let d = (goal.at.Else-not-is_fine-2 a).After-judge_index-a in
-      past_messages d e
-      (goes_on a.judge_index-a.result a.judge_index-a.ensures (after-a (goal.at.After-judge_index-a d).Start)
-      (sym c.is_fine-2.ensures ∙ c.if-not-is_fine-2.false) y)
+      let here = goal.at.Else-not-is_fine-2 c in
+      past_messages here.Else-not-is_fine e
+      (goes_on c.judge_index-a.result c.judge_index-a.ensures (after-a here.Start) (sym c.is_fine-2.ensures ∙ c.if-not-is_fine-2.false) y)
 
 pub returns-then-not-is_fine : goal.returns-then-not-is_fine
 returns-then-not-is_fine c q e =
-    let w = c in
-    let s = (goal.at.returns-then-not-is_fine w).Start in
-    stops w.judge_words-messages.result w.judge_words-messages.ensures (after-messages s) (sym c.is_fine.ensures ∙ c.if-not-is_fine.true)
+    let s = (goal.at.returns-then-not-is_fine c).Start in
+    stops c.judge_words-messages.result c.judge_words-messages.ensures (after-messages s) (sym c.is_fine.ensures ∙ c.if-not-is_fine.true)
     ∙ in_parts s q e
 
 pub returns-then-not-is_fine-2 : goal.returns-then-not-is_fine-2
 returns-then-not-is_fine-2 c q e =
-    let a = c in
-    let d = (goal.at.returns-then-not-is_fine-2 a).Else-not-is_fine in
-    past_messages q d e
-    (stops a.judge_index-a.result a.judge_index-a.ensures (after-a (goal.at.Else-not-is_fine d).Start)
-    (sym c.is_fine-2.ensures ∙ c.if-not-is_fine-2.true))
+    let here = goal.at.returns-then-not-is_fine-2 c in
+    past_messages q here.Else-not-is_fine e
+    (stops c.judge_index-a.result c.judge_index-a.ensures (after-a here.Start) (sym c.is_fine-2.ensures ∙ c.if-not-is_fine-2.true))
 
 pub returns-then-not-is_fine-3 : goal.returns-then-not-is_fine-3
 returns-then-not-is_fine-3 c q e =
-    let b = c in
-    let d = (goal.at.returns-then-not-is_fine-3 b).Else-not-is_fine-2 in
-    past_a q d e
-    (stops b.judge_index-b.result b.judge_index-b.ensures (after-b (goal.at.Else-not-is_fine-2 d).Start)
-    (sym c.is_fine-3.ensures ∙ c.if-not-is_fine-3.true))
+    let here = goal.at.returns-then-not-is_fine-3 c in
+    past_a q here.Else-not-is_fine-2 e
+    (stops c.judge_index-b.result c.judge_index-b.ensures (after-b here.Start) (sym c.is_fine-3.ensures ∙ c.if-not-is_fine-3.true))
 
 pub returns : goal.returns
 returns c q e =
-    let n = c in
-    let b = n in
-    let d = (goal.at.returns b).Else-not-is_fine-2 in
-    past_a q d e
-    (goes_on b.judge_index-b.result b.judge_index-b.ensures (after-b (goal.at.Else-not-is_fine-2 d).Start)
-    (sym n.is_fine-3.ensures ∙ n.if-not-is_fine-3.false) (last_answer_lem c.judge_index.ensures))
+    let here = goal.at.returns c in
+    past_a q here.Else-not-is_fine-2 e
+    (goes_on c.judge_index-b.result c.judge_index-b.ensures (after-b here.Start)
+    (sym c.is_fine-3.ensures ∙ c.if-not-is_fine-3.false) (last_answer_lem c.judge_index.ensures))

@@ -1,15 +1,15 @@
 -- `transform::product::coset_values_into` meets its contract. Assumes nothing.
-use mathlib.Core.Path.{◌≡◌, sym, ap, ap₂, ◌∙◌, subst}
-use mathlib.Core.List.{List, map}
-use Prim.Native.Nat.{ℕ, ◌≤◌}
-use lib.ListN.{length, take}
+use mathlib.Core.Path.{sym, ap, ap₂, ◌∙◌, subst}
+use mathlib.Core.List.{map}
+use Prim.Native.Nat.{ℕ}
+use lib.ListN.{length}
 use Rattle.algebra.specs.Polynomial.{twist}
 use Rattle.field.specs.Element.{of, words}
 use Rattle.field.proofs.ElementLaws.{prime_ring}
 use Rattle.domain.specs.Size.{is_size}
 use Rattle.domain.specs.Polynomial.{Poly, values_on}
 use Rattle.domain.proofs.SizeLaws.{size_bound}
-use Rattle.poly.proofs.LentParts.{part_order, returned, lent_length, back_holds, back_length, back_list}
+use Rattle.poly.proofs.LentParts.{part_order, lent_length, back_holds, back_length, back_list}
 use Rattle.transform.specs.Reading.{ValueTables}
 use Rattle.transform.proofs.product.coset_values_into.Goals as goal
 

@@ -1,13 +1,12 @@
 -- `transform::product::divide_product_into` meets its contract. Assumes nothing.
-use mathlib.Core.Path.{◌≡◌, sym, ap, ◌∙◌}
-use mathlib.Core.List.{List}
-use Prim.Native.Nat.{ℕ, ◌≤◌}
+use mathlib.Core.Path.{sym, ap, ◌∙◌}
+use Prim.Native.Nat.{ℕ}
 use native.Mathlib.Omega.{arith}
-use lib.ListN.{length, take}
+use lib.ListN.{length}
 use Rattle.domain.specs.Size.{is_size}
 use Rattle.domain.specs.Domain.{root}
 use Rattle.domain.proofs.SizeLaws.{size_bound}
-use Rattle.poly.proofs.LentParts.{returned, lent_length, back_holds, back_length}
+use Rattle.poly.proofs.LentParts.{lent_length, back_holds, back_length}
 use Rattle.transform.proofs.TableLaws.{coefficients_lent}
 use Rattle.transform.proofs.product.divide_product_into.Goals as goal
 
@@ -28,11 +27,10 @@ slice_bounds-fill_inverse_tables-end-2 c = lent_length 1024 (size_bound (length 
 
 pub fill_inverse_tables-requires : goal.fill_inverse_tables-requires
 fill_inverse_tables-requires c =
-    let s = c in
     let part = lent_length 1024 (size_bound (length c.args.left.now) c.requires.left_value) in
     record {
-      lt_p = s.requires.modulus.0;
-      quotients_len = (sym part ∙ part, ap is_size (sym part) ∙ s.requires.left_value);
+      lt_p = c.requires.modulus.0;
+      quotients_len = (sym part ∙ part, ap is_size (sym part) ∙ c.requires.left_value);
     }
 
 pub slice_bounds-powers-end-2 : goal.slice_bounds-powers-end-2

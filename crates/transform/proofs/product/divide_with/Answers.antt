@@ -36,21 +36,22 @@ slice_bounds-interpolate_with-end c = lent_length 1024 (size_bound (length c.arg
 
 pub interpolate_with-requires-2 : goal.interpolate_with-requires-2
 interpolate_with-requires-2 c =
-    let s = c in
-    let right : length s.args.right.now ≡ length s.args.left.now = s.requires.right_len.0 in record {
-      lt_p = s.requires.modulus.0;
-      out_len = (sym (lent_length 1024 (size_bound (length s.args.left.now) s.requires.left_value)) ∙ sym right, ap is_size right ∙ s.requires.left_value);
-      values_in_bounds = (part_order (sym right) s.requires.left_in_bounds.0, part_order (sym right) s.requires.left_in_bounds.1);
+    let right : length c.args.right.now ≡ length c.args.left.now = c.requires.right_len.0 in record {
+      lt_p = c.requires.modulus.0;
+      out_len = (
+        sym (lent_length 1024 (size_bound (length c.args.left.now) c.requires.left_value)) ∙ sym right,
+        ap is_size right ∙ c.requires.left_value,
+      );
+      values_in_bounds = (part_order (sym right) c.requires.left_in_bounds.0, part_order (sym right) c.requires.left_in_bounds.1);
     }
 
 pub remainder_from-requires : goal.remainder_from-requires
 remainder_from-requires c =
-    let s = c in
-    let rest : length s.args.rest.now ≡ length s.args.left.now = s.requires.rest_len.0 in record {
-      lt_p = s.requires.modulus.0;
-      out_value = ap is_size rest ∙ s.requires.left_value;
-      left_len = (sym rest, s.requires.right_len.0 ∙ sym rest);
-      out_in_bounds = (part_order (sym rest) s.requires.left_in_bounds.0, part_order (sym rest) s.requires.left_in_bounds.1);
+    let rest : length c.args.rest.now ≡ length c.args.left.now = c.requires.rest_len.0 in record {
+      lt_p = c.requires.modulus.0;
+      out_value = ap is_size rest ∙ c.requires.left_value;
+      left_len = (sym rest, c.requires.right_len.0 ∙ sym rest);
+      out_in_bounds = (part_order (sym rest) c.requires.left_in_bounds.0, part_order (sym rest) c.requires.left_in_bounds.1);
     }
 
 pub slice_bounds-other-end-2 : goal.slice_bounds-other-end-2
@@ -69,16 +70,16 @@ slice_bounds-coset_remainder_into-end-2 c = lent_length 1024 (size_bound (length
 
 pub coset_remainder_into-requires : goal.coset_remainder_into-requires
 coset_remainder_into-requires c =
-    let s = c in
-    let part = lent_length 1024 (size_bound (length s.args.left.now) s.requires.left_value) in record {
-      lt_p = s.requires.modulus.0;
-      out_value = ap is_size (sym part) ∙ s.requires.left_value;
+    let fits = size_bound (length c.args.left.now) c.requires.left_value in
+    let part = lent_length 1024 fits in
+    record {
+      lt_p = c.requires.modulus.0;
+      out_value = ap is_size (sym part) ∙ c.requires.left_value;
       f_len = (
-        c.interpolate_with.auto.out
-            ∙ s.requires.right_len.1 ∙ part,
-        sym (back_length 1024 (size_bound (length c.args.left.now) c.requires.left_value) c.interpolate_with-2.new.out c.interpolate_with-2.auto.out) ∙ part,
+        c.interpolate_with.auto.out ∙ c.requires.right_len.1 ∙ part,
+        sym (back_length 1024 fits c.interpolate_with-2.new.out c.interpolate_with-2.auto.out) ∙ part,
       );
-      out_in_bounds = (part_order part s.requires.left_in_bounds.0, part_order part s.requires.left_in_bounds.1);
+      out_in_bounds = (part_order part c.requires.left_in_bounds.0, part_order part c.requires.left_in_bounds.1);
     }
 
 pub overflow_cast-n : goal.overflow_cast-n
@@ -94,15 +95,15 @@ slice_bounds-quotient_from-end c =
 
 pub quotient_from-requires : goal.quotient_from-requires
 quotient_from-requires c =
-    let s = c in
-    let m : ℕ = length s.args.out.now in
-    let less : m ≤ length s.args.left.now = fewer s.requires.rest_len.1 in record {
-      lt_p = s.requires.modulus.0;
-      n_value = s.requires.left_value;
-      outside_domain = (shift_outside s.requires.modulus.1 _ s.requires.left_value, shift_not-zero s.requires.modulus.1);
+    let m : ℕ = length c.args.out.now in
+    let fits = size_bound (length c.args.left.now) c.requires.left_value in
+    let less : m ≤ length c.args.left.now = fewer c.requires.rest_len.1 in record {
+      lt_p = c.requires.modulus.0;
+      n_value = c.requires.left_value;
+      outside_domain = (shift_outside c.requires.modulus.1 _ c.requires.left_value, shift_not-zero c.requires.modulus.1);
       out_in_bounds = (
-        subst (λ (k : ℕ). m ≤ k) (sym (c.remainder_from.auto.out ∙ s.requires.rest_len.0)) less,
-        subst (λ (k : ℕ). m ≤ k) (back_length 1024 (size_bound (length c.args.left.now) c.requires.left_value) c.coset_remainder_into.new.out c.coset_remainder_into.auto.out) less,
+        subst (λ (k : ℕ). m ≤ k) (sym (c.remainder_from.auto.out ∙ c.requires.rest_len.0)) less,
+        subst (λ (k : ℕ). m ≤ k) (back_length 1024 fits c.coset_remainder_into.new.out c.coset_remainder_into.auto.out) less,
       );
     }
 

@@ -5,4 +5,4 @@ use Rattle.protocol.specs.Refusals.{inverse_outcome}
 use Rattle.varuna.proofs.arithmetic.give_inverse.Goals as goal
 
 pub returns-in-Value : goal.returns-in-Value
-returns-in-Value c = sym (ap (λ i. inverse_outcome (inverse_meaning i)) c.inverse-1.given.1)
+returns-in-Value c = sym (ap (λ i. inverse_outcome (inverse_meaning i)) c.in-Value.is)

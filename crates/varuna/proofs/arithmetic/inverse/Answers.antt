@@ -9,9 +9,9 @@ use Rattle.varuna.proofs.arithmetic.inverse.Goals as goal
 pub returns-in-Fine : goal.returns-in-Fine
 unfolding inverse_call
 returns-in-Fine c =
-    rw (matched c.enum_told-1.given.1 c.check_word-fault.ensures)
+    rw (matched c.in-Fine.is c.check_word-fault.ensures)
     (c.give_inverse.ensures ∙ ap inverse_outcome (c.invert.ensures baby_bear refl))
 
 pub returns-in-Refused : goal.returns-in-Refused
 unfolding inverse_call
-returns-in-Refused c = rw (matched c.fault-1.given.1 c.check_word-fault.ensures)
+returns-in-Refused c = rw (matched c.in-Refused.is c.check_word-fault.ensures)

@@ -7,8 +7,8 @@ use Rattle.varuna.proofs.arithmetic.multiply.Goals as goal
 
 pub returns-in-Fine : goal.returns-in-Fine
 unfolding operation_call
-returns-in-Fine c = done _ (matched c.enum_told-1.given.1 c.check_pair-fault.ensures) (c.multiply.ensures baby_bear refl)
+returns-in-Fine c = done _ (matched c.in-Fine.is c.check_pair-fault.ensures) (c.multiply.ensures baby_bear refl)
 
 pub returns-in-Refused : goal.returns-in-Refused
 unfolding operation_call
-returns-in-Refused c = rw (matched c.fault-1.given.1 c.check_pair-fault.ensures)
+returns-in-Refused c = rw (matched c.in-Refused.is c.check_pair-fault.ensures)

@@ -7,8 +7,8 @@ use Rattle.varuna.proofs.arithmetic.power.Goals as goal
 
 pub returns-in-Fine : goal.returns-in-Fine
 unfolding power_call
-returns-in-Fine c = done _ (matched c.enum_told-1.given.1 c.check_word-fault.ensures) (c.raise.ensures baby_bear refl)
+returns-in-Fine c = done _ (matched c.in-Fine.is c.check_word-fault.ensures) (c.raise.ensures baby_bear refl)
 
 pub returns-in-Refused : goal.returns-in-Refused
 unfolding power_call
-returns-in-Refused c = rw (matched c.fault-1.given.1 c.check_word-fault.ensures)
+returns-in-Refused c = rw (matched c.in-Refused.is c.check_word-fault.ensures)

@@ -33,7 +33,7 @@ blind_into-requires c =
     let j = (goal.at.blind_into-requires d).After-judge_blind-fault in
     let a = j.args in
     call_fits baby_bear a.r a.c a.x a.ea.now a.eb.now a.ec.now a.z.now (three a.rho) a.blindedA.now
-    a.blindedB.now a.blindedC.now a.blindedZ.now (matched d.enum_told-1.given.1 (judgement j))
+    a.blindedB.now a.blindedC.now a.blindedZ.now (matched d.in-Fine.is (judgement j))
 
 pub returns-in-Fine : goal.returns-in-Fine
 unfolding blind_call
@@ -41,8 +41,8 @@ returns-in-Fine c =
     let filled = c in
     let d = filled in
     let j = (goal.at.returns-in-Fine d).After-judge_blind-fault in
-    fill_done (lists (goal.at.After-judge_blind-fault j).Start, j.args.blindedZ.now) (matched d.enum_told-1.given.1 (judgement j)) filled.blind_into.ensures
+    fill_done (lists (goal.at.After-judge_blind-fault j).Start, j.args.blindedZ.now) (matched d.in-Fine.is (judgement j)) filled.blind_into.ensures
 
 pub returns-in-Refused : goal.returns-in-Refused
 unfolding blind_call
-returns-in-Refused c = rw (matched c.fault-1.given.1 (judgement (goal.at.returns-in-Refused c).After-judge_blind-fault))
+returns-in-Refused c = rw (matched c.in-Refused.is (judgement (goal.at.returns-in-Refused c).After-judge_blind-fault))

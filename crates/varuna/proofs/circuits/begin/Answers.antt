@@ -4,7 +4,7 @@ use Rattle.varuna.proofs.AnswerLent.{lent-done, lent-refused}
 use Rattle.varuna.proofs.circuits.begin.Goals as goal
 
 pub returns-in-Fine : goal.returns-in-Fine
-returns-in-Fine c = lent-done _ (sym c.enum_told-1.given.1) c.begin-fault.ensures
+returns-in-Fine c = lent-done _ (sym c.in-Fine.is) c.begin-fault.ensures
 
 pub returns-in-Refused : goal.returns-in-Refused
-returns-in-Refused c = lent-refused _ (sym c.fault-1.given.1) c.begin-fault.ensures
+returns-in-Refused c = lent-refused _ (sym c.in-Refused.is) c.begin-fault.ensures

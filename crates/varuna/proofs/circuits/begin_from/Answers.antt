@@ -12,7 +12,7 @@ begin_from-fault-requires c = record {
 }
 
 pub returns-in-Fine : goal.returns-in-Fine
-returns-in-Fine c = lent-done _ (sym c.enum_told-1.given.1) (c.begin_from-fault.ensures baby_bear refl)
+returns-in-Fine c = lent-done _ (sym c.in-Fine.is) (c.begin_from-fault.ensures baby_bear refl)
 
 pub returns-in-Refused : goal.returns-in-Refused
-returns-in-Refused c = lent-refused _ (sym c.fault-1.given.1) (c.begin_from-fault.ensures baby_bear refl)
+returns-in-Refused c = lent-refused _ (sym c.in-Refused.is) (c.begin_from-fault.ensures baby_bear refl)

@@ -35,7 +35,7 @@ judgement c = c.judge_index-fault.ensures baby_bear refl
 fits : (c : In-Fine) → CallFits (circuit (goal.at.In-Fine c).Start) (lent (goal.at.In-Fine c).Start)
 fits c =
     let j = (goal.at.In-Fine c).After-judge_index-fault in
-    call_fits (circuit (goal.at.After-judge_index-fault j).Start) (lent (goal.at.After-judge_index-fault j).Start) j.judge_index-fault.result (judgement j) c.enum_told-1.given.1
+    call_fits (circuit (goal.at.After-judge_index-fault j).Start) (lent (goal.at.After-judge_index-fault j).Start) j.judge_index-fault.result (judgement j) c.in-Fine.is
 
 pub judge_index-fault-requires : goal.judge_index-fault-requires
 judge_index-fault-requires c = tt
@@ -95,10 +95,10 @@ returns-in-Fine c =
     let j = (goal.at.returns-in-Fine d).After-judge_index-fault in
     let k : Circuit = circuit_of (circuit (goal.at.After-judge_index-fault j).Start) in
     let made = v.index_into.ensures baby_bear known-prime k refl refl refl in
-    index-done (circuit (goal.at.After-judge_index-fault j).Start) (lent (goal.at.After-judge_index-fault j).Start) j.judge_index-fault.result (judgement j) d.enum_told-1.given.1
+    index-done (circuit (goal.at.After-judge_index-fault j).Start) (lent (goal.at.After-judge_index-fault j).Start) j.judge_index-fault.result (judgement j) d.in-Fine.is
     made.of-a made.of-b made.of_c
 
 pub returns-in-Refused : goal.returns-in-Refused
 returns-in-Refused c =
     let j = (goal.at.returns-in-Refused c).After-judge_index-fault in
-    index-refused (circuit (goal.at.After-judge_index-fault j).Start) (lent (goal.at.After-judge_index-fault j).Start) j.judge_index-fault.result (judgement j) c.fault-1.given.1
+    index-refused (circuit (goal.at.After-judge_index-fault j).Start) (lent (goal.at.After-judge_index-fault j).Start) j.judge_index-fault.result (judgement j) c.in-Refused.is

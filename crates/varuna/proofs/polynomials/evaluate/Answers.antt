@@ -7,8 +7,8 @@ use Rattle.varuna.proofs.polynomials.evaluate.Goals as goal
 
 pub returns-in-Fine : goal.returns-in-Fine
 unfolding evaluate_call
-returns-in-Fine c = done _ (matched c.enum_told-1.given.1 c.judge_evaluation-fault.ensures) (c.evaluate.ensures baby_bear refl)
+returns-in-Fine c = done _ (matched c.in-Fine.is c.judge_evaluation-fault.ensures) (c.evaluate.ensures baby_bear refl)
 
 pub returns-in-Refused : goal.returns-in-Refused
 unfolding evaluate_call
-returns-in-Refused c = rw (matched c.fault-1.given.1 c.judge_evaluation-fault.ensures)
+returns-in-Refused c = rw (matched c.in-Refused.is c.judge_evaluation-fault.ensures)

@@ -15,10 +15,10 @@ returns-in-Fine c =
     let a = c.args in
     let words = a.running.sum ∷ a.running.power ∷ a.y ∷ a.part.now in
     let fine : evaluation_refusal baby_bear (length a.part.now) words ≡ none =
-    matched c.enum_told-1.given.1 c.judge_part-fault.ensures in
+    matched c.in-Fine.is c.judge_part-fault.ensures in
     let below = evaluation_free baby_bear (length a.part.now) words fine in
     done _ fine (c.evaluate_part.ensures baby_bear refl (below.0, below.1.0))
 
 pub returns-in-Refused : goal.returns-in-Refused
 unfolding evaluate_part_call
-returns-in-Refused c = rw (matched c.fault-1.given.1 c.judge_part-fault.ensures)
+returns-in-Refused c = rw (matched c.in-Refused.is c.judge_part-fault.ensures)

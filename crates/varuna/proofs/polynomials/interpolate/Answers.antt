@@ -21,7 +21,7 @@ let_through : (c : In-Fine) → let a = c.args in
 let_through c =
     let a = c.args in
     transform_free baby_bear a.n (length a.out.now) a.values.now
-    (matched c.enum_told-1.given.1 c.judge_transform-fault.ensures)
+    (matched c.in-Fine.is c.judge_transform-fault.ensures)
 
 pub root_of-root-requires : goal.root_of-root-requires
 root_of-root-requires c = (let_through c).size
@@ -38,11 +38,11 @@ returns-in-Fine c =
     let d = (goal.at.returns-in-Fine c).In-Fine in
     let t = let_through d in
     let a = d.args in
-    fill_done a.out.now (matched d.enum_told-1.given.1 d.judge_transform-fault.ensures)
+    fill_done a.out.now (matched d.in-Fine.is d.judge_transform-fault.ensures)
     (c.interpolate_into.ensures baby_bear baby_bear-qualifies refl
     (transform-root t (c.root_of-root.ensures baby_bear (record { is_module = refl; value = refl })))
     ∙ ap (λ (n : ℕ). words (interpolate n (map (of {q = baby_bear}) a.values.now))) t.listed)
 
 pub returns-in-Refused : goal.returns-in-Refused
 unfolding interpolate_call
-returns-in-Refused c = rw (matched c.fault-1.given.1 c.judge_transform-fault.ensures)
+returns-in-Refused c = rw (matched c.in-Refused.is c.judge_transform-fault.ensures)

@@ -57,10 +57,22 @@ fits : (c : In-Fine)
 fits c =
     let j = (goal.at.In-Fine c).After-judge_round-fault in
     let s = (goal.at.After-judge_round-fault j).Start in
-    input_fits (input s) (lent s) (due s) (challenges s) (points s) j.judge_round-fault.result (judgement j) c.enum_told-1.given.1
+    input_fits (input s) (lent s) (due s) (challenges s) (points s) j.judge_round-fault.result (judgement j) c.in-Fine.is
 
 pub lengths_of-requires : goal.lengths_of-requires
 lengths_of-requires c = tt
+
+pub slice_bounds-judge_round-end : goal.slice_bounds-judge_round-end
+slice_bounds-judge_round-end c = refl
+
+pub slice_bounds-judge_round-end-2 : goal.slice_bounds-judge_round-end-2
+slice_bounds-judge_round-end-2 c = refl
+
+pub slice_bounds-judge_round-end-3 : goal.slice_bounds-judge_round-end-3
+slice_bounds-judge_round-end-3 c = refl
+
+pub slice_bounds-judge_round-end-4 : goal.slice_bounds-judge_round-end-4
+slice_bounds-judge_round-end-4 c = refl
 
 pub joined_quotient_into-requires : goal.joined_quotient_into-requires
 unfolding lengths sizes_of circuit_of largest
@@ -84,11 +96,11 @@ returns-in-Fine c =
     let a = s.args in
     let F = fits d in
     let k : Circuit = circuit_of (given a.r a.c a.x a.ea.now a.eb.now a.ec.now) in
-    fill_done a.out.now (matched d.enum_told-1.given.1 (judgement (goal.at.In-Fine d).After-judge_round-fault))
+    fill_done a.out.now (matched d.in-Fine.is (judgement (goal.at.In-Fine d).After-judge_round-fault))
     (c.joined_quotient_into.ensures baby_bear k
     (matrix-given known-prime baby_bear-qualifies a.r a.c a.x a.ea.now a.eb.now a.ec.now)
     (challenged F.fits a.alpha a.beta [] F.outside))
 
 pub returns-in-Refused : goal.returns-in-Refused
 unfolding fifth_round_call lengths sizes_of circuit_of largest
-returns-in-Refused c = rw (matched c.fault-1.given.1 (judgement (goal.at.returns-in-Refused c).After-judge_round-fault))
+returns-in-Refused c = rw (matched c.in-Refused.is (judgement (goal.at.returns-in-Refused c).After-judge_round-fault))

@@ -58,10 +58,16 @@ fits : (c : In-Fine)
 fits c =
     let j = (goal.at.In-Fine c).After-judge_round-fault in
     let s = (goal.at.After-judge_round-fault j).Start in
-    input_fits (input s) (lent s) (due s) (challenges s) (points s) j.judge_round-fault.result (judgement j) c.enum_told-1.given.1
+    input_fits (input s) (lent s) (due s) (challenges s) (points s) j.judge_round-fault.result (judgement j) c.in-Fine.is
 
 pub lengths_of-due-requires : goal.lengths_of-due-requires
 lengths_of-due-requires c = tt
+
+pub slice_bounds-judge_round-end : goal.slice_bounds-judge_round-end
+slice_bounds-judge_round-end c = refl
+
+pub slice_bounds-judge_round-end-2 : goal.slice_bounds-judge_round-end-2
+slice_bounds-judge_round-end-2 c = refl
 
 pub witness_into-requires : goal.witness_into-requires
 unfolding lengths sizes_of circuit_of
@@ -98,7 +104,7 @@ returns-in-Fine c =
     let a = s.args in
     let F = fits d in
     let k : Circuit = circuit_of (given a.r a.c a.x a.ea.now a.eb.now a.ec.now) in
-    fill_done (a.witness.now, a.row_quotient.now) (matched d.enum_told-1.given.1 (judgement (goal.at.In-Fine d).After-judge_round-fault))
+    fill_done (a.witness.now, a.row_quotient.now) (matched d.in-Fine.is (judgement (goal.at.In-Fine d).After-judge_round-fault))
     (ap₂ (λ (l m : List ℕ). (l, m))
     (c.witness_into.ensures baby_bear known-prime k refl refl)
     (c.row_quotient_into.ensures baby_bear known-prime baby_bear-qualifies k F.fits.well_formed refl refl refl
@@ -107,4 +113,4 @@ returns-in-Fine c =
 
 pub returns-in-Refused : goal.returns-in-Refused
 unfolding first_round_call circuit_of
-returns-in-Refused c = rw (matched c.fault-1.given.1 (judgement (goal.at.returns-in-Refused c).After-judge_round-fault))
+returns-in-Refused c = rw (matched c.in-Refused.is (judgement (goal.at.returns-in-Refused c).After-judge_round-fault))

@@ -59,10 +59,22 @@ fits : (c : In-Fine)
 fits c =
     let j = (goal.at.In-Fine c).After-judge_round-fault in
     let s = (goal.at.After-judge_round-fault j).Start in
-    input_fits (input s) (lent s) (due s) (challenges s) (points s) j.judge_round-fault.result (judgement j) c.enum_told-1.given.1
+    input_fits (input s) (lent s) (due s) (challenges s) (points s) j.judge_round-fault.result (judgement j) c.in-Fine.is
 
 pub lengths_of-requires : goal.lengths_of-requires
 lengths_of-requires c = tt
+
+pub slice_bounds-judge_round-end : goal.slice_bounds-judge_round-end
+slice_bounds-judge_round-end c = refl
+
+pub slice_bounds-judge_round-end-2 : goal.slice_bounds-judge_round-end-2
+slice_bounds-judge_round-end-2 c = refl
+
+pub slice_bounds-judge_round-end-3 : goal.slice_bounds-judge_round-end-3
+slice_bounds-judge_round-end-3 c = refl
+
+pub slice_bounds-judge_round-end-4 : goal.slice_bounds-judge_round-end-4
+slice_bounds-judge_round-end-4 c = refl
 
 pub values_into-requires : goal.values_into-requires
 unfolding lengths sizes_of circuit_of
@@ -98,11 +110,11 @@ returns-in-Fine c =
     v.values_into.ensures baby_bear k
     (matrix-given known-prime baby_bear-qualifies a.r a.c a.x a.ea.now a.eb.now a.ec.now)
     (challenged F.fits a.alpha a.beta [] F.outside) in
-    fill_three-done (matched d.enum_told-1.given.1 (judgement (goal.at.In-Fine d).After-judge_round-fault)) made.are_values
+    fill_three-done (matched d.in-Fine.is (judgement (goal.at.In-Fine d).After-judge_round-fault)) made.are_values
     (three_of a.ga.now a.gb.now a.gc.now)
     (three_same (each (λ M. words (matrix_remainder {q = baby_bear} k (of a.alpha) (of a.beta) M)))
     made.remainder-a made.remainder-b made.remainder-c)
 
 pub returns-in-Refused : goal.returns-in-Refused
 unfolding fourth_round_call lengths sizes_of circuit_of
-returns-in-Refused c = rw (matched c.fault-1.given.1 (judgement (goal.at.returns-in-Refused c).After-judge_round-fault))
+returns-in-Refused c = rw (matched c.in-Refused.is (judgement (goal.at.returns-in-Refused c).After-judge_round-fault))

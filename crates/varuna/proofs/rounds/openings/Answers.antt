@@ -45,7 +45,13 @@ fits : (c : In-Fine)
 fits c =
     let j = (goal.at.In-Fine c).After-judge_round-fault in
     let s = (goal.at.After-judge_round-fault j).Start in
-    input_fits (input s) (lent s) (due s) (challenges s) (points s) j.judge_round-fault.result (judgement j) c.enum_told-1.given.1
+    input_fits (input s) (lent s) (due s) (challenges s) (points s) j.judge_round-fault.result (judgement j) c.in-Fine.is
+
+pub slice_bounds-judge_round-end : goal.slice_bounds-judge_round-end
+slice_bounds-judge_round-end c = refl
+
+pub slice_bounds-judge_round-end-2 : goal.slice_bounds-judge_round-end-2
+slice_bounds-judge_round-end-2 c = refl
 
 pub open_all-all-requires : goal.open_all-all-requires
 open_all-all-requires c =
@@ -61,8 +67,8 @@ unfolding openings_call
 returns-in-Fine c =
     let o = c in
     let d = o in
-    done _ (matched d.enum_told-1.given.1 (judgement (goal.at.returns-in-Fine d).After-judge_round-fault)) (o.open_all-all.ensures baby_bear known-prime)
+    done _ (matched d.in-Fine.is (judgement (goal.at.returns-in-Fine d).After-judge_round-fault)) (o.open_all-all.ensures baby_bear known-prime)
 
 pub returns-in-Refused : goal.returns-in-Refused
 unfolding openings_call
-returns-in-Refused c = rw (matched c.fault-1.given.1 (judgement (goal.at.returns-in-Refused c).After-judge_round-fault))
+returns-in-Refused c = rw (matched c.in-Refused.is (judgement (goal.at.returns-in-Refused c).After-judge_round-fault))

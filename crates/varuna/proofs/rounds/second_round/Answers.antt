@@ -49,7 +49,13 @@ fits : (c : In-Fine)
 fits c =
     let j = (goal.at.In-Fine c).After-judge_round-fault in
     let s = (goal.at.After-judge_round-fault j).Start in
-    input_fits (input s) (lent s) (due s) (challenges s) (points s) j.judge_round-fault.result (judgement j) c.enum_told-1.given.1
+    input_fits (input s) (lent s) (due s) (challenges s) (points s) j.judge_round-fault.result (judgement j) c.in-Fine.is
+
+pub slice_bounds-judge_round-end : goal.slice_bounds-judge_round-end
+slice_bounds-judge_round-end c = refl
+
+pub slice_bounds-judge_round-end-2 : goal.slice_bounds-judge_round-end-2
+slice_bounds-judge_round-end-2 c = refl
 
 pub sums_at-requires : goal.sums_at-requires
 sums_at-requires c =
@@ -70,10 +76,10 @@ returns-in-Fine c =
     let k : Circuit = circuit_of (given a.r a.c a.x a.ea.now a.eb.now a.ec.now) in
     let assigned = assignment_in baby_bear (input s) in
     done (map_three (λ (e : Elem baby_bear). e.word) (sums k assigned (of a.alpha)))
-    (matched d.enum_told-1.given.1 (judgement (goal.at.In-Fine d).After-judge_round-fault))
+    (matched d.in-Fine.is (judgement (goal.at.In-Fine d).After-judge_round-fault))
     (c.sums_at.ensures baby_bear known-prime baby_bear-qualifies k F.fits.well_formed refl refl assigned
     (assignment_on-C F.fits refl baby_bear-qualifies a.mask))
 
 pub returns-in-Refused : goal.returns-in-Refused
 unfolding second_round_call
-returns-in-Refused c = rw (matched c.fault-1.given.1 (judgement (goal.at.returns-in-Refused c).After-judge_round-fault))
+returns-in-Refused c = rw (matched c.in-Refused.is (judgement (goal.at.returns-in-Refused c).After-judge_round-fault))

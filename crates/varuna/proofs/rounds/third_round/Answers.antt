@@ -54,10 +54,22 @@ fits : (c : In-Fine)
 fits c =
     let j = (goal.at.In-Fine c).After-judge_round-fault in
     let s = (goal.at.After-judge_round-fault j).Start in
-    input_fits (input s) (lent s) (due s) (challenges s) (points s) j.judge_round-fault.result (judgement j) c.enum_told-1.given.1
+    input_fits (input s) (lent s) (due s) (challenges s) (points s) j.judge_round-fault.result (judgement j) c.in-Fine.is
 
 pub lengths_of-due-requires : goal.lengths_of-due-requires
 lengths_of-due-requires c = tt
+
+pub slice_bounds-judge_round-end : goal.slice_bounds-judge_round-end
+slice_bounds-judge_round-end c = refl
+
+pub slice_bounds-judge_round-end-2 : goal.slice_bounds-judge_round-end-2
+slice_bounds-judge_round-end-2 c = refl
+
+pub slice_bounds-judge_round-end-3 : goal.slice_bounds-judge_round-end-3
+slice_bounds-judge_round-end-3 c = refl
+
+pub slice_bounds-judge_round-end-4 : goal.slice_bounds-judge_round-end-4
+slice_bounds-judge_round-end-4 c = refl
 
 pub line_into-requires : goal.line_into-requires
 unfolding lengths sizes_of circuit_of
@@ -83,9 +95,9 @@ returns-in-Fine c =
     let s = d in
     let a = s.args in
     let made = l.line_into.ensures baby_bear known-prime baby_bear-qualifies in
-    fill_done (a.remainder.now, a.quotient.now) (matched d.enum_told-1.given.1 (judgement (goal.at.After-line_into d).After-judge_round-fault))
+    fill_done (a.remainder.now, a.quotient.now) (matched d.in-Fine.is (judgement (goal.at.After-line_into d).After-judge_round-fault))
     (ap₂ (λ (l m : List ℕ). (l, m)) made.0 made.1)
 
 pub returns-in-Refused : goal.returns-in-Refused
 unfolding third_round_call lengths sizes_of circuit_of
-returns-in-Refused c = rw (matched c.fault-1.given.1 (judgement (goal.at.returns-in-Refused c).After-judge_round-fault))
+returns-in-Refused c = rw (matched c.in-Refused.is (judgement (goal.at.returns-in-Refused c).After-judge_round-fault))

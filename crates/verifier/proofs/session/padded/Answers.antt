@@ -15,14 +15,12 @@ loop-i-init c = (search rules, refl)
 
 pub loop-i-preserved : goal.loop-i-preserved
 loop-i-preserved c =
-    let l = c in
-    let words = l.args.words.now in
-    let i = l.loop-i.i in
-    (search rules, ap (λ x. set x i (get_or words i 0)) l.loop-i.invariant.1 ∙ padded_more max_size words i (omega arith) (omega arith))
+    let words = c.args.words.now in
+    let i = c.loop-i.i in
+    (search rules, ap (λ x. set x i (get_or words i 0)) c.loop-i.invariant.1 ∙ padded_more max_size words i (omega arith) (omega arith))
 
 pub returns : goal.returns
 returns c =
-    let l = c in
-    let words = l.args.words.now in
-    let done : l.loop-i.i ≡ length words = omega arith in
-    l.loop-i.invariant.1 ∙ ap (λ i. Padded max_size words i) done ∙ ap (λ w. w ++ replicate (max_size - length words) 0) (take-length words)
+    let words = c.args.words.now in
+    let done : c.loop-i.i ≡ length words = omega arith in
+    c.loop-i.invariant.1 ∙ ap (λ i. Padded max_size words i) done ∙ ap (λ w. w ++ replicate (max_size - length words) 0) (take-length words)

@@ -15,7 +15,5 @@ transcript-of l sums etas values deltas = cc
 
 pub returns : goal.returns
 returns c =
-    let at-γ = c in
-    let at-β = at-γ in
-    transcript-of at-β.args.words.now at-β.triple_at.ensures at-β.triple_at-2.ensures
-    at-γ.triple_at-3.ensures at-γ.triple_at-4.ensures
+    transcript-of c.args.words.now c.triple_at.ensures c.triple_at-2.ensures
+    c.triple_at-3.ensures c.triple_at-4.ensures

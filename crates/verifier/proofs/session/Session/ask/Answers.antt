@@ -8,7 +8,6 @@ use Rattle.verifier.proofs.session.Session.ask.Goals as goal
 
 pub returns : goal.returns
 returns c =
-    let j = c in
-    let a = j.args in
+    let a = c.args in
     let same = ask_leaves baby_bear (session_meaning a.self) (openings a.o a.index) in
-    c.answered.ensures ∙ (λ i. record { session = sym same i; answer = j.judgement.ensures i })
+    c.answered.ensures ∙ (λ i. record { session = sym same i; answer = c.judgement.ensures i })

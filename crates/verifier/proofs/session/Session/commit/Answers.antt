@@ -15,14 +15,12 @@ given c = commit_answer baby_bear _ _ ∙ sym c.judgement-answer.ensures
 
 pub returns-in-Judged : goal.returns-in-Judged
 returns-in-Judged c =
-    let told = c in
-    let j = (goal.at.returns-in-Judged told).After-judgement-answer in
-    let ends = commit_ends baby_bear _ _ _ (given j ∙ ap openings_answer_meaning told.enum_told-1.given.1) in
+    let j = (goal.at.returns-in-Judged c).After-judgement-answer in
+    let ends = commit_ends baby_bear _ _ _ (given j ∙ ap openings_answer_meaning c.in-Judged.is) in
     c.answered.ensures ∙ (λ i. record { session = sym ends i; answer = sym (given j) i })
 
 pub returns-in-Refused : goal.returns-in-Refused
 returns-in-Refused c =
-    let told = c in
-    let j = (goal.at.returns-in-Refused told).After-judgement-answer in
-    let stays = refused_leaves baby_bear _ _ _ (given j ∙ ap openings_answer_meaning told.enum_told-in-Refused-1.given.1) in
+    let j = (goal.at.returns-in-Refused c).After-judgement-answer in
+    let stays = refused_leaves baby_bear _ _ _ (given j ∙ ap openings_answer_meaning c.in-Refused.is) in
     c.answered-in-Refused.ensures ∙ (λ i. record { session = sym stays i; answer = sym (given j) i })

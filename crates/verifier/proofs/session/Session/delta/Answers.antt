@@ -15,13 +15,13 @@ judged c = sym (c.judge_delta.ensures baby_bear refl)
 pub taken-requires : goal.taken-requires
 taken-requires c =
     let j = (goal.at.taken-requires c).After-judge_delta in
-    let passed = judged j ∙ ap fault_refusal c.enum_told-1.given.1 in
-    omega (arith, ((delta_passes baby_bear _ _ _ _ _).0 passed).0.Stage-is)
+    let passed = judged j ∙ ap fault_refusal c.in-Fine.is in
+    omega (arith, ((delta_passes baby_bear _ _ _ _ _).0 passed).0.stage_is)
 
 pub returns-in-Refused : goal.returns-in-Refused
 unfolding delta_step
-returns-in-Refused c = rw (judged (goal.at.returns-in-Refused c).After-judge_delta ∙ ap fault_refusal c.number-1.given.1) c.refused.ensures
+returns-in-Refused c = rw (judged (goal.at.returns-in-Refused c).After-judge_delta ∙ ap fault_refusal c.in-Refused.is) c.refused.ensures
 
 pub returns-in-Fine : goal.returns-in-Fine
 unfolding delta_step
-returns-in-Fine c = rw (judged (goal.at.returns-in-Fine c).After-judge_delta ∙ ap fault_refusal c.enum_told-1.given.1) c.taken.ensures
+returns-in-Fine c = rw (judged (goal.at.returns-in-Fine c).After-judge_delta ∙ ap fault_refusal c.in-Fine.is) c.taken.ensures

@@ -17,11 +17,10 @@ use Rattle.verifier.proofs.session.Session.from_words.Goals as goal
 pub returns : goal.returns
 unfolding session_of
 returns c =
-    let padding = c in
-    let words = padding.args.words.now in
+    let words = c.args.words.now in
     let size : length words ≡ 1046 = omega arith in
-    let x : padding.padded-x.result ≡ take max_size (drop 7 words) =
-    padding.padded-x.ensures ∙ padded-full max_size (take max_size (drop 7 words)) (length-take-le max_size (drop 7 words) (simp length-drop (omega arith))) in
+    let x : c.padded-x.result ≡ take max_size (drop 7 words) =
+    c.padded-x.ensures ∙ padded-full max_size (take max_size (drop 7 words)) (length-take-le max_size (drop 7 words) (simp length-drop (omega arith))) in
     let session : Three ℕ → List ℕ → Transcript ℕ → steps.Session = λ k x h.
     record {
       stage = get_or words 0 0;
@@ -29,4 +28,4 @@ returns c =
       x = x;
       transcript = h;
     } in
-    ap (λ k. session k padding.padded-x.result (transcript c.transcript_in.result)) c.triple_at.ensures ∙ ap₂ (session (three_at words 4)) x c.transcript_in.ensures
+    ap (λ k. session k c.padded-x.result (transcript c.transcript_in.result)) c.triple_at.ensures ∙ ap₂ (session (three_at words 4)) x c.transcript_in.ensures

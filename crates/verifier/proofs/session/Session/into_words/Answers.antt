@@ -1,8 +1,8 @@
 -- `verifier::session::Session::into_words` meets its contract. Assumes nothing.
 use mathlib.Core.List.{◌++◌}
-use mathlib.Core.Path.{◌≡◌, sym, ap, ◌∙◌}
+use mathlib.Core.Path.{◌≡◌, ap, ◌∙◌}
 use native.Mathlib.Omega.{arith}
-use lib.ListN.{length, length-map}
+use lib.ListN.{length}
 use Rattle.domain.specs.Size.{max_size}
 use Rattle.verifier.proofs.SessionWords.{three-put}
 use Rattle.verifier.specs.Session.{session_meaning, session_words, opening_words}
@@ -11,7 +11,7 @@ use Rattle.verifier.proofs.session.Session.into_words.Goals.{Start}
 
 -- the words of x are 1,024, as owning the session tells
 whole : (c : Start) → length c.args.self.x ≡ max_size
-whole c = sym (length-map c.args.self.x (λ w. w)) ∙ c.well_formed.0.1.1.1.1.0.1.0.1
+whole c = omega arith
 
 pub put_words-requires-2 : goal.put_words-requires-2
 put_words-requires-2 c = omega (arith, whole (goal.at.put_words-requires-2 c).Start)
@@ -19,13 +19,10 @@ put_words-requires-2 c = omega (arith, whole (goal.at.put_words-requires-2 c).St
 pub returns : goal.returns
 unfolding session_words opening_words
 returns c =
-    let put-x = c in
-    let put-opening = put-x in
-    let transcript = put-opening in
-    let start = (goal.at.returns transcript).Start in
-    let s = session_meaning start.args.self in
-    let size : length start.args.out.now ≡ 1046 = omega arith in
+    let start = (goal.at.returns c).Start in
+    let s = session_meaning c.args.self in
+    let size : length c.args.out.now ≡ 1046 = omega arith in
     let x-size = whole start in
-    three-put (opening_words s) s.x transcript.transcript_words-last.result start.args.out.now (omega arith) 1031 (omega arith) put-opening.put_words.ensures
-    put-x.put_words-2.ensures c.put_words-3.ensures
-    ∙ ap (λ l. opening_words s ++ (s.x ++ l)) transcript.transcript_words-last.ensures
+    three-put (opening_words s) s.x c.transcript_words-last.result c.args.out.now (omega arith) 1031 (omega arith) c.put_words.ensures
+    c.put_words-2.ensures c.put_words-3.ensures
+    ∙ ap (λ l. opening_words s ++ (s.x ++ l)) c.transcript_words-last.ensures

@@ -14,7 +14,7 @@ use Rattle.verifier.specs.Session.{session_meaning}
 use Rattle.protocol.proofs.AllowedSizes.{allowed}
 use borrow.Author.Rules.{rules}
 use lib.Dec.{lit<}
-use lib.ListN.{length, length-map}
+use lib.ListN.{length}
 use lib.Seq.{length-take-le}
 use mathlib.Core.Path.{◌≡◌, refl, sym, ap, ◌∙◌}
 use native.Mathlib.Omega.{arith}
@@ -30,13 +30,13 @@ passed : (c : In-Fine) → let a = c.args in
     InTurn 6 a.self.stage (sizes a.self.sizes) × LeftBySteps baby_bear (session_meaning a.self)
 passed c =
     let a = c.args in
-    let free = judged (goal.at.In-Fine c).After-judge_openings ∙ ap fault_refusal c.enum_told-1.given.1 in
+    let free = judged (goal.at.In-Fine c).After-judge_openings ∙ ap fault_refusal c.in-Fine.is in
     let (turn, left, _) = (openings-passes baby_bear (session_meaning a.self) (openings a.o a.index)).0 free in
     (turn, left_by_steps_lem baby_bear (session_meaning a.self) left)
 
 -- a session has 1,024 words of x, which is told by owning it
 whole : (s : Start) → length s.args.self.x ≡ max_size
-whole s = sym (length-map s.args.self.x (λ w. w)) ∙ s.well_formed.0.1.1.1.1.0.1.0.1
+whole s = omega arith
 
 -- the public words lie within them
 within : (c : In-Fine) → let s = (goal.at.In-Fine c).Start in s.args.self.sizes.x ≤ length s.args.self.x
@@ -54,6 +54,9 @@ judge_openings-requires c = record {
 pub slice_bounds-x-end : goal.slice_bounds-x-end
 slice_bounds-x-end c = within (goal.at.slice_bounds-x-end c).In-Fine
 
+pub slice_bounds-verdict-end : goal.slice_bounds-verdict-end
+slice_bounds-verdict-end c = sym (length-take-le c.args.self.sizes.x c.args.self.x (within (goal.at.slice_bounds-verdict-end c).In-Fine))
+
 pub verdict-verdict-requires : goal.verdict-verdict-requires
 verdict-verdict-requires c =
     let t = (goal.at.verdict-verdict-requires c).In-Fine in
@@ -67,11 +70,10 @@ verdict-verdict-requires c =
 
 pub returns-in-Refused : goal.returns-in-Refused
 unfolding ask_step
-returns-in-Refused c = rw (judged (goal.at.returns-in-Refused c).After-judge_openings ∙ ap fault_refusal c.number-1.given.1)
+returns-in-Refused c = rw (judged (goal.at.returns-in-Refused c).After-judge_openings ∙ ap fault_refusal c.in-Refused.is)
 
 pub returns-in-Fine : goal.returns-in-Fine
 unfolding ask_step verdict_of
 returns-in-Fine c =
-    let t = c in
-    rw (judged (goal.at.returns-in-Fine t).After-judge_openings ∙ ap fault_refusal t.enum_told-1.given.1)
+    rw (judged (goal.at.returns-in-Fine c).After-judge_openings ∙ ap fault_refusal c.in-Fine.is)
     (ap Judged (c.verdict-verdict.ensures baby_bear baby_bear-known.known baby_bear-qualifies))

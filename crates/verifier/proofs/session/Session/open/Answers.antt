@@ -19,11 +19,11 @@ pub padded-requires : goal.padded-requires
 padded-requires c =
     let j = (goal.at.padded-requires c).After-judge_open in
     let a = j.args in
-    words_fit baby_bear (sizes a.s) a.x.now (judged j ∙ ap fault_refusal c.enum_told-1.given.1)
+    words_fit baby_bear (sizes a.s) a.x.now (judged j ∙ ap fault_refusal c.in-Fine.is)
 
 pub returns-in-Refused : goal.returns-in-Refused
 unfolding open_step
-returns-in-Refused c = rw (judged (goal.at.returns-in-Refused c).After-judge_open ∙ ap fault_refusal c.number-1.given.1) c.refused.ensures
+returns-in-Refused c = rw (judged (goal.at.returns-in-Refused c).After-judge_open ∙ ap fault_refusal c.in-Refused.is) c.refused.ensures
 
 pub returns-in-Fine : goal.returns-in-Fine
 unfolding open_step
@@ -31,4 +31,4 @@ returns-in-Fine c =
     let j = (goal.at.returns-in-Fine c).After-judge_open in
     let opened : List ℕ → Transcript ℕ → steps.Stepped = λ x h.
     record { session = record { stage = 1; sizes = sizes j.args.s; x = x; transcript = h }; answer = Taken } in
-    rw (judged j ∙ ap fault_refusal c.enum_told-1.given.1) (ap₂ opened c.padded.ensures c.nothing_heard.ensures)
+    rw (judged j ∙ ap fault_refusal c.in-Fine.is) (ap₂ opened c.padded.ensures c.nothing_heard.ensures)
