@@ -1,6 +1,6 @@
 -- `matrix_sumcheck::joined::add_matrix` meets its contract: minus the multiple of the quotient, which is minus h_M. Assumes nothing.
 use mathlib.Core.Path.{◌≡◌, sym, ap, ap₂, ◌∙◌}
-use mathlib.Core.List.{List, map}
+use mathlib.Core.List.{map}
 use Prim.Native.Nat.{ℕ, ◌+◌, ◌-◌, ◌≤◌}
 use native.Mathlib.Omega.{arith}
 use lib.ListN.{length, take}
@@ -11,7 +11,7 @@ use Rattle.domain.specs.Size.{size_for}
 use Rattle.domain.specs.Polynomial.{Poly, ◌⊞◌, ◌·◌, ◌⊠◌, quotient}
 use Rattle.domain.proofs.SizeLaws.{size_bound, sized_positive, sized-fits, sized-next}
 use Rattle.protocol.specs.Messages.{denominator, ratio}
-use Rattle.poly.proofs.LentParts.{array, returned, lent_length, back_holds, back_length, back_list}
+use Rattle.poly.proofs.LentParts.{array, lent_length, back_holds, back_length, back_list}
 use Rattle.matrix_sumcheck.specs.MatrixGiven.{size_of}
 use Rattle.matrix_sumcheck.proofs.MatrixQuotients.{minus_multiple, quotient_made}
 use Rattle.matrix_sumcheck.proofs.joined.add_matrix.Goals as goal

@@ -11,7 +11,7 @@ use Rattle.domain.specs.Size.{is_size}
 use Rattle.domain.specs.Polynomial.{Poly, ◌⊞◌}
 use Rattle.protocol.specs.Three.{MatrixName, A, B, C, Three, map_three}
 use Rattle.shared.specs.Meanings.{three}
-use Rattle.matrix_sumcheck.specs.MatrixGiven.{lists, size_of}
+use Rattle.matrix_sumcheck.specs.MatrixGiven.{lists}
 use Rattle.poly.proofs.WordLists.{of-zeros}
 use Rattle.matrix_sumcheck.proofs.JoinedForms.{joined_term, joined-fits, joined_made}
 use Rattle.matrix_sumcheck.proofs.joined.joined_by_lists.Goals as goal

@@ -2,14 +2,13 @@
 -- Assumes nothing.
 use mathlib.Core.Path.{◌≡◌, sym, ap, ◌∙◌}
 use mathlib.Core.Bool.{true}
-use mathlib.Core.List.{List}
-use Prim.Native.Nat.{ℕ, ◌≤◌}
+use Prim.Native.Nat.{ℕ}
 use lib.ListN.{length, take}
 use Rattle.field.specs.Element.{of}
 use Rattle.domain.specs.Size.{is_size}
 use Rattle.domain.proofs.SizeLaws.{size_bound}
 use Rattle.protocol.specs.Three.{A}
-use Rattle.poly.proofs.LentParts.{array, returned, lent_length, back_holds, back_length}
+use Rattle.poly.proofs.LentParts.{array, lent_length, back_holds, back_length}
 use Rattle.matrix_sumcheck.specs.MatrixGiven.{lagrange_values, distances}
 use Rattle.matrix_sumcheck.proofs.GivenLaws.{three-within, lent-list}
 use Rattle.matrix_sumcheck.proofs.joined.joined_quotient_into.Goals as goal

@@ -1,14 +1,12 @@
 -- `matrix_sumcheck::values::values_into` meets its contract: the lists of the rows and of the columns, then the three matrices.
 -- Assumes nothing.
-use mathlib.Core.Path.{◌≡◌, sym, ap, ◌∙◌}
-use mathlib.Core.List.{List}
-use Prim.Native.Nat.{ℕ, ◌≤◌}
-use lib.ListN.{length, take}
+use mathlib.Core.Path.{sym, ap, ◌∙◌}
+use Prim.Native.Nat.{ℕ}
 use Rattle.field.specs.Element.{of}
 use Rattle.domain.specs.Size.{is_size}
 use Rattle.domain.proofs.SizeLaws.{size_bound}
 use Rattle.protocol.specs.Three.{A}
-use Rattle.poly.proofs.LentParts.{returned, lent_length, back_holds, back_length}
+use Rattle.poly.proofs.LentParts.{lent_length, back_holds, back_length}
 use Rattle.matrix_sumcheck.specs.MatrixGiven.{lagrange_values}
 use Rattle.matrix_sumcheck.proofs.GivenLaws.{three-within, lent-list}
 use Rattle.matrix_sumcheck.proofs.values.values_into.Goals as goal
