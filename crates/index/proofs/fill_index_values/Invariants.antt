@@ -5,7 +5,7 @@ use Prim.Native.Nat.{ℕ, ◌-◌, ◌≤◌}
 use lib.ListN.{length}
 use Rattle.algebra.specs.Lists.{tabulate}
 use Rattle.field.specs.Prime.{Prime}
-use Rattle.field.specs.Element.{Elem, of, words}
+use Rattle.field.specs.Element.{Elem, words}
 use Rattle.domain.specs.Qualifies.{Qualifies}
 use Rattle.domain.proofs.Fill.{Filled}
 use Rattle.protocol.specs.Circuit.{Circuit}

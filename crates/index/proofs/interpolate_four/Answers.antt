@@ -1,30 +1,46 @@
 -- `index::interpolate_four` meets its contract. Assumes nothing.
 use mathlib.Core.Path.{◌≡◌, sym, ap, ◌∙◌, subst⁻¹}
-use Prim.Native.Nat.{ℕ, ◌≤◌, ◌<◌}
+use Prim.Native.Nat.{ℕ, ◌≤◌}
 use lib.ListN.{length}
 use mathlib.Core.Bool.{true}
 use Rattle.domain.specs.Size.{is_size}
 use Rattle.poly.proofs.LentParts.{part_order}
 use Rattle.transform.specs.Reading.{CoefficientTables}
 use Rattle.index.proofs.interpolate_four.Goals as goal
-use Rattle.index.proofs.interpolate_four.Goals.{Start}
 
--- what is asked for a list as long as the first
-ready : (s : Start) {m : ℕ} → m ≡ length s.args.row.now
-    → (1 < s.args.p) × ((is_size m ≡ true) × ((m ≤ length s.args.powers.now) × (m ≤ length s.args.quotients.now)))
-ready s e = (s.requires.lt_p, (ap is_size e ∙ s.requires.row_value, (part_order (sym e) s.requires.row_in_bounds.0, part_order (sym e) s.requires.row_in_bounds.1)))
+-- what is asked of a list as long as the first
+size_of : {m n : ℕ} → m ≡ n → is_size n ≡ true → is_size m ≡ true
+size_of e h = ap is_size e ∙ h
+
+bounds_of : {m n a b : ℕ} → m ≡ n → (n ≤ a) × (n ≤ b) → (m ≤ a) × (m ≤ b)
+bounds_of e h = (part_order (sym e) h.0, part_order (sym e) h.1)
 
 pub interpolate_in_place-requires-2 : goal.interpolate_in_place-requires-2
 interpolate_in_place-requires-2 c =
-    let s = (goal.at.interpolate_in_place-requires-2 c).Start in ready s s.requires.index_lengths.col-length
+    let e = c.requires.index_lengths.col-length in
+    record {
+      lt_p = c.requires.lt_p;
+      out_value = size_of e c.requires.row_value;
+      out_in_bounds = bounds_of e c.requires.row_in_bounds;
+    }
 
 pub interpolate_in_place-requires-3 : goal.interpolate_in_place-requires-3
 interpolate_in_place-requires-3 c =
-    let s = (goal.at.interpolate_in_place-requires-3 c).Start in ready s s.requires.index_lengths.rowcol-length
+    let e = c.requires.index_lengths.rowcol-length in
+    record {
+      lt_p = c.requires.lt_p;
+      out_value = size_of e c.requires.row_value;
+      out_in_bounds = bounds_of e c.requires.row_in_bounds;
+    }
 
 pub interpolate_in_place-requires-4 : goal.interpolate_in_place-requires-4
 interpolate_in_place-requires-4 c =
-    let s = (goal.at.interpolate_in_place-requires-4 c).Start in ready s s.requires.index_lengths.rowcolval-length
+    let e = c.requires.index_lengths.rowcolval-length in
+    record {
+      lt_p = c.requires.lt_p;
+      out_value = size_of e c.requires.row_value;
+      out_in_bounds = bounds_of e c.requires.row_in_bounds;
+    }
 
 pub returns : goal.returns
 returns c q known tables =

@@ -1,7 +1,7 @@
 -- `prover::rows::row_quotient_into` meets its contract. Assumes nothing.
 use mathlib.Core.Path.{◌≡◌, sym, ap, ◌∙◌}
 use mathlib.Core.List.{List, map}
-use Prim.Native.Nat.{ℕ, ◌+◌, ◌≤◌}
+use Prim.Native.Nat.{ℕ, ◌+◌}
 use native.Mathlib.Omega.{arith}
 use lib.ListN.{length}
 use Rattle.algebra.specs.Lists.{tabulate}
@@ -15,89 +15,70 @@ use Rattle.poly.proofs.LentParts.{part_length, filled_within, filled_length, of_
 use Rattle.prover.proofs.ProductLaws.{quotient_made}
 use Rattle.prover.proofs.RowLaws.{known_formed, rows-within, row-quotient_made}
 use Rattle.prover.proofs.rows.row_quotient_into.Goals as goal
-use Rattle.prover.proofs.rows.row_quotient_into.Goals.{After-row_sums, After-row_sums-2, Start}
-
-bound : (c : Start) → c.args.r ≤ 1024
-bound c = size_bound c.args.r c.requires.r_value
-
-abbrev sums-a : After-row_sums → List ℕ
-sums-a c = c.row_sums.new.out
-
-abbrev sums-b : After-row_sums-2 → List ℕ
-sums-b c = c.row_sums-2.new.out
 
 pub slice_bounds-left-end : goal.slice_bounds-left-end
-slice_bounds-left-end c = bound (goal.at.slice_bounds-left-end c).Start
+slice_bounds-left-end c = size_bound _ c.requires.r_value
 
 pub slice_bounds-row_sums-end : goal.slice_bounds-row_sums-end
-slice_bounds-row_sums-end c = part_length _ _ (bound (goal.at.slice_bounds-row_sums-end c).Start)
+slice_bounds-row_sums-end c = part_length _ _ (size_bound _ c.requires.r_value)
 
 pub row_sums-requires : goal.row_sums-requires
 row_sums-requires c =
-    let s = (goal.at.row_sums-requires c).Start in
     record {
       p_nonzero = omega arith;
-      all = rows-within (lent_length 1024 (bound s)) (length s.args.z.now) (entries_of s.args.ea.now) s.requires.all.0;
+      all = rows-within (lent_length 1024 (size_bound _ c.requires.r_value)) (length c.args.z.now) (entries_of c.args.ea.now) c.requires.all.0;
     }
 
 pub slice_bounds-right-end : goal.slice_bounds-right-end
-slice_bounds-right-end c = bound (goal.at.slice_bounds-right-end c).Start
+slice_bounds-right-end c = size_bound _ c.requires.r_value
 
 pub slice_bounds-row_sums-end-2 : goal.slice_bounds-row_sums-end-2
-slice_bounds-row_sums-end-2 c = part_length _ _ (bound (goal.at.slice_bounds-row_sums-end-2 c).Start)
+slice_bounds-row_sums-end-2 c = part_length _ _ (size_bound _ c.requires.r_value)
 
 pub row_sums-requires-2 : goal.row_sums-requires-2
 row_sums-requires-2 c =
-    let s = (goal.at.row_sums-requires-2 c).Start in
     record {
       p_nonzero = omega arith;
-      all = rows-within (lent_length 1024 (bound s)) (length s.args.z.now) (entries_of s.args.eb.now) s.requires.all.1;
+      all = rows-within (lent_length 1024 (size_bound _ c.requires.r_value)) (length c.args.z.now) (entries_of c.args.eb.now) c.requires.all.1;
     }
 
 pub slice_bounds-left-end-2 : goal.slice_bounds-left-end-2
 slice_bounds-left-end-2 c =
-    let a = (goal.at.slice_bounds-left-end-2 c).After-row_sums in
-    filled_within _ _ (bound (goal.at.After-row_sums a).Start) (sums-a a) a.row_sums.auto.out
+    filled_within _ _ (size_bound _ c.requires.r_value) c.row_sums.new.out c.row_sums.auto.out
 
 pub slice_bounds-divide_product_into-end : goal.slice_bounds-divide_product_into-end
 slice_bounds-divide_product_into-end c =
-    let a = (goal.at.slice_bounds-divide_product_into-end c).After-row_sums in
-    filled_length _ _ (bound (goal.at.After-row_sums a).Start) (sums-a a) a.row_sums.auto.out
+    filled_length _ _ (size_bound _ c.requires.r_value) c.row_sums.new.out c.row_sums.auto.out
 
 pub slice_bounds-right-end-2 : goal.slice_bounds-right-end-2
 slice_bounds-right-end-2 c =
-    let b = (goal.at.slice_bounds-right-end-2 c).After-row_sums-2 in
-    filled_within _ _ (bound (b.before.before.before.before.before.before.before.before.before)) (sums-b b) b.row_sums-2.auto.out
+    filled_within _ _ (size_bound _ c.requires.r_value) c.row_sums-2.new.out c.row_sums-2.auto.out
 
 pub slice_bounds-divide_product_into-end-2 : goal.slice_bounds-divide_product_into-end-2
 slice_bounds-divide_product_into-end-2 c =
-    let b = (goal.at.slice_bounds-divide_product_into-end-2 c).After-row_sums-2 in
-    filled_length _ _ (bound (b.before.before.before.before.before.before.before.before.before)) (sums-b b) b.row_sums-2.auto.out
+    filled_length _ _ (size_bound _ c.requires.r_value) c.row_sums-2.new.out c.row_sums-2.auto.out
 
 pub slice_bounds-factor-end : goal.slice_bounds-factor-end
-slice_bounds-factor-end c = bound (c.before.before.before.before.before.before.before.before.before.before.before.before)
+slice_bounds-factor-end c = size_bound _ c.requires.r_value
 
 pub slice_bounds-divide_product_into-end-3 : goal.slice_bounds-divide_product_into-end-3
-slice_bounds-divide_product_into-end-3 c = part_length _ _ (bound (c.before.before.before.before.before.before.before.before.before.before.before.before.before))
+slice_bounds-divide_product_into-end-3 c = part_length _ _ (size_bound _ c.requires.r_value)
 
 pub slice_bounds-rest-end : goal.slice_bounds-rest-end
-slice_bounds-rest-end c = bound (c.before.before.before.before.before.before.before.before.before.before.before.before.before)
+slice_bounds-rest-end c = size_bound _ c.requires.r_value
 
 pub slice_bounds-divide_product_into-end-4 : goal.slice_bounds-divide_product_into-end-4
-slice_bounds-divide_product_into-end-4 c = part_length _ _ (bound (c.before.before.before.before.before.before.before.before.before.before.before.before.before.before))
+slice_bounds-divide_product_into-end-4 c = part_length _ _ (size_bound _ c.requires.r_value)
 
 pub divide_product_into-requires : goal.divide_product_into-requires
 divide_product_into-requires c =
-    let b = (goal.at.divide_product_into-requires c).After-row_sums-2 in
-    let a = (goal.at.After-row_sums-2 b).After-row_sums in
-    let s = (goal.at.After-row_sums a).Start in
-    let left = filled_length _ _ (bound s) (sums-a a) a.row_sums.auto.out in
-    let right = filled_length _ _ (bound s) (sums-b b) b.row_sums-2.auto.out in
-    let lent = sym (part_length _ _ (bound s)) ∙ left in
-    let whole : length s.args.out.now + 1 ≡ s.args.r = omega (arith, size_positive s.args.r s.requires.r_value) in
+    let left = filled_length _ _ (size_bound _ c.requires.r_value) c.row_sums.new.out c.row_sums.auto.out in
+    let right = filled_length _ _ (size_bound _ c.requires.r_value) c.row_sums-2.new.out c.row_sums-2.auto.out in
+    let lent = sym (part_length _ _ (size_bound _ c.requires.r_value)) ∙ left in
+    let whole : length c.args.out.now + 1 ≡ c.args.r = omega (arith, size_positive c.args.r c.requires.r_value) in
     record {
-      modulus = s.requires.modulus;
-      left_value = ap is_size (sym left) ∙ s.requires.r_value;
+      modulus = c.requires.modulus;
+      left_value = ap is_size (sym left) ∙ c.requires.r_value;
       right_len = (sym right ∙ left, lent);
       rest_len = (lent, whole ∙ left);
     }
@@ -107,17 +88,13 @@ shape_of-out c = c.divide_product_into.auto.out
 
 pub returns : goal.returns
 returns c q known Q k W eR ea eb ẑ values =
-    let d = c in
-    let b = (goal.at.returns d).After-row_sums-2 in
-    let a = (goal.at.After-row_sums-2 b).After-row_sums in
-    let s = (goal.at.After-row_sums a).Start in
-    let r : ℕ = s.args.r in
-    let z : List (Elem q) = map of s.args.z.now in
-    let whole = part_length _ _ (bound s) in
-    quotient_made (d.divide_product_into.ensures q known)
-    (sym (filled_length _ _ (bound s) (sums-a a) a.row_sums.auto.out))
-    (of_filled _ _ (bound s) (sums-a a) a.row_sums.auto.out (tabulate r (row_sum k A z))
-    (a.row_sums.ensures q known.value k A ea ∙ ap (λ (n : ℕ). words (tabulate n (row_sum k A z))) (sym whole)))
-    (of_filled _ _ (bound s) (sums-b b) b.row_sums-2.auto.out (tabulate r (row_sum k B z))
-    (b.row_sums-2.ensures q known.value k B eb ∙ ap (λ (n : ℕ). words (tabulate n (row_sum k B z))) (sym whole)))
+    let r : ℕ = c.args.r in
+    let z : List (Elem q) = map of c.args.z.now in
+    let whole = part_length _ _ (size_bound _ c.requires.r_value) in
+    quotient_made (c.divide_product_into.ensures q known)
+    (sym (filled_length _ _ (size_bound _ c.requires.r_value) c.row_sums.new.out c.row_sums.auto.out))
+    (of_filled _ _ (size_bound _ c.requires.r_value) c.row_sums.new.out c.row_sums.auto.out (tabulate r (row_sum k A z))
+    (c.row_sums.ensures q known.value k A ea ∙ ap (λ (n : ℕ). words (tabulate n (row_sum k A z))) (sym whole)))
+    (of_filled _ _ (size_bound _ c.requires.r_value) c.row_sums-2.new.out c.row_sums-2.auto.out (tabulate r (row_sum k B z))
+    (c.row_sums-2.ensures q known.value k B eb ∙ ap (λ (n : ℕ). words (tabulate n (row_sum k B z))) (sym whole)))
     ∙ ap words (row-quotient_made q Q k (known_formed known W) eR ẑ z values)

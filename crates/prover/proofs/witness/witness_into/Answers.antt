@@ -74,13 +74,13 @@ pub slice_bounds-ratio-end-2 : goal.slice_bounds-ratio-end-2
 slice_bounds-ratio-end-2 c =
     let r = c in
     let ratio = r.vanishing_ratio_into in
-    filled_within _ _ (bound (r.before.before.before.before.before.before.before.before)) ratio.new.out ratio.auto.out
+    filled_within _ _ (bound (goal.at.slice_bounds-ratio-end-2 r).Start) ratio.new.out ratio.auto.out
 
 pub slice_bounds-add_scaled-end : goal.slice_bounds-add_scaled-end
 slice_bounds-add_scaled-end c =
     let r = c in
     let ratio = r.vanishing_ratio_into in
-    filled_length _ _ (bound (r.before.before.before.before.before.before.before.before)) ratio.new.out ratio.auto.out
+    filled_length _ _ (bound (goal.at.slice_bounds-add_scaled-end r).Start) ratio.new.out ratio.auto.out
 
 pub add_scaled-requires : goal.add_scaled-requires
 add_scaled-requires c =
