@@ -57,44 +57,38 @@ module _ (q : Prime) (Q : Qualifies q) (k : Circuit) {x : Option Refusal} where
   pass_words : (c : Else-not-is_fine) → let s = (goal.at.Else-not-is_fine c).Start in Given q k s → x ≡ first (after-words q k s) → x ≡ due q k s
   unfolding contents_refusal
   pass_words c g y =
-      let w = c in
-      let s = (goal.at.Else-not-is_fine w).Start in
-      goes_on w.check_call_words-in_words.result {o = words q k s} (w.check_call_words-in_words.ensures q g.prime k g.matrices) (after-words q k s)
+      let s = (goal.at.Else-not-is_fine c).Start in
+      goes_on c.check_call_words-in_words.result {o = words q k s} (c.check_call_words-in_words.ensures q g.prime k g.matrices) (after-words q k s)
       (sym c.is_fine.ensures ∙ c.if-not-is_fine.false) y
 
   pass_entries : (c : Else-not-is_fine-2) → let s = (goal.at.Else-not-is_fine-2 c).Start in Given q k s → x ≡ first (after-entries q k s) → x ≡ due q k s
   pass_entries c g y =
-      let e = c in
-      pass_words (goal.at.Else-not-is_fine-2 e).Else-not-is_fine g
-      (goes_on e.check_three_entries-in_entries.result (e.check_three_entries-in_entries.ensures k g.rows g.columns g.matrices)
-      (after-entries q k (goal.at.Else-not-is_fine-2 e).Start) (sym c.is_fine-2.ensures ∙ c.if-not-is_fine-2.false) y)
+      pass_words (goal.at.Else-not-is_fine-2 c).Else-not-is_fine g
+      (goes_on c.check_three_entries-in_entries.result (c.check_three_entries-in_entries.ensures k g.rows g.columns g.matrices)
+      (after-entries q k (goal.at.Else-not-is_fine-2 c).Start) (sym c.is_fine-2.ensures ∙ c.if-not-is_fine-2.false) y)
 
   pass_mask : (c : Else-not-is_fine-3) → let s = (goal.at.Else-not-is_fine-3 c).Start in Given q k s → x ≡ first (after-mask q k s) → x ≡ due q k s
   pass_mask c g y =
-      let m = c in
-      pass_entries (goal.at.Else-not-is_fine-3 m).Else-not-is_fine-2 g
-      (goes_on m.check_mask-in_mask.result (m.check_mask-in_mask.ensures q Q g.prime k g.columns) (after-mask q k (goal.at.Else-not-is_fine-3 m).Start)
+      pass_entries (goal.at.Else-not-is_fine-3 c).Else-not-is_fine-2 g
+      (goes_on c.check_mask-in_mask.result (c.check_mask-in_mask.ensures q Q g.prime k g.columns) (after-mask q k (goal.at.Else-not-is_fine-3 c).Start)
       (sym c.is_fine-3.ensures ∙ c.if-not-is_fine-3.false) y)
 
   pass_constant : (c : Else-not-is_fine-4) → let s = (goal.at.Else-not-is_fine-4 c).Start in Given q k s → x ≡ first (after-constant q k s) → x ≡ due q k s
   pass_constant c g y =
-      let o = c in
-      pass_mask (goal.at.Else-not-is_fine-4 o).Else-not-is_fine-3 g
-      (goes_on o.judge_constant-in_constant.result o.judge_constant-in_constant.ensures (after-constant q k (goal.at.Else-not-is_fine-4 o).Start)
+      pass_mask (goal.at.Else-not-is_fine-4 c).Else-not-is_fine-3 g
+      (goes_on c.judge_constant-in_constant.result c.judge_constant-in_constant.ensures (after-constant q k (goal.at.Else-not-is_fine-4 c).Start)
       (sym c.is_fine-4.ensures ∙ c.if-not-is_fine-4.false) y)
 
   pass_rows : (c : Else-not-is_fine-5) → let s = (goal.at.Else-not-is_fine-5 c).Start in Given q k s → x ≡ first (after-rows q k s) → x ≡ due q k s
   pass_rows c g y =
-      let r = c in
-      pass_constant (goal.at.Else-not-is_fine-5 r).Else-not-is_fine-4 g
-      (goes_on r.check_assignment-in_rows.result (r.check_assignment-in_rows.ensures q g.prime k g.rows g.matrices) (after-rows q k (goal.at.Else-not-is_fine-5 r).Start)
+      pass_constant (goal.at.Else-not-is_fine-5 c).Else-not-is_fine-4 g
+      (goes_on c.check_assignment-in_rows.result (c.check_assignment-in_rows.ensures q g.prime k g.rows g.matrices) (after-rows q k (goal.at.Else-not-is_fine-5 c).Start)
       (sym c.is_fine-5.ensures ∙ c.if-not-is_fine-5.false) y)
 
 pub check_call_words-in_words-requires : goal.check_call_words-in_words-requires
 check_call_words-in_words-requires c =
-    let s = c in
-    let h = s.requires.shaped in
-    let bound = size_bound s.args.c h.circuit.C-size in
+    let h = c.requires.shaped in
+    let bound = size_bound c.args.c h.circuit.C-size in
     record {
       three_lists = h.circuit.lists;
       z_len_bound = (omega (arith, h.z-length, bound), omega (arith, h.m-length, bound));
@@ -106,9 +100,8 @@ is_fine-requires c = tt
 pub returns-then-not-is_fine : goal.returns-then-not-is_fine
 unfolding contents_refusal
 returns-then-not-is_fine c q Q e k er ec matrices =
-    let w = c in
-    let s = (goal.at.returns-then-not-is_fine w).Start in
-    stops w.check_call_words-in_words.result {o = words q k s} (w.check_call_words-in_words.ensures q e k matrices) (after-words q k s)
+    let s = (goal.at.returns-then-not-is_fine c).Start in
+    stops c.check_call_words-in_words.result {o = words q k s} (c.check_call_words-in_words.ensures q e k matrices) (after-words q k s)
     (sym c.is_fine.ensures ∙ c.if-not-is_fine.true)
 
 pub is_fine-requires-2 : goal.is_fine-requires-2
@@ -116,9 +109,8 @@ is_fine-requires-2 c = tt
 
 pub returns-then-not-is_fine-2 : goal.returns-then-not-is_fine-2
 returns-then-not-is_fine-2 c q Q e k er ec matrices =
-    let t = c in
-    pass_words q Q k (goal.at.returns-then-not-is_fine-2 t).Else-not-is_fine (record { prime = e; rows = er; columns = ec; matrices = matrices })
-    (stops t.check_three_entries-in_entries.result (t.check_three_entries-in_entries.ensures k er ec matrices) (after-entries q k (goal.at.returns-then-not-is_fine-2 t).Start)
+    pass_words q Q k (goal.at.returns-then-not-is_fine-2 c).Else-not-is_fine (record { prime = e; rows = er; columns = ec; matrices = matrices })
+    (stops c.check_three_entries-in_entries.result (c.check_three_entries-in_entries.ensures k er ec matrices) (after-entries q k (goal.at.returns-then-not-is_fine-2 c).Start)
     (sym c.is_fine-2.ensures ∙ c.if-not-is_fine-2.true))
 
 pub is_fine-requires-3 : goal.is_fine-requires-3
@@ -126,9 +118,8 @@ is_fine-requires-3 c = tt
 
 pub returns-then-not-is_fine-3 : goal.returns-then-not-is_fine-3
 returns-then-not-is_fine-3 c q Q e k er ec matrices =
-    let m = c in
-    pass_entries q Q k (goal.at.returns-then-not-is_fine-3 m).Else-not-is_fine-2 (record { prime = e; rows = er; columns = ec; matrices = matrices })
-    (stops m.check_mask-in_mask.result (m.check_mask-in_mask.ensures q Q e k ec) (after-mask q k (goal.at.returns-then-not-is_fine-3 m).Start)
+    pass_entries q Q k (goal.at.returns-then-not-is_fine-3 c).Else-not-is_fine-2 (record { prime = e; rows = er; columns = ec; matrices = matrices })
+    (stops c.check_mask-in_mask.result (c.check_mask-in_mask.ensures q Q e k ec) (after-mask q k (goal.at.returns-then-not-is_fine-3 c).Start)
     (sym c.is_fine-3.ensures ∙ c.if-not-is_fine-3.true))
 
 -- the circuit that the call is given; no row tells its public inputs
@@ -139,10 +130,9 @@ circuit s = circuit_of (given s.args.r s.args.c 0 s.args.ea.now s.args.eb.now s.
 within : (c : Else-not-is_fine-2) → let a = c.args in EachWithin a.r a.c a.ea.now a.eb.now a.ec.now
 unfolding circuit_of
 within c =
-    let e = c in
-    let s = (goal.at.Else-not-is_fine-2 e).Start in
+    let s = (goal.at.Else-not-is_fine-2 c).Start in
     entries-within s.args.r s.args.c 0 s.args.ea.now s.args.eb.now s.args.ec.now
-    (fine_none e.check_three_entries-in_entries.result (e.check_three_entries-in_entries.ensures (circuit s) refl refl refl)
+    (fine_none c.check_three_entries-in_entries.result (c.check_three_entries-in_entries.ensures (circuit s) refl refl refl)
     (sym c.is_fine-2.ensures ∙ c.if-not-is_fine-2.false))
 
 pub judge_constant-in_constant-requires : goal.judge_constant-in_constant-requires
@@ -153,20 +143,16 @@ is_fine-requires-4 c = tt
 
 pub returns-then-not-is_fine-4 : goal.returns-then-not-is_fine-4
 returns-then-not-is_fine-4 c q Q e k er ec matrices =
-    let o = c in
-    pass_mask q Q k (goal.at.returns-then-not-is_fine-4 o).Else-not-is_fine-3 (record { prime = e; rows = er; columns = ec; matrices = matrices })
-    (stops o.judge_constant-in_constant.result o.judge_constant-in_constant.ensures (after-constant q k (goal.at.returns-then-not-is_fine-4 o).Start)
+    pass_mask q Q k (goal.at.returns-then-not-is_fine-4 c).Else-not-is_fine-3 (record { prime = e; rows = er; columns = ec; matrices = matrices })
+    (stops c.judge_constant-in_constant.result c.judge_constant-in_constant.ensures (after-constant q k (goal.at.returns-then-not-is_fine-4 c).Start)
     (sym c.is_fine-4.ensures ∙ c.if-not-is_fine-4.true))
 
 pub check_assignment-in_rows-requires : goal.check_assignment-in_rows-requires
 check_assignment-in_rows-requires c =
-    let o = c in
-    let m = o in
-    let s = m in
-    let h = s.requires.shaped in record {
+    let h = c.requires.shaped in record {
       p_nonzero = omega arith;
-      r_le_max_size = size_bound s.args.r h.circuit.R-size;
-      each_within = subst⁻¹ (λ (n : ℕ). EachWithin s.args.r n s.args.ea.now s.args.eb.now s.args.ec.now) h.z-length (within (goal.at.check_assignment-in_rows-requires m).Else-not-is_fine-2);
+      r_le_max_size = size_bound c.args.r h.circuit.R-size;
+      each_within = subst⁻¹ (λ (n : ℕ). EachWithin c.args.r n c.args.ea.now c.args.eb.now c.args.ec.now) h.z-length (within (goal.at.check_assignment-in_rows-requires c).Else-not-is_fine-2);
     }
 
 pub is_fine-requires-5 : goal.is_fine-requires-5
@@ -174,9 +160,8 @@ is_fine-requires-5 c = tt
 
 pub returns-then-not-is_fine-5 : goal.returns-then-not-is_fine-5
 returns-then-not-is_fine-5 c q Q e k er ec matrices =
-    let r = c in
-    pass_constant q Q k (goal.at.returns-then-not-is_fine-5 r).Else-not-is_fine-4 (record { prime = e; rows = er; columns = ec; matrices = matrices })
-    (stops r.check_assignment-in_rows.result (r.check_assignment-in_rows.ensures q e k er matrices) (after-rows q k (goal.at.returns-then-not-is_fine-5 r).Start)
+    pass_constant q Q k (goal.at.returns-then-not-is_fine-5 c).Else-not-is_fine-4 (record { prime = e; rows = er; columns = ec; matrices = matrices })
+    (stops c.check_assignment-in_rows.result (c.check_assignment-in_rows.ensures q e k er matrices) (after-rows q k (goal.at.returns-then-not-is_fine-5 c).Start)
     (sym c.is_fine-5.ensures ∙ c.if-not-is_fine-5.true))
 
 pub largest_size-requires : goal.largest_size-requires
@@ -198,9 +183,8 @@ check_points-requires c =
 
 pub returns : goal.returns
 returns c q Q e k er ec matrices =
-    let l = c in
-    let a = l.args in
-    let same : a.r ∷ a.c ∷ l.largest_size.result ∷ [] ≡ k.|R| ∷ k.|C| ∷ largest (sizes_of k).|K| ∷ [] =
-    ap₂ ◌∷◌ (sym er) (ap₂ ◌∷◌ (sym ec) (ap (λ (n : ℕ). n ∷ []) (l.largest_size.ensures k matrices))) in
-    pass_rows q Q k (goal.at.returns l).Else-not-is_fine-5 (record { prime = e; rows = er; columns = ec; matrices = matrices })
+    let a = c.args in
+    let same : a.r ∷ a.c ∷ c.largest_size.result ∷ [] ≡ k.|R| ∷ k.|C| ∷ largest (sizes_of k).|K| ∷ [] =
+    ap₂ ◌∷◌ (sym er) (ap₂ ◌∷◌ (sym ec) (ap (λ (n : ℕ). n ∷ []) (c.largest_size.ensures k matrices))) in
+    pass_rows q Q k (goal.at.returns c).Else-not-is_fine-5 (record { prime = e; rows = er; columns = ec; matrices = matrices })
     (last_answer_lem (c.check_points.ensures q Q e ∙ ap (λ (ns : List ℕ). challenge_refusal {q = q} 0 ns (map of a.points.now)) same))

@@ -46,9 +46,8 @@ shape_fine c = sym c.is_fine.ensures ∙ c.if-not-is_fine.false
 pass_shape : (q : Prime) (c : Else-not-is_fine) {x : Option Refusal} → let s = (goal.at.Else-not-is_fine c).Start in
     x ≡ first (after_shape s q) → x ≡ index_refusal q (circuit s) (lengths s)
 pass_shape q c y =
-    let j = c in
-    let s = (goal.at.Else-not-is_fine j).Start in
-    goes_on j.judge_index_shape-shape.result {o = index_shape_refusal (circuit s)} j.judge_index_shape-shape.ensures (after_shape s q) (shape_fine c) y
+    let s = (goal.at.Else-not-is_fine c).Start in
+    goes_on c.judge_index_shape-shape.result {o = index_shape_refusal (circuit s)} c.judge_index_shape-shape.ensures (after_shape s q) (shape_fine c) y
     ∙ in_parts s q
 
 -- the slices are judged by the lengths that are due
@@ -66,9 +65,8 @@ is_fine-requires c = tt
 
 pub returns-then-not-is_fine : goal.returns-then-not-is_fine
 returns-then-not-is_fine c q e =
-    let j = c in
-    let s = (goal.at.returns-then-not-is_fine j).Start in
-    stops j.judge_index_shape-shape.result {o = index_shape_refusal (circuit s)} j.judge_index_shape-shape.ensures (after_shape s q)
+    let s = (goal.at.returns-then-not-is_fine c).Start in
+    stops c.judge_index_shape-shape.result {o = index_shape_refusal (circuit s)} c.judge_index_shape-shape.ensures (after_shape s q)
     (sym c.is_fine.ensures ∙ c.if-not-is_fine.true)
     ∙ in_parts s q
 
@@ -90,17 +88,15 @@ returns-then-not-is_fine-2 c q e =
 pub judge_index_contents-requires : goal.judge_index_contents-requires
 judge_index_contents-requires c =
     let d = (goal.at.judge_index_contents-requires c).Else-not-is_fine in
-    let j = d in
-    let s = (goal.at.Else-not-is_fine j).Start in
+    let s = (goal.at.Else-not-is_fine d).Start in
     (index_shape_fits s.args.r s.args.c s.args.x s.args.ea.now s.args.eb.now s.args.ec.now
-    (fine_none j.judge_index_shape-shape.result {o = index_shape_refusal (circuit s)} j.judge_index_shape-shape.ensures (shape_fine d))).lists
+    (fine_none d.judge_index_shape-shape.result {o = index_shape_refusal (circuit s)} d.judge_index_shape-shape.ensures (shape_fine d))).lists
 
 pub returns : goal.returns
 unfolding circuit_of
 returns c q e =
-    let d = c in
-    let l = (goal.at.returns d).After-check_lent-slices in
+    let l = (goal.at.returns c).After-check_lent-slices in
     let s = (goal.at.After-check_lent-slices l).Start in
     pass_shape q (goal.at.After-check_lent-slices l).Else-not-is_fine
-    (goes_on l.check_lent-slices.result (slices l) (contents s q ∷ []) (sym d.is_fine-2.ensures ∙ d.if-not-is_fine-2.false)
+    (goes_on l.check_lent-slices.result (slices l) (contents s q ∷ []) (sym c.is_fine-2.ensures ∙ c.if-not-is_fine-2.false)
     (last_answer_lem (c.judge_index_contents.ensures q e (circuit_of (circuit s)) refl refl refl)))

@@ -13,14 +13,11 @@ is_fine-requires c = tt
 pub returns-then-not-is_fine : goal.returns-then-not-is_fine
 unfolding index_contents_refusal
 returns-then-not-is_fine c q e k er ec matrices =
-    let v = c in
-    stops v.check_three_values-fault.result (v.check_three_values-fault.ensures k matrices ∙ circuit-words q k e) (entry_refusal k ∷ [])
+    stops c.check_three_values-fault.result (c.check_three_values-fault.ensures k matrices ∙ circuit-words q k e) (entry_refusal k ∷ [])
     (sym c.is_fine.ensures ∙ c.if-not-is_fine.true)
 
 pub returns : goal.returns
 unfolding index_contents_refusal
 returns c q e k er ec matrices =
-    let d = c in
-    let v = d in
-    goes_on v.check_three_values-fault.result (v.check_three_values-fault.ensures k matrices ∙ circuit-words q k e) (entry_refusal k ∷ [])
-    (sym d.is_fine.ensures ∙ d.if-not-is_fine.false) (last_answer_lem (c.check_three_entries.ensures k er ec matrices))
+    goes_on c.check_three_values-fault.result (c.check_three_values-fault.ensures k matrices ∙ circuit-words q k e) (entry_refusal k ∷ [])
+    (sym c.is_fine.ensures ∙ c.if-not-is_fine.false) (last_answer_lem (c.check_three_entries.ensures k er ec matrices))

@@ -50,9 +50,8 @@ shape_fine c = sym c.is_fine.ensures ∙ c.if-not-is_fine.false
 
 pass_shape : (q : Prime) (c : Else-not-is_fine) {x : Option Refusal} → let s = (goal.at.Else-not-is_fine c).Start in x ≡ first (after_shape q s) → x ≡ due q s
 pass_shape q c y =
-    let j = c in
-    goes_on j.judge_shape-shape.result {o = shape (goal.at.Else-not-is_fine j).Start} j.judge_shape-shape.ensures (after_shape q (goal.at.Else-not-is_fine j).Start) (shape_fine c) y
-    ∙ in_parts q (goal.at.Else-not-is_fine j).Start
+    goes_on c.judge_shape-shape.result {o = shape (goal.at.Else-not-is_fine c).Start} c.judge_shape-shape.ensures (after_shape q (goal.at.Else-not-is_fine c).Start) (shape_fine c) y
+    ∙ in_parts q (goal.at.Else-not-is_fine c).Start
 
 pub judge_shape-shape-requires : goal.judge_shape-shape-requires
 judge_shape-shape-requires c = tt
@@ -62,10 +61,9 @@ is_fine-requires c = tt
 
 pub returns-then-not-is_fine : goal.returns-then-not-is_fine
 returns-then-not-is_fine c q Q e =
-    let j = c in
-    stops j.judge_shape-shape.result {o = shape (goal.at.returns-then-not-is_fine j).Start} j.judge_shape-shape.ensures (after_shape q (goal.at.returns-then-not-is_fine j).Start)
+    stops c.judge_shape-shape.result {o = shape (goal.at.returns-then-not-is_fine c).Start} c.judge_shape-shape.ensures (after_shape q (goal.at.returns-then-not-is_fine c).Start)
     (sym c.is_fine.ensures ∙ c.if-not-is_fine.true)
-    ∙ in_parts q (goal.at.returns-then-not-is_fine j).Start
+    ∙ in_parts q (goal.at.returns-then-not-is_fine c).Start
 
 pub check_lent-slices-requires : goal.check_lent-slices-requires
 check_lent-slices-requires c = omega arith
@@ -75,18 +73,16 @@ is_fine-requires-2 c = tt
 
 pub returns-then-not-is_fine-2 : goal.returns-then-not-is_fine-2
 returns-then-not-is_fine-2 c q Q e =
-    let l = c in
-    pass_shape q (goal.at.returns-then-not-is_fine-2 l).Else-not-is_fine
-    (stops l.check_lent-slices.result l.check_lent-slices.ensures (contents q (goal.at.returns-then-not-is_fine-2 l).Start ∷ []) (sym c.is_fine-2.ensures ∙ c.if-not-is_fine-2.true))
+    pass_shape q (goal.at.returns-then-not-is_fine-2 c).Else-not-is_fine
+    (stops c.check_lent-slices.result c.check_lent-slices.ensures (contents q (goal.at.returns-then-not-is_fine-2 c).Start ∷ []) (sym c.is_fine-2.ensures ∙ c.if-not-is_fine-2.true))
 
 pub judge_contents-requires : goal.judge_contents-requires
 judge_contents-requires c =
-    let j = c in
-    let s = (goal.at.judge_contents-requires j).Start in
+    let s = (goal.at.judge_contents-requires c).Start in
     let a = s.args in
     let fits =
     shape_fits a.r a.c a.x a.ea.now a.eb.now a.ec.now a.z.now a.m.now
-    (fine_none j.judge_shape-shape.result {o = shape s} j.judge_shape-shape.ensures (shape_fine (goal.at.judge_contents-requires c).Else-not-is_fine)) in
+    (fine_none c.judge_shape-shape.result {o = shape s} c.judge_shape-shape.ensures (shape_fine (goal.at.judge_contents-requires c).Else-not-is_fine)) in
     record {
       lt_p = s.requires.lt_p;
       shaped = fits;
@@ -96,9 +92,7 @@ judge_contents-requires c =
 pub returns : goal.returns
 unfolding circuit_of
 returns c q Q e =
-    let d = c in
-    let l = d in
-    let s = (goal.at.returns l).Start in
-    pass_shape q (goal.at.returns l).Else-not-is_fine
-    (goes_on l.check_lent-slices.result l.check_lent-slices.ensures (contents q s ∷ []) (sym d.is_fine-2.ensures ∙ d.if-not-is_fine-2.false)
+    let s = (goal.at.returns c).Start in
+    pass_shape q (goal.at.returns c).Else-not-is_fine
+    (goes_on c.check_lent-slices.result c.check_lent-slices.ensures (contents q s ∷ []) (sym c.is_fine-2.ensures ∙ c.if-not-is_fine-2.false)
     (last_answer_lem {o = contents q s} (c.judge_contents.ensures q Q e (circuit_of (circuit s)) refl refl refl)))

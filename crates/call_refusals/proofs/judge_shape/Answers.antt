@@ -26,9 +26,8 @@ is_fine-requires c = tt
 
 pub returns-then-not-is_fine : goal.returns-then-not-is_fine
 returns-then-not-is_fine c =
-    let j = c in
-    let s = (goal.at.returns-then-not-is_fine j).Start in
-    stops j.judge_index_shape-fault.result {o = index_shape_refusal (circuit s)} j.judge_index_shape-fault.ensures (after-circuit s)
+    let s = (goal.at.returns-then-not-is_fine c).Start in
+    stops c.judge_index_shape-fault.result {o = index_shape_refusal (circuit s)} c.judge_index_shape-fault.ensures (after-circuit s)
     (sym c.is_fine.ensures ∙ c.if-not-is_fine.true)
     ∙ sym (shape_in_parts (circuit s) s.args.z.now s.args.m.now)
 
@@ -38,9 +37,7 @@ check_assignment_lists-requires c = tt
 pub returns : goal.returns
 unfolding assignment_tests circuit_of
 returns c =
-    let d = c in
-    let j = d in
-    let s = (goal.at.returns j).Start in
-    goes_on j.judge_index_shape-fault.result {o = index_shape_refusal (circuit s)} j.judge_index_shape-fault.ensures (after-circuit s)
-    (sym d.is_fine.ensures ∙ d.if-not-is_fine.false) (last_answer_lem c.check_assignment_lists.ensures)
+    let s = (goal.at.returns c).Start in
+    goes_on c.judge_index_shape-fault.result {o = index_shape_refusal (circuit s)} c.judge_index_shape-fault.ensures (after-circuit s)
+    (sym c.is_fine.ensures ∙ c.if-not-is_fine.false) (last_answer_lem c.check_assignment_lists.ensures)
     ∙ sym (shape_in_parts (circuit s) s.args.z.now s.args.m.now)

@@ -23,8 +23,7 @@ bounds-out-columns-3 c =
 
 pub returns : goal.returns
 returns c =
-    let copied = c in
-    let a = copied.args in
+    let a = c.args in
     let k = a.columns in
     ap (λ (l : List ℕ). set (set (set l k.a a.rho.a) k.b a.rho.b) k.c a.rho.c)
-    (copied.copy_front.ensures ∙ nothing_left a.z.now a.out.now (omega arith))
+    (c.copy_front.ensures ∙ nothing_left a.z.now a.out.now (omega arith))

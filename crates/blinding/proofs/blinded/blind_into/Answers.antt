@@ -45,12 +45,8 @@ assignment_into-requires c =
 
 pub returns : goal.returns
 returns c =
-    let filled = c in
-    let third = filled in
-    let second = third in
-    let first = second in
-    let r = (goal.at.returns first).After-reserved_columns-columns in
+    let r = (goal.at.returns c).After-reserved_columns-columns in
     let F = r.requires.shaped in
     all_filled (circuit r) r.args.z.now (three r.args.rho) (three r.reserved_columns-columns.result) (columns r)
     F.list-a.whole F.list-b.whole F.list-c.whole
-    first.entries_into.ensures second.entries_into-2.ensures third.entries_into-3.ensures filled.assignment_into.ensures
+    c.entries_into.ensures c.entries_into-2.ensures c.entries_into-3.ensures c.assignment_into.ensures

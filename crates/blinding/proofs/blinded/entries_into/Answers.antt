@@ -21,8 +21,7 @@ bounds-out-n-3 c = lt-length-set (set (written c) _ _) _ _ (lt-length-set (writt
 
 pub returns : goal.returns
 returns c =
-    let copied = c in
-    let a = copied.args in
+    let a = c.args in
     let n : ℕ = length a.entries.now in
-    ap (λ (l : List ℕ). set (set (set l n a.row) (n + 1) a.column) (n + 2) a.value) copied.copy_front.ensures
+    ap (λ (l : List ℕ). set (set (set l n a.row) (n + 1) a.column) (n + 2) a.value) c.copy_front.ensures
     ∙ three-after a.entries.now (drop n a.out.now) a.row a.column a.value (simp length-drop (omega arith))

@@ -43,11 +43,10 @@ is_reserved-requires c = tt
 
 pub returns-then-is_reserved : goal.returns-then-is_reserved
 returns-then-is_reserved c k row columns =
-    let r = c in
-    let l = r.loop-i in
-    let a = r.args in
+    let l = c.loop-i in
+    let a = c.args in
     sym (stands_by k row columns (entries_of a.entries.now)
-    ∙ some-passes (stands a.last (three a.columns)) a.entries.now l.i (omega arith) (sym r.is_reserved.ensures ∙ c.if-is_reserved.true))
+    ∙ some-passes (stands a.last (three a.columns)) a.entries.now l.i (omega arith) (sym c.is_reserved.ensures ∙ c.if-is_reserved.true))
 
 pub overflow_add-i-in-loop-i : goal.overflow_add-i-in-loop-i
 overflow_add-i-in-loop-i c = omega arith
@@ -57,10 +56,9 @@ loop-i-smaller c = omega arith
 
 pub loop-i-preserved : goal.loop-i-preserved
 loop-i-preserved c =
-    let r = c in
-    let l = r.loop-i in
-    let a = r.args in
-    (omega arith, further (λ j. stands a.last (three a.columns) (entry_words a.entries.now j)) l.i l.invariant.1 (sym r.is_reserved.ensures ∙ c.if-is_reserved.false))
+    let l = c.loop-i in
+    let a = c.args in
+    (omega arith, further (λ j. stands a.last (three a.columns) (entry_words a.entries.now j)) l.i l.invariant.1 (sym c.is_reserved.ensures ∙ c.if-is_reserved.false))
 
 pub returns : goal.returns
 returns c k row columns =

@@ -19,8 +19,7 @@ reserved c k columns publics = sym (c.reserved_columns-columns.ensures k columns
 
 pub returns-then-c-x-lt3 : goal.returns-then-c-x-lt3
 returns-then-c-x-lt3 c k rows columns publics matrices =
-    let s = c in
-    too_few k columns publics s.requires s.args.ea.now s.args.eb.now s.args.ec.now matrices c.if-c-x-lt3.true
+    too_few k columns publics c.requires c.args.ea.now c.args.eb.now c.args.ec.now matrices c.if-c-x-lt3.true
 
 pub reserved_columns-columns-requires : goal.reserved_columns-columns-requires
 reserved_columns-columns-requires c =
@@ -32,30 +31,22 @@ overflow_sub-last c = omega (arith, size_positive _ c.requires.R-size)
 
 pub returns-then-any_reserved : goal.returns-then-any_reserved
 returns-then-any_reserved c k rows columns publics matrices =
-    let found = c in
-    let s = found in
-    found_in_a k columns publics s.requires s.args.ea.now s.args.eb.now s.args.ec.now matrices (omega arith)
-    (sym (found.any_reserved.ensures k (row k rows) (reserved (goal.at.returns-then-any_reserved found).After-reserved_columns-columns k columns publics)) ∙ c.if-any_reserved.true)
+    found_in_a k columns publics c.requires c.args.ea.now c.args.eb.now c.args.ec.now matrices (omega arith)
+    (sym (c.any_reserved.ensures k (row k rows) (reserved (goal.at.returns-then-any_reserved c).After-reserved_columns-columns k columns publics)) ∙ c.if-any_reserved.true)
 
 pub returns-then-any_reserved-2 : goal.returns-then-any_reserved-2
 returns-then-any_reserved-2 c k rows columns publics matrices =
-    let found = c in
-    let not_a = found in
-    let r = (goal.at.returns-then-any_reserved-2 not_a).After-reserved_columns-columns in
-    let s = r in
+    let r = (goal.at.returns-then-any_reserved-2 c).After-reserved_columns-columns in
     let same = reserved r k columns publics in
-    found_in_b k columns publics s.requires s.args.ea.now s.args.eb.now s.args.ec.now matrices (omega arith)
-    (sym (not_a.any_reserved.ensures k (row k rows) same) ∙ not_a.if-any_reserved.false)
-    (sym (found.any_reserved-2.ensures k (row k rows) same) ∙ c.if-any_reserved-2.true)
+    found_in_b k columns publics r.requires r.args.ea.now r.args.eb.now r.args.ec.now matrices (omega arith)
+    (sym (c.any_reserved.ensures k (row k rows) same) ∙ c.if-any_reserved.false)
+    (sym (c.any_reserved-2.ensures k (row k rows) same) ∙ c.if-any_reserved-2.true)
 
 pub returns : goal.returns
 returns c k rows columns publics matrices =
-    let not-b = c in
-    let not_a = not-b in
-    let r = (goal.at.returns not_a).After-reserved_columns-columns in
-    let s = r in
+    let r = (goal.at.returns c).After-reserved_columns-columns in
     let same = reserved r k columns publics in
-    found_in_c k columns publics s.requires s.args.ea.now s.args.eb.now s.args.ec.now matrices (omega arith)
-    (sym (not_a.any_reserved.ensures k (row k rows) same) ∙ not_a.if-any_reserved.false)
-    (sym (not-b.any_reserved-2.ensures k (row k rows) same) ∙ not-b.if-any_reserved-2.false)
+    found_in_c k columns publics r.requires r.args.ea.now r.args.eb.now r.args.ec.now matrices (omega arith)
+    (sym (c.any_reserved.ensures k (row k rows) same) ∙ c.if-any_reserved.false)
+    (sym (c.any_reserved-2.ensures k (row k rows) same) ∙ c.if-any_reserved-2.false)
     (c.any_reserved-3.ensures k (row k rows) same)

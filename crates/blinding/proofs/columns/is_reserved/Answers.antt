@@ -11,11 +11,8 @@ returns-then-column-columns c = simp (ne_eqb _ _ c.if-row-last.false, eq-eqb _ _
 
 pub returns-then-column-columns-2 : goal.returns-then-column-columns-2
 returns-then-column-columns-2 c =
-    let second = c in
-    simp (ne_eqb _ _ second.if-row-last.false, ne_eqb _ _ second.if-column-columns.false, eq-eqb _ _ c.if-column-columns-2.true)
+    simp (ne_eqb _ _ c.if-row-last.false, ne_eqb _ _ c.if-column-columns.false, eq-eqb _ _ c.if-column-columns-2.true)
 
 pub returns : goal.returns
 returns c =
-    let third = c in
-    let second = third in
-    by_last _ (ne_eqb _ _ second.if-row-last.false) (ne_eqb _ _ second.if-column-columns.false) (ne_eqb _ _ third.if-column-columns-2.false)
+    by_last _ (ne_eqb _ _ c.if-row-last.false) (ne_eqb _ _ c.if-column-columns.false) (ne_eqb _ _ c.if-column-columns-2.false)

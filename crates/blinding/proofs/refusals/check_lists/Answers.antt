@@ -7,9 +7,6 @@ use Rattle.blinding.proofs.refusals.check_lists.Goals as goal
 
 pub returns : goal.returns
 returns c =
-    let third = c in
-    let second = third in
-    let first = second in
-    let a = first.args in
+    let a = c.args in
     c.first_failed.ensures
-    ∙ (λ t. refuse 5 0 (first.has_room.ensures t ∷ second.has_room-2.ensures t ∷ third.has_room-3.ensures t ∷ eqb a.z a.c ∷ []))
+    ∙ (λ t. refuse 5 0 (c.has_room.ensures t ∷ c.has_room-2.ensures t ∷ c.has_room-3.ensures t ∷ eqb a.z a.c ∷ []))

@@ -46,16 +46,14 @@ module _ (q : Prime) (k : Circuit) {x : Option Refusal} where
   pass_words : (c : Else-not-is_fine) → let s = (goal.at.Else-not-is_fine c).Start in Given q k s → x ≡ first (after-words q k s) → x ≡ due q k s
   unfolding contents_refusal
   pass_words c g y =
-      let w = c in
-      goes_on w.check_call_words-in_words.result {o = words q k (goal.at.Else-not-is_fine w).Start} (w.check_call_words-in_words.ensures q g.prime k g.matrices)
-      (after-words q k (goal.at.Else-not-is_fine w).Start) (sym c.is_fine.ensures ∙ c.if-not-is_fine.false) y
+      goes_on c.check_call_words-in_words.result {o = words q k (goal.at.Else-not-is_fine c).Start} (c.check_call_words-in_words.ensures q g.prime k g.matrices)
+      (after-words q k (goal.at.Else-not-is_fine c).Start) (sym c.is_fine.ensures ∙ c.if-not-is_fine.false) y
 
   pass_entries : (c : Else-not-is_fine-2) → let s = (goal.at.Else-not-is_fine-2 c).Start in Given q k s → x ≡ first (after-entries q k s) → x ≡ due q k s
   pass_entries c g y =
-      let e = c in
-      pass_words (goal.at.Else-not-is_fine-2 e).Else-not-is_fine g
-      (goes_on e.check_three_entries-in_entries.result (e.check_three_entries-in_entries.ensures k g.rows g.columns g.matrices)
-      (after-entries q k (goal.at.Else-not-is_fine-2 e).Start) (sym c.is_fine-2.ensures ∙ c.if-not-is_fine-2.false) y)
+      pass_words (goal.at.Else-not-is_fine-2 c).Else-not-is_fine g
+      (goes_on c.check_three_entries-in_entries.result (c.check_three_entries-in_entries.ensures k g.rows g.columns g.matrices)
+      (after-entries q k (goal.at.Else-not-is_fine-2 c).Start) (sym c.is_fine-2.ensures ∙ c.if-not-is_fine-2.false) y)
 
 -- a list with room for one more entry has not too many
 few : {l : List ℕ} → Roomy l → EntryWords l
@@ -71,30 +69,26 @@ check_call_words-in_words-requires c =
 pub returns-then-not-is_fine : goal.returns-then-not-is_fine
 unfolding contents_refusal
 returns-then-not-is_fine c q prime k rows columns publics matrices =
-    let w = c in
-    stops w.check_call_words-in_words.result {o = words q k (goal.at.returns-then-not-is_fine w).Start} (w.check_call_words-in_words.ensures q prime k matrices)
-    (after-words q k (goal.at.returns-then-not-is_fine w).Start) (sym c.is_fine.ensures ∙ c.if-not-is_fine.true)
+    stops c.check_call_words-in_words.result {o = words q k (goal.at.returns-then-not-is_fine c).Start} (c.check_call_words-in_words.ensures q prime k matrices)
+    (after-words q k (goal.at.returns-then-not-is_fine c).Start) (sym c.is_fine.ensures ∙ c.if-not-is_fine.true)
 
 pub returns-then-not-is_fine-2 : goal.returns-then-not-is_fine-2
 returns-then-not-is_fine-2 c q prime k rows columns publics matrices =
-    let e = c in
-    pass_words q k (goal.at.returns-then-not-is_fine-2 e).Else-not-is_fine (record { prime = prime; rows = rows; columns = columns; publics = publics; matrices = matrices })
-    (stops e.check_three_entries-in_entries.result (e.check_three_entries-in_entries.ensures k rows columns matrices) (after-entries q k (goal.at.returns-then-not-is_fine-2 e).Start)
+    pass_words q k (goal.at.returns-then-not-is_fine-2 c).Else-not-is_fine (record { prime = prime; rows = rows; columns = columns; publics = publics; matrices = matrices })
+    (stops c.check_three_entries-in_entries.result (c.check_three_entries-in_entries.ensures k rows columns matrices) (after-entries q k (goal.at.returns-then-not-is_fine-2 c).Start)
     (sym c.is_fine-2.ensures ∙ c.if-not-is_fine-2.true))
 
 pub returns-then-not-is_reservable : goal.returns-then-not-is_reservable
 unfolding blinding_refusal
 returns-then-not-is_reservable c q prime k rows columns publics matrices =
-    let r = c in
-    pass_entries q k (goal.at.returns-then-not-is_reservable r).Else-not-is_fine-2 (record { prime = prime; rows = rows; columns = columns; publics = publics; matrices = matrices })
-    (fails_first 15 0 (constant_refusal r.args.z.now ∷ [])
-    (sym (r.is_reservable.ensures k rows columns publics matrices) ∙ c.if-not-is_reservable.true))
+    pass_entries q k (goal.at.returns-then-not-is_reservable c).Else-not-is_fine-2 (record { prime = prime; rows = rows; columns = columns; publics = publics; matrices = matrices })
+    (fails_first 15 0 (constant_refusal c.args.z.now ∷ [])
+    (sym (c.is_reservable.ensures k rows columns publics matrices) ∙ c.if-not-is_reservable.true))
 
 pub returns : goal.returns
 unfolding blinding_refusal
 returns c q prime k rows columns publics matrices =
-    let r = c in
-    pass_entries q k (goal.at.returns r).Else-not-is_fine-2 (record { prime = prime; rows = rows; columns = columns; publics = publics; matrices = matrices })
-    (passes 15 0 (constant_refusal r.args.z.now ∷ [])
-    (sym (r.is_reservable.ensures k rows columns publics matrices) ∙ c.if-not-is_reservable.false)
+    pass_entries q k (goal.at.returns c).Else-not-is_fine-2 (record { prime = prime; rows = rows; columns = columns; publics = publics; matrices = matrices })
+    (passes 15 0 (constant_refusal c.args.z.now ∷ [])
+    (sym (c.is_reservable.ensures k rows columns publics matrices) ∙ c.if-not-is_reservable.false)
     (last_answer_lem c.judge_constant.ensures))

@@ -23,14 +23,12 @@ slice_bounds-product-end c = omega arith
 
 pub check_sums-requires : goal.check_sums-requires
 check_sums-requires c =
-    let s = c in
-    let same : length (take s.args.r zeros) ≡ s.args.r = length-take-le s.args.r zeros s.requires.r_le_max_size in record {
-      p_nonzero = s.requires.p_nonzero;
+    let same : length (take c.args.r zeros) ≡ c.args.r = length-take-le c.args.r zeros c.requires.r_le_max_size in record {
+      p_nonzero = c.requires.p_nonzero;
       right_len = (refl, refl);
-      each_within = subst⁻¹ (λ (n : ℕ). EachWithin n (length s.args.z.now) s.args.ea.now s.args.eb.now s.args.ec.now) same s.requires.each_within;
+      each_within = subst⁻¹ (λ (n : ℕ). EachWithin n (length c.args.z.now) c.args.ea.now c.args.eb.now c.args.ec.now) same c.requires.each_within;
     }
 
 pub returns : goal.returns
 returns c q e k rows matrices =
-    let s = c in
-    c.check_sums.ensures q e k (rows ∙ sym (length-take-le s.args.r zeros s.requires.r_le_max_size)) matrices
+    c.check_sums.ensures q e k (rows ∙ sym (length-take-le c.args.r zeros c.requires.r_le_max_size)) matrices

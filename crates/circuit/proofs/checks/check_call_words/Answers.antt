@@ -37,10 +37,9 @@ is_fine-requires c = tt
 
 pub returns-then-not-is_fine : goal.returns-then-not-is_fine
 returns-then-not-is_fine c q e k matrices =
-    let v = c in
-    stops v.check_three_values-fault.result (v.check_three_values-fault.ensures k matrices) (part (goal.at.returns-then-not-is_fine v).Start ∷ [])
+    stops c.check_three_values-fault.result (c.check_three_values-fault.ensures k matrices) (part (goal.at.returns-then-not-is_fine c).Start ∷ [])
     (sym c.is_fine.ensures ∙ c.if-not-is_fine.true)
-    ∙ in_parts (goal.at.returns-then-not-is_fine v).Start q k e matrices
+    ∙ in_parts (goal.at.returns-then-not-is_fine c).Start q k e matrices
 
 pub overflow_add-start : goal.overflow_add-start
 overflow_add-start c = omega arith
@@ -53,8 +52,6 @@ check_prover_words-requires c = omega arith
 
 pub returns : goal.returns
 returns c q e k matrices =
-    let d = c in
-    let v = d in
-    goes_on v.check_three_values-fault.result (v.check_three_values-fault.ensures k matrices) (part (goal.at.returns v).Start ∷ [])
-    (sym d.is_fine.ensures ∙ d.if-not-is_fine.false) (last_answer_lem {o = part (goal.at.returns v).Start} c.check_prover_words.ensures)
-    ∙ in_parts (goal.at.returns v).Start q k e matrices
+    goes_on c.check_three_values-fault.result (c.check_three_values-fault.ensures k matrices) (part (goal.at.returns c).Start ∷ [])
+    (sym c.is_fine.ensures ∙ c.if-not-is_fine.false) (last_answer_lem {o = part (goal.at.returns c).Start} c.check_prover_words.ensures)
+    ∙ in_parts (goal.at.returns c).Start q k e matrices

@@ -19,8 +19,5 @@ first_failed-requires c = omega arith
 
 pub returns : goal.returns
 returns c =
-    let third = c in
-    let second = third in
-    let first = second in
     c.first_failed.ensures
-    ∙ (λ t. refuse 5 0 (first.entry_list_fits.ensures t ∷ second.entry_list_fits-2.ensures t ∷ third.entry_list_fits-3.ensures t ∷ []))
+    ∙ (λ t. refuse 5 0 (c.entry_list_fits.ensures t ∷ c.entry_list_fits-2.ensures t ∷ c.entry_list_fits-3.ensures t ∷ []))

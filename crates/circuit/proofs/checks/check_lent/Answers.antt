@@ -30,8 +30,7 @@ bounds-lent-i c = omega arith
 
 pub offset_bounds-due-i : goal.offset_bounds-due-i
 offset_bounds-due-i c =
-    let s = c in
-    search (rules, s.requires.due_len)
+    search (rules, c.requires.due_len)
 
 pub bounds-due-i : goal.bounds-due-i
 bounds-due-i c = omega arith

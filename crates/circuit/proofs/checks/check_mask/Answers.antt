@@ -15,16 +15,14 @@ use Rattle.circuit.proofs.checks.check_mask.Goals as goal
 
 pub bounds-m-0 : goal.bounds-m-0
 bounds-m-0 c =
-    let s = c in
-    omega (arith, size_positive s.args.c s.requires.c_value.0)
+    omega (arith, size_positive c.args.c c.requires.c_value.0)
 
 pub offset_bounds-m-half : goal.offset_bounds-m-half
 offset_bounds-m-half c = omega arith
 
 pub bounds-m-half : goal.bounds-m-half
 bounds-m-half c =
-    let s = c in
-    omega (arith, size_positive s.args.c s.requires.c_value.0)
+    omega (arith, size_positive c.args.c c.requires.c_value.0)
 
 pub add-requires : goal.add-requires
 add-requires c = omega arith
@@ -32,19 +30,17 @@ add-requires c = omega arith
 pub returns-then-add-eq0 : goal.returns-then-add-eq0
 unfolding mask_refusal
 returns-then-add-eq0 c q Q e k ec =
-    let s = c in
     sym
-    (ap (λ (n : ℕ). refuse 8 0 (equal (sum_over n (eval (map (of {q = q}) s.args.m.now))) 𝟘 ∷ [])) ec
+    (ap (λ (n : ℕ). refuse 8 0 (equal (sum_over n (eval (map (of {q = q}) c.args.m.now))) 𝟘 ∷ [])) ec
     ∙ ap (λ (t : Bool). refuse 8 0 (t ∷ []))
-    (mask_test Q s.args.c s.requires.c_value.0 s.args.m.now s.requires.c_value.1 c.add.result (c.add.ensures q e)
+    (mask_test Q c.args.c c.requires.c_value.0 c.args.m.now c.requires.c_value.1 c.add.result (c.add.ensures q e)
     ∙ eq-eqb _ _ c.if-add-eq0.true))
 
 pub returns-else-add-eq0 : goal.returns-else-add-eq0
 unfolding mask_refusal
 returns-else-add-eq0 c q Q e k ec =
-    let s = c in
     sym
-    (ap (λ (n : ℕ). refuse 8 0 (equal (sum_over n (eval (map (of {q = q}) s.args.m.now))) 𝟘 ∷ [])) ec
+    (ap (λ (n : ℕ). refuse 8 0 (equal (sum_over n (eval (map (of {q = q}) c.args.m.now))) 𝟘 ∷ [])) ec
     ∙ ap (λ (t : Bool). refuse 8 0 (t ∷ []))
-    (mask_test Q s.args.c s.requires.c_value.0 s.args.m.now s.requires.c_value.1 c.add.result (c.add.ensures q e)
+    (mask_test Q c.args.c c.requires.c_value.0 c.args.m.now c.requires.c_value.1 c.add.result (c.add.ensures q e)
     ∙ ne_eqb _ _ c.if-add-eq0.false))

@@ -40,9 +40,8 @@ due-count q s = tests_count q (s.args.r ∷ s.args.c ∷ s.args.k ∷ []) s.args
 turn_test : (c : After-is_inside) (q : Prime) → Qualifies q → q.p ≡ c.args.p
     → get_or (due q (goal.at.After-is_inside c).Start) c.loop-i.i true ≡ not c.is_inside.result
 turn_test c q Q e =
-    let s = c in
-    test_at q (s.args.r ∷ s.args.c ∷ s.args.k ∷ []) s.args.points.now c.loop-i.i c.is_inside.result
-    s.requires.points_len_bound (omega arith) (c.is_inside.ensures q Q e)
+    test_at q (c.args.r ∷ c.args.c ∷ c.args.k ∷ []) c.args.points.now c.loop-i.i c.is_inside.result
+    c.requires.points_len_bound (omega arith) (c.is_inside.ensures q Q e)
 
 pub loop-i-init : goal.loop-i-init
 loop-i-init c = (omega arith, λ q Q e. passed_none 10 0 _)
@@ -61,11 +60,10 @@ bounds-points-i c = omega arith
 
 pub is_inside-requires : goal.is_inside-requires
 is_inside-requires c =
-    let s = c in
-    let ns : List ℕ = s.args.r ∷ s.args.c ∷ s.args.k ∷ [] in
-    let sizes = s.requires.r_value in
+    let ns : List ℕ = c.args.r ∷ c.args.c ∷ c.args.k ∷ [] in
+    let sizes = c.requires.r_value in
     record {
-      lt_p = s.requires.lt_p;
+      lt_p = c.requires.lt_p;
       n_value = all-at (λ n. is_size n ≡ true) ns (sizes.0, (sizes.1.0, (sizes.1.1, tt))) c.loop-i.i 0 (omega arith);
     }
 

@@ -40,9 +40,8 @@ module _ (s : Start) where
 -- past z, and past the mask word
 pass_z : (c : Else-not-is_fine) {x : Option Refusal} → let s = (goal.at.Else-not-is_fine c).Start in x ≡ first (after-z s) → x ≡ due s
 pass_z c y =
-    let j = c in
-    goes_on j.judge_words-fault.result j.judge_words-fault.ensures (after-z (goal.at.Else-not-is_fine j).Start) (sym c.is_fine.ensures ∙ c.if-not-is_fine.false) y
-    ∙ in_parts (goal.at.Else-not-is_fine j).Start
+    goes_on c.judge_words-fault.result c.judge_words-fault.ensures (after-z (goal.at.Else-not-is_fine c).Start) (sym c.is_fine.ensures ∙ c.if-not-is_fine.false) y
+    ∙ in_parts (goal.at.Else-not-is_fine c).Start
 
 pass_mask : (c : Else-mask-p) {x : Option Refusal} → let s = (goal.at.Else-mask-p c).Start in x ≡ first (after-mask s) → x ≡ due s
 pass_mask c y =
@@ -57,9 +56,8 @@ is_fine-requires c = tt
 
 pub returns-then-not-is_fine : goal.returns-then-not-is_fine
 returns-then-not-is_fine c =
-    let j = c in
-    stops j.judge_words-fault.result j.judge_words-fault.ensures (after-z (goal.at.returns-then-not-is_fine j).Start) (sym c.is_fine.ensures ∙ c.if-not-is_fine.true)
-    ∙ in_parts (goal.at.returns-then-not-is_fine j).Start
+    stops c.judge_words-fault.result c.judge_words-fault.ensures (after-z (goal.at.returns-then-not-is_fine c).Start) (sym c.is_fine.ensures ∙ c.if-not-is_fine.true)
+    ∙ in_parts (goal.at.returns-then-not-is_fine c).Start
 
 pub overflow_add-place : goal.overflow_add-place
 overflow_add-place c = omega arith
@@ -80,10 +78,9 @@ is_fine-requires-2 c = tt
 
 pub returns-then-not-is_fine-2 : goal.returns-then-not-is_fine-2
 returns-then-not-is_fine-2 c =
-    let j = c in
-    let s = (goal.at.returns-then-not-is_fine-2 j).Start in
-    pass_mask (goal.at.returns-then-not-is_fine-2 j).Else-mask-p
-    (stops j.judge_words-fault2.result j.judge_words-fault2.ensures (after-m s) (sym c.is_fine-2.ensures ∙ c.if-not-is_fine-2.true))
+    let s = (goal.at.returns-then-not-is_fine-2 c).Start in
+    pass_mask (goal.at.returns-then-not-is_fine-2 c).Else-mask-p
+    (stops c.judge_words-fault2.result c.judge_words-fault2.ensures (after-m s) (sym c.is_fine-2.ensures ∙ c.if-not-is_fine-2.true))
 
 pub overflow_add-place-3 : goal.overflow_add-place-3
 overflow_add-place-3 c = omega arith
@@ -96,9 +93,7 @@ judge_words-requires c = omega arith
 
 pub returns : goal.returns
 returns c =
-    let d = c in
-    let j = d in
-    let s = (goal.at.returns j).Start in
-    pass_mask (goal.at.returns j).Else-mask-p
-    (goes_on j.judge_words-fault2.result j.judge_words-fault2.ensures (after-m s) (sym d.is_fine-2.ensures ∙ d.if-not-is_fine-2.false)
+    let s = (goal.at.returns c).Start in
+    pass_mask (goal.at.returns c).Else-mask-p
+    (goes_on c.judge_words-fault2.result c.judge_words-fault2.ensures (after-m s) (sym c.is_fine-2.ensures ∙ c.if-not-is_fine-2.false)
     (last_answer_lem c.judge_words.ensures))

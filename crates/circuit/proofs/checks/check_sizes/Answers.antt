@@ -20,8 +20,5 @@ first_failed-requires c = omega arith
 pub returns : goal.returns
 unfolding size_refusal size_tests
 returns c =
-    let public = c in
-    let columns = public in
-    let rows = columns in
     c.first_failed.ensures
-    ∙ (λ t. refuse 4 0 (rows.is_size.ensures t ∷ columns.is_size-2.ensures t ∷ public.is_public_size.ensures t ∷ []))
+    ∙ (λ t. refuse 4 0 (c.is_size.ensures t ∷ c.is_size-2.ensures t ∷ c.is_public_size.ensures t ∷ []))

@@ -16,20 +16,18 @@ use Rattle.circuit.proofs.checks.check_sums.Goals as goal
 
 pub row_sums-requires-2 : goal.row_sums-requires-2
 row_sums-requires-2 c =
-    let s = c in
-    let within : ℕ → Type 0 = λ (n : ℕ). All (Within n (length s.args.z.now)) (entries_of s.args.eb.now) in
+    let within : ℕ → Type 0 = λ (n : ℕ). All (Within n (length c.args.z.now)) (entries_of c.args.eb.now) in
     record {
-      p_nonzero = s.requires.p_nonzero;
-      all = subst⁻¹ within s.requires.right_len.0 s.requires.each_within.in_b;
+      p_nonzero = c.requires.p_nonzero;
+      all = subst⁻¹ within c.requires.right_len.0 c.requires.each_within.in_b;
     }
 
 pub row_sums-requires-3 : goal.row_sums-requires-3
 row_sums-requires-3 c =
-    let s = c in
-    let within : ℕ → Type 0 = λ (n : ℕ). All (Within n (length s.args.z.now)) (entries_of s.args.ec.now) in
+    let within : ℕ → Type 0 = λ (n : ℕ). All (Within n (length c.args.z.now)) (entries_of c.args.ec.now) in
     record {
-      p_nonzero = s.requires.p_nonzero;
-      all = subst⁻¹ within s.requires.right_len.1 s.requires.each_within.in_c;
+      p_nonzero = c.requires.p_nonzero;
+      all = subst⁻¹ within c.requires.right_len.1 c.requires.each_within.in_c;
     }
 
 pub check_rows-requires : goal.check_rows-requires
@@ -47,10 +45,9 @@ shape_of-product c = c.row_sums-3.auto.out
 pub returns : goal.returns
 unfolding assignment_refusal
 returns c q e k rows matrices =
-    let s = c in
-    let z : List (Elem q) = map of s.args.z.now in
-    c.check_rows.ensures q e (length s.args.left.now) (row_sum k A z) (row_sum k B z) (row_sum k C z)
+    let z : List (Elem q) = map of c.args.z.now in
+    c.check_rows.ensures q e (length c.args.left.now) (row_sum k A z) (row_sum k B z) (row_sum k C z)
     (c.row_sums.ensures q e k A (ap (λ t. t.a) matrices))
-    (c.row_sums-2.ensures q e k B (ap (λ t. t.b) matrices) ∙ ap (λ (n : ℕ). words (tabulate n (row_sum k B z))) s.requires.right_len.0)
-    (c.row_sums-3.ensures q e k C (ap (λ t. t.c) matrices) ∙ ap (λ (n : ℕ). words (tabulate n (row_sum k C z))) s.requires.right_len.1)
+    (c.row_sums-2.ensures q e k B (ap (λ t. t.b) matrices) ∙ ap (λ (n : ℕ). words (tabulate n (row_sum k B z))) c.requires.right_len.0)
+    (c.row_sums-3.ensures q e k C (ap (λ t. t.c) matrices) ∙ ap (λ (n : ℕ). words (tabulate n (row_sum k C z))) c.requires.right_len.1)
     ∙ ap (λ (n : ℕ). refuse 9 0 (tabulate n (λ i. equal (row_sum k A z i ⊗ row_sum k B z i) (row_sum k C z i)))) (sym rows)

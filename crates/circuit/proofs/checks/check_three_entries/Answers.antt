@@ -32,8 +32,7 @@ module _ (k : Circuit) where
   pass_a : (c : Else-not-is_fine) {x : Option Refusal} → let s = (goal.at.Else-not-is_fine c).Start in
       k.|R| ≡ s.args.r → k.|C| ≡ s.args.c → Same s → x ≡ first (after-a s) → x ≡ entry_refusal k
   pass_a c er ec matrices y =
-      let v = c in
-      goes_on v.check_entries-fault.result (v.check_entries-fault.ensures k er ec) (after-a (goal.at.Else-not-is_fine c).Start)
+      goes_on c.check_entries-fault.result (c.check_entries-fault.ensures k er ec) (after-a (goal.at.Else-not-is_fine c).Start)
       (sym c.is_fine.ensures ∙ c.if-not-is_fine.false) y
       ∙ in_parts (goal.at.Else-not-is_fine c).Start matrices
 
@@ -45,8 +44,7 @@ is_fine-requires c = tt
 
 pub returns-then-not-is_fine : goal.returns-then-not-is_fine
 returns-then-not-is_fine c k er ec matrices =
-    let v = c in
-    stops v.check_entries-fault.result (v.check_entries-fault.ensures k er ec) (after-a k (goal.at.returns-then-not-is_fine c).Start) (sym c.is_fine.ensures ∙ c.if-not-is_fine.true)
+    stops c.check_entries-fault.result (c.check_entries-fault.ensures k er ec) (after-a k (goal.at.returns-then-not-is_fine c).Start) (sym c.is_fine.ensures ∙ c.if-not-is_fine.true)
     ∙ in_parts k (goal.at.returns-then-not-is_fine c).Start matrices
 
 pub check_entries-fault2-requires : goal.check_entries-fault2-requires
@@ -57,9 +55,8 @@ is_fine-requires-2 c = tt
 
 pub returns-then-not-is_fine-2 : goal.returns-then-not-is_fine-2
 returns-then-not-is_fine-2 c k er ec matrices =
-    let v = c in
-    pass_a k (goal.at.returns-then-not-is_fine-2 v).Else-not-is_fine er ec matrices
-    (stops v.check_entries-fault2.result (v.check_entries-fault2.ensures k er ec) (after-b k (goal.at.returns-then-not-is_fine-2 c).Start)
+    pass_a k (goal.at.returns-then-not-is_fine-2 c).Else-not-is_fine er ec matrices
+    (stops c.check_entries-fault2.result (c.check_entries-fault2.ensures k er ec) (after-b k (goal.at.returns-then-not-is_fine-2 c).Start)
     (sym c.is_fine-2.ensures ∙ c.if-not-is_fine-2.true))
 
 pub overflow_add-second : goal.overflow_add-second
@@ -70,8 +67,6 @@ check_entries-requires c = omega arith
 
 pub returns : goal.returns
 returns c k er ec matrices =
-    let d = c in
-    let v = d in
-    pass_a k (goal.at.returns v).Else-not-is_fine er ec matrices
-    (goes_on v.check_entries-fault2.result (v.check_entries-fault2.ensures k er ec) (after-b k (goal.at.returns c).Start)
-    (sym d.is_fine-2.ensures ∙ d.if-not-is_fine-2.false) (last_answer_lem (c.check_entries.ensures k er ec)))
+    pass_a k (goal.at.returns c).Else-not-is_fine er ec matrices
+    (goes_on c.check_entries-fault2.result (c.check_entries-fault2.ensures k er ec) (after-b k (goal.at.returns c).Start)
+    (sym c.is_fine-2.ensures ∙ c.if-not-is_fine-2.false) (last_answer_lem (c.check_entries.ensures k er ec)))

@@ -36,8 +36,7 @@ module _ (k : Circuit) where
 
   pass_a : (c : Else-not-is_fine) {x : Option Refusal} → let s = (goal.at.Else-not-is_fine c).Start in Same s → x ≡ first (after-a s) → x ≡ due s
   pass_a c matrices y =
-      let v = c in
-      goes_on v.check_values-fault.result v.check_values-fault.ensures (after-a (goal.at.Else-not-is_fine v).Start) (sym c.is_fine.ensures ∙ c.if-not-is_fine.false) y
+      goes_on c.check_values-fault.result c.check_values-fault.ensures (after-a (goal.at.Else-not-is_fine c).Start) (sym c.is_fine.ensures ∙ c.if-not-is_fine.false) y
       ∙ in_parts (goal.at.Else-not-is_fine c).Start matrices
 
 pub check_values-fault-requires : goal.check_values-fault-requires
@@ -48,9 +47,8 @@ is_fine-requires c = tt
 
 pub returns-then-not-is_fine : goal.returns-then-not-is_fine
 returns-then-not-is_fine c k matrices =
-    let v = c in
-    stops v.check_values-fault.result v.check_values-fault.ensures (after-a (goal.at.returns-then-not-is_fine v).Start) (sym c.is_fine.ensures ∙ c.if-not-is_fine.true)
-    ∙ in_parts k (goal.at.returns-then-not-is_fine v).Start matrices
+    stops c.check_values-fault.result c.check_values-fault.ensures (after-a (goal.at.returns-then-not-is_fine c).Start) (sym c.is_fine.ensures ∙ c.if-not-is_fine.true)
+    ∙ in_parts k (goal.at.returns-then-not-is_fine c).Start matrices
 
 pub check_values-fault2-requires : goal.check_values-fault2-requires
 check_values-fault2-requires c = omega arith
@@ -60,9 +58,8 @@ is_fine-requires-2 c = tt
 
 pub returns-then-not-is_fine-2 : goal.returns-then-not-is_fine-2
 returns-then-not-is_fine-2 c k matrices =
-    let v = c in
-    pass_a k (goal.at.returns-then-not-is_fine-2 v).Else-not-is_fine matrices
-    (stops v.check_values-fault2.result v.check_values-fault2.ensures (after-b (goal.at.returns-then-not-is_fine-2 v).Start)
+    pass_a k (goal.at.returns-then-not-is_fine-2 c).Else-not-is_fine matrices
+    (stops c.check_values-fault2.result c.check_values-fault2.ensures (after-b (goal.at.returns-then-not-is_fine-2 c).Start)
     (sym c.is_fine-2.ensures ∙ c.if-not-is_fine-2.true))
 
 pub overflow_add-second : goal.overflow_add-second
@@ -73,8 +70,6 @@ check_values-requires c = omega arith
 
 pub returns : goal.returns
 returns c k matrices =
-    let d = c in
-    let v = d in
-    pass_a k (goal.at.returns v).Else-not-is_fine matrices
-    (goes_on v.check_values-fault2.result v.check_values-fault2.ensures (after-b (goal.at.returns v).Start)
-    (sym d.is_fine-2.ensures ∙ d.if-not-is_fine-2.false) (last_answer_lem c.check_values.ensures))
+    pass_a k (goal.at.returns c).Else-not-is_fine matrices
+    (goes_on c.check_values-fault2.result c.check_values-fault2.ensures (after-b (goal.at.returns c).Start)
+    (sym c.is_fine-2.ensures ∙ c.if-not-is_fine-2.false) (last_answer_lem c.check_values.ensures))

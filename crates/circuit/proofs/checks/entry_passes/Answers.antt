@@ -51,14 +51,11 @@ entry_fits-requires c = tt
 pub returns-then-not-entry_fits : goal.returns-then-not-entry_fits
 returns-then-not-entry_fits c k er ec =
     let f = (goal.at.returns-then-not-entry_fits c).After-entry_fits in
-    let s = f in
-    sym (entry_misfits k s.args.entries.now s.args.i s.requires (entry-answer f k er ec ∙ c.if-not-entry_fits.true))
+    sym (entry_misfits k f.args.entries.now f.args.i f.requires (entry-answer f k er ec ∙ c.if-not-entry_fits.true))
 
 pub returns-then-i-eq0 : goal.returns-then-i-eq0
 returns-then-i-eq0 c k er ec =
-    let d = c in
-    let s = d in
-    sym (entry_first k s.args.entries.now s.args.i s.requires (entry-answer (goal.at.returns-then-i-eq0 d).After-entry_fits k er ec ∙ d.if-not-entry_fits.false) c.if-i-eq0.true)
+    sym (entry_first k c.args.entries.now c.args.i c.requires (entry-answer (goal.at.returns-then-i-eq0 c).After-entry_fits k er ec ∙ c.if-not-entry_fits.false) c.if-i-eq0.true)
 
 pub overflow_sub-at : goal.overflow_sub-at
 overflow_sub-at c = omega arith
@@ -83,9 +80,6 @@ stands_before-requires c = tt
 
 pub returns : goal.returns
 returns c k er ec =
-    let later = c in
-    let d = later in
-    let s = d in
     c.stands_before.ensures
     ∙ sym
-    (entry_later k s.args.entries.now s.args.i s.requires (entry-answer (goal.at.returns d).After-entry_fits k er ec ∙ d.if-not-entry_fits.false) later.if-i-eq0.false)
+    (entry_later k c.args.entries.now c.args.i c.requires (entry-answer (goal.at.returns c).After-entry_fits k er ec ∙ c.if-not-entry_fits.false) c.if-i-eq0.false)

@@ -20,10 +20,7 @@ largest-requires c = tt
 pub returns : goal.returns
 unfolding largest
 returns c k matrices =
-    let third = c in
-    let second = third in
-    let one = second in
-    let a = one.args in
+    let a = c.args in
     c.largest.ensures
-    ∙ ap₂ max one.size_of.ensures (ap₂ max second.size_of-2.ensures third.size_of-3.ensures)
+    ∙ ap₂ max c.size_of.ensures (ap₂ max c.size_of-2.ensures c.size_of-3.ensures)
     ∙ sym (largest_by_counts k a.ea.now a.eb.now a.ec.now matrices)

@@ -20,20 +20,18 @@ use Rattle.circuit.proofs.matrices.row_sums.Goals.{In-loop-i}
 place : (c : In-loop-i)
     → let a = c.args in Within (length a.out.now) (length a.z.now) (entry_words a.entries.now c.loop-i.i)
 place c =
-    let s = c in
-    entry-within (length s.args.out.now) (length s.args.z.now) s.args.entries.now s.requires.all c.loop-i.i (omega arith)
+    entry-within (length c.args.out.now) (length c.args.z.now) c.args.entries.now c.requires.all c.loop-i.i (omega arith)
 
 pub clear-requires : goal.clear-requires
 clear-requires c = tt
 
 pub loop-i-init : goal.loop-i-init
 loop-i-init c =
-    let cleared = c in
-    let a = cleared.args in (
+    let a = c.args in (
       omega arith,
       refl,
       λ q e.
-          summed_none (map of a.z.now) (entries_of a.entries.now) cleared.clear.new.out (length a.out.now) cleared.clear.ensures,
+          summed_none (map of a.z.now) (entries_of a.entries.now) c.clear.new.out (length a.out.now) c.clear.ensures,
     )
 
 pub overflow_mul-row : goal.overflow_mul-row

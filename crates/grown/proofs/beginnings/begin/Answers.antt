@@ -9,19 +9,14 @@ use Rattle.grown.proofs.beginnings.begin.Goals as goal
 pub returns-then-not-is_fine : goal.returns-then-not-is_fine
 unfolding begin_call
 returns-then-not-is_fine c =
-    let j = c in
-    let a = j.args in
-    lent-refused j.check_sizes-fault.result j.check_sizes-fault.ensures (stored (empty_circuit a.r a.c a.x)) a.circuit.now
+    let a = c.args in
+    lent-refused c.check_sizes-fault.result c.check_sizes-fault.ensures (stored (empty_circuit a.r a.c a.x)) a.circuit.now
     (sym c.is_fine.ensures ∙ c.if-not-is_fine.true)
 
 pub returns : goal.returns
 unfolding begin_call
 returns c =
-    let cleared = c in
-    let d = cleared in
-    let j = d in
-    let s = j in
-    let a = s.args in
-    lent_filled j.check_sizes-fault.result j.check_sizes-fault.ensures (stored (empty_circuit a.r a.c a.x)) a.circuit.now
-    (sym d.is_fine.ensures ∙ d.if-not-is_fine.false)
-    (nothing_stored cleared.clear.new.out a.r a.c a.x (length a.circuit.now) cleared.clear.ensures s.requires)
+    let a = c.args in
+    lent_filled c.check_sizes-fault.result c.check_sizes-fault.ensures (stored (empty_circuit a.r a.c a.x)) a.circuit.now
+    (sym c.is_fine.ensures ∙ c.if-not-is_fine.false)
+    (nothing_stored c.clear.new.out a.r a.c a.x (length a.circuit.now) c.clear.ensures c.requires)

@@ -62,8 +62,7 @@ store-requires c =
 pub returns : goal.returns
 unfolding begin_from_call circuit_refusal
 returns c q e =
-    let filled = c in
-    let d = (goal.at.returns filled).Else-not-is_fine in
+    let d = (goal.at.returns c).Else-not-is_fine in
     let j = judged d in
     lent_filled j.judge_circuit-fault.result {o = circuit_refusal q (circuit j)} (j.judge_circuit-fault.ensures q e)
-    (stored (circuit_of (circuit j))) (start j).args.circuit.now (fine d) filled.store.ensures
+    (stored (circuit_of (circuit j))) (start j).args.circuit.now (fine d) c.store.ensures

@@ -7,8 +7,6 @@ use Rattle.grown.proofs.beginnings.copy_words.Goals as goal
 
 pub returns : goal.returns
 returns c =
-    let copied = c in
-    let cleared = copied in
-    let a = cleared.args in
-    copied.copy_front.ensures
-    ∙ zeros-after cleared.clear.new.out a.words.now (length a.out.now) cleared.clear.ensures (omega arith)
+    let a = c.args in
+    c.copy_front.ensures
+    ∙ zeros-after c.clear.new.out a.words.now (length a.out.now) c.clear.ensures (omega arith)

@@ -19,13 +19,12 @@ use Rattle.grown.proofs.beginnings.count_rows.Goals.{In-loop-i}
 row_below : (c : In-loop-i)
     → let a = c.args in get_or a.entries.now (3 * c.loop-i.i) 0 < length a.out.now
 row_below c =
-    let s = c in
-    let l : List ℕ = s.args.entries.now in
+    let l : List ℕ = c.args.entries.now in
     let i : ℕ = c.loop-i.i in
-    let n : ℕ = length s.args.out.now in
+    let n : ℕ = length c.args.out.now in
     let below : i < length (entries_of l) = omega (arith, length-entries_of l) in
     subst (λ (e : Entry). e.row < n) (entry_at l i (entry_words l i) below)
-    (all-at (λ (e : Entry). e.row < n) (entries_of l) s.requires.all i (entry_words l i) below)
+    (all-at (λ (e : Entry). e.row < n) (entries_of l) c.requires.all i (entry_words l i) below)
 
 row_within : (c : In-loop-i)
     → get_or c.args.entries.now (3 * c.loop-i.i) 0 < length c.clear.new.out

@@ -35,9 +35,8 @@ module _ (f : After-find_entry-found) where
 
 pub returns-then-not-is_fine : goal.returns-then-not-is_fine
 returns-then-not-is_fine c q e =
-    let j = c in
-    let s = (goal.at.returns-then-not-is_fine j).Start in
-    add_stops q (words s) s.args.matrix (given s) j.judge_entry-fault.result (j.judge_entry-fault.ensures.result_value q e)
+    let s = (goal.at.returns-then-not-is_fine c).Start in
+    add_stops q (words s) s.args.matrix (given s) c.judge_entry-fault.result (c.judge_entry-fault.ensures.result_value q e)
     (sym c.is_fine.ensures ∙ c.if-not-is_fine.true)
 
 pub find_entry-found-requires : goal.find_entry-found-requires
@@ -50,11 +49,9 @@ find_entry-found-requires c =
 
 pub returns-then-found : goal.returns-then-found
 returns-then-found c q e =
-    let found = c in
-    let j = found in
-    let s = (goal.at.returns-then-found j).Start in
-    add-taken q (words s) s.args.matrix (given s) j.judge_entry-fault.result (j.judge_entry-fault.ensures.result_value q e) (fine (goal.at.returns-then-found found).Else-not-is_fine)
-    (sym found.find_entry-found.ensures.0 ∙ c.if-found.true)
+    let s = (goal.at.returns-then-found c).Start in
+    add-taken q (words s) s.args.matrix (given s) c.judge_entry-fault.result (c.judge_entry-fault.ensures.result_value q e) (fine (goal.at.returns-then-found c).Else-not-is_fine)
+    (sym c.find_entry-found.ensures.0 ∙ c.if-found.true)
 
 pub put_entry-requires : goal.put_entry-requires
 put_entry-requires c =
@@ -78,8 +75,7 @@ returns c q e =
     let f = (goal.at.returns c).After-find_entry-found in
     let s = start f in
     let a = s.args in
-    let j = f in
-    add_done q (words s) a.matrix (given s) j.judge_entry-fault.result (j.judge_entry-fault.ensures.result_value q e) (fine (goal.at.After-find_entry-found f).Else-not-is_fine) _
+    add_done q (words s) a.matrix (given s) f.judge_entry-fault.result (f.judge_entry-fault.ensures.result_value q e) (fine (goal.at.After-find_entry-found f).Else-not-is_fine) _
     (sym f.find_entry-found.ensures.0 ∙ c.if-found.false)
     (c.put_entry.ensures
     ∙ ap₂ (λ (place before : ℕ). put_at (words s) a.matrix place before (given s))

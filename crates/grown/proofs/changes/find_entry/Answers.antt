@@ -29,12 +29,11 @@ overflow_sub-result c = (within (goal.at.overflow_sub-result c).After-find_row-s
 
 pub returns : goal.returns
 returns c =
-    let row = c in
-    let a = row.args in
+    let a = c.args in
     let w = a.circuit.now in
     let place =
-    place_from w a.matrix a.row a.column row.find_row-span.ensures.0 row.find_row-span.ensures.1
+    place_from w a.matrix a.row a.column c.find_row-span.ensures.0 c.find_row-span.ensures.1
     c.find_place-place.ensures in (
-      c.is_taken.ensures ∙ taken_from w a.matrix a.row a.column row.find_row-span.ensures.1 place,
-      (place, ap₂ (λ (from to : ℕ). to - from) row.find_row-span.ensures.0 row.find_row-span.ensures.1),
+      c.is_taken.ensures ∙ taken_from w a.matrix a.row a.column c.find_row-span.ensures.1 place,
+      (place, ap₂ (λ (from to : ℕ). to - from) c.find_row-span.ensures.0 c.find_row-span.ensures.1),
     )

@@ -36,21 +36,19 @@ returns-then-value-p c =
 
 pub returns-then-not-fits_circuit : goal.returns-then-not-fits_circuit
 returns-then-not-fits_circuit c =
-    let word = c in
-    let s = (goal.at.returns-then-not-fits_circuit word).Start in record {
+    let s = (goal.at.returns-then-not-fits_circuit c).Start in record {
       result_value = λ q e.
-          no_entry_lem (words s) s.args.matrix (given s) q (free (goal.at.returns-then-not-fits_circuit word).Else-not-has_room) (omega (arith, e, word.if-value-p.false))
+          no_entry_lem (words s) s.args.matrix (given s) q (free (goal.at.returns-then-not-fits_circuit c).Else-not-has_room) (omega (arith, e, c.if-value-p.false))
           (sym c.fits_circuit.ensures ∙ c.if-not-fits_circuit.true);
       matrix_bound = λ fine. absurd (true≢false (sym fine));
     }
 
 pub returns : goal.returns
 returns c =
-    let word = c in
-    let s = (goal.at.returns word).Start in
+    let s = (goal.at.returns c).Start in
     let fit = sym c.fits_circuit.ensures ∙ c.if-not-fits_circuit.false in record {
-      result_value = λ q e. entry-passes (words s) s.args.matrix (given s) q (free (goal.at.returns word).Else-not-has_room) (omega (arith, e, word.if-value-p.false)) fit;
+      result_value = λ q e. entry-passes (words s) s.args.matrix (given s) q (free (goal.at.returns c).Else-not-has_room) (omega (arith, e, c.if-value-p.false)) fit;
       matrix_bound = λ fine.
-          let there = room_there (words s) s.args.matrix (given s) (free (goal.at.returns word).Else-not-has_room) in
+          let there = room_there (words s) s.args.matrix (given s) (free (goal.at.returns c).Else-not-has_room) in
           (there.0, (there.1, row_there (words s) s.args.matrix (given s) fit));
     }

@@ -14,8 +14,7 @@ bounds-circuit-at-2 c = lt-length-set c.insert_entry.new.words _ _ (omega arith)
 
 pub returns : goal.returns
 returns c =
-    let s = c in
-    let a = s.args in
+    let a = c.args in
     let w = a.circuit.now in
     let t = c.total_of-total in
     let entries = c.entries_place-entries in

@@ -7,6 +7,5 @@ use Rattle.step_refusals.proofs.holdings.all_below.Goals as goal
 
 pub returns : goal.returns
 returns c =
-    let j = c in
-    let a = j.args in
-    c.is_fine.ensures ∙ fine_is j.judge_words.result 6 0 (map (λ w. ltb w a.p) a.words.now) j.judge_words.ensures
+    let a = c.args in
+    c.is_fine.ensures ∙ fine_is c.judge_words.result 6 0 (map (λ w. ltb w a.p) a.words.now) c.judge_words.ensures

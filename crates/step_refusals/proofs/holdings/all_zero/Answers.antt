@@ -22,24 +22,21 @@ loop-i-init c = (search rules, refl)
 
 pub returns-then-words-i-ne0 : goal.returns-then-words-i-ne0
 returns-then-words-i-ne0 c =
-    let l = c in
-    let ws : List ℕ = l.args.words.now in
-    let i : ℕ = l.loop-i.i in
-    sym (l.loop-i.invariant.1 ∙ zeros_from ws i (omega arith) ∙ ap (λ t. t && zeros (drop (suc i) ws)) (ne_eqb _ _ c.if-words-i-ne0.true))
+    let ws : List ℕ = c.args.words.now in
+    let i : ℕ = c.loop-i.i in
+    sym (c.loop-i.invariant.1 ∙ zeros_from ws i (omega arith) ∙ ap (λ t. t && zeros (drop (suc i) ws)) (ne_eqb _ _ c.if-words-i-ne0.true))
 
 pub loop-i-preserved : goal.loop-i-preserved
 loop-i-preserved c =
-    let l = c in
-    let ws : List ℕ = l.args.words.now in
-    let i : ℕ = l.loop-i.i in (
+    let ws : List ℕ = c.args.words.now in
+    let i : ℕ = c.loop-i.i in (
       search rules,
-      l.loop-i.invariant.1 ∙ zeros_from ws i (omega arith) ∙ ap (λ t. t && zeros (drop (suc i) ws)) (eq-eqb _ _ c.if-words-i-ne0.false)
+      c.loop-i.invariant.1 ∙ zeros_from ws i (omega arith) ∙ ap (λ t. t && zeros (drop (suc i) ws)) (eq-eqb _ _ c.if-words-i-ne0.false)
           ∙ ap (λ k. zeros (drop k ws)) (sym (add-one i)),
     )
 
 pub returns : goal.returns
 returns c =
-    let l = c in
-    let ws : List ℕ = l.args.words.now in
-    let done : length ws ≤ l.loop-i.i = omega arith in
-    sym (l.loop-i.invariant.1 ∙ ap zeros (drop_of_length-le ws done))
+    let ws : List ℕ = c.args.words.now in
+    let done : length ws ≤ c.loop-i.i = omega arith in
+    sym (c.loop-i.invariant.1 ∙ ap zeros (drop_of_length-le ws done))

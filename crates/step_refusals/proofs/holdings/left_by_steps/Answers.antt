@@ -10,19 +10,15 @@ use Rattle.step_refusals.proofs.holdings.left_by_steps.Goals as goal
 
 pub public_fits-requires : goal.public_fits-requires
 public_fits-requires c =
-    let s = c in
-    omega (arith, size_bound s.args.s.x (allowed (sizes s.args.s) s.requires.s_value).X-size, s.requires.x_len)
+    omega (arith, size_bound c.args.s.x (allowed (sizes c.args.s) c.requires.s_value).X-size, c.requires.x_len)
 
 pub returns-then-not-public_fits : goal.returns-then-not-public_fits
 unfolding left_by_steps
 returns-then-not-public_fits c q Q e stage =
-    let d = c in
-    let a = d.args in
-    ap (λ b. b && transcript_fits q (sizes a.s) (transcript a.t)) (sym c.if-not-public_fits.true ∙ d.public_fits.ensures q e)
+    let a = c.args in
+    ap (λ b. b && transcript_fits q (sizes a.s) (transcript a.t)) (sym c.if-not-public_fits.true ∙ c.public_fits.ensures q e)
 
 pub returns : goal.returns
 unfolding left_by_steps
 returns c q Q e stage =
-    let n = c in
-    let d = n in
-    ap₂ ◌&&◌ (sym n.if-not-public_fits.false ∙ d.public_fits.ensures q e) (c.transcript_fits.ensures q Q e)
+    ap₂ ◌&&◌ (sym c.if-not-public_fits.false ∙ c.public_fits.ensures q e) (c.transcript_fits.ensures q Q e)

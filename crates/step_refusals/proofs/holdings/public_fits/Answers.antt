@@ -24,8 +24,7 @@ past_first q c = ap (λ b. b && rest q (goal.at.Else-not-begins_with_one c).Star
 below-is : (q : Prime) (c : After-all_below) → let s = (goal.at.After-all_below c).Start in q.p ≡ s.args.p
     → c.all_below.result ≡ all_below q (take s.args.n s.args.x.now)
 below-is q c e =
-    let s = c in
-    c.all_below.ensures ∙ ap (λ p. all (map (λ w. ltb w p) (take s.args.n s.args.x.now))) (sym e)
+    c.all_below.ensures ∙ ap (λ p. all (map (λ w. ltb w p) (take c.args.n c.args.x.now))) (sym e)
 
 pub returns-then-not-begins_with_one : goal.returns-then-not-begins_with_one
 unfolding public_fits
@@ -38,10 +37,9 @@ returns-then-not-all_below c q e =
 
 pub returns : goal.returns
 returns c q e =
-    let d = c in
-    let b = (goal.at.returns d).After-all_below in
+    let b = (goal.at.returns c).After-all_below in
     let s = (goal.at.After-all_below b).Start in
     let after = drop s.args.n s.args.x.now in
     c.all_zero.ensures
     ∙ ap (λ l. all (map (λ w. eqb w 0) l)) (ap (λ k. take k after) (sym (length-drop s.args.n s.args.x.now)) ∙ take-length after)
-    ∙ ap (λ t. t && zeros s) (sym d.if-not-all_below.false ∙ below-is q b e) ∙ past_first q (goal.at.After-all_below b).Else-not-begins_with_one
+    ∙ ap (λ t. t && zeros s) (sym c.if-not-all_below.false ∙ below-is q b e) ∙ past_first q (goal.at.After-all_below b).Else-not-begins_with_one

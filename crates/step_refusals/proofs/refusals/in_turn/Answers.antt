@@ -15,7 +15,6 @@ returns-then-stage-n c = let a = c.args in sym (ap (λ t. t && all (six_size_tes
 pub returns : goal.returns
 unfolding in_turn
 returns c =
-    let j = c in
-    let tests = six_size_tests (sizes j.args.s) in
-    c.is_fine.ensures ∙ fine_is j.judge_sizes.result 4 0 tests j.judge_sizes.ensures
-    ∙ ap (λ t. t && all tests) (sym (eq-eqb _ _ j.if-stage-n.false))
+    let tests = six_size_tests (sizes c.args.s) in
+    c.is_fine.ensures ∙ fine_is c.judge_sizes.result 4 0 tests c.judge_sizes.ensures
+    ∙ ap (λ t. t && all tests) (sym (eq-eqb _ _ c.if-stage-n.false))

@@ -17,10 +17,9 @@ judge_challenge-requires c = record {
 pub returns : goal.returns
 unfolding alpha_refusal
 returns c q Q e =
-    let m = c in
-    let a = m.args in
+    let a = c.args in
     c.judge_challenge.ensures q Q e
     ∙ ap
     (λ l. challenge_step q 1 a.stage (sizes a.s) 0 a.s.r a.alpha (a.witness ∷ a.mask ∷ a.quotient ∷ [])
     (l.witness ∷ l.mask ∷ l.row_quotient ∷ []))
-    m.message_lengths-table.ensures
+    c.message_lengths-table.ensures

@@ -17,10 +17,9 @@ judge_challenge-requires c = record {
 pub returns : goal.returns
 unfolding beta_refusal
 returns c q Q e =
-    let m = c in
-    let a = m.args in
+    let a = c.args in
     c.judge_challenge.ensures q Q e
     ∙ ap
     (λ l. challenge_step q 3 a.stage (sizes a.s) 1 a.s.c a.beta (a.remainder ∷ a.quotient ∷ [])
     (l.line_remainder ∷ l.line_quotient ∷ []))
-    m.message_lengths-table.ensures
+    c.message_lengths-table.ensures

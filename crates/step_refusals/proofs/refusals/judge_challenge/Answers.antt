@@ -35,48 +35,39 @@ below q c e = lt-ltb c.args.y q.p (omega arith)
 
 pub returns-then-not-is_fine : goal.returns-then-not-is_fine
 returns-then-not-is_fine c q Q e =
-    let j = c in
-    stops j.judge_turn-turn.result j.judge_turn-turn.ensures (after_turn (goal.at.returns-then-not-is_fine j).Start q) (sym c.is_fine.ensures ∙ c.if-not-is_fine.true)
+    stops c.judge_turn-turn.result c.judge_turn-turn.ensures (after_turn (goal.at.returns-then-not-is_fine c).Start q) (sym c.is_fine.ensures ∙ c.if-not-is_fine.true)
 
 pub returns-then-p-y : goal.returns-then-p-y
 unfolding word_refusal
 returns-then-p-y c q Q e =
     let d = (goal.at.returns-then-p-y c).Else-not-is_fine in
-    let j = d in
-    let s = (goal.at.Else-not-is_fine j).Start in
-    goes_on j.judge_turn-turn.result j.judge_turn-turn.ensures (after_turn s q) (fine d)
+    let s = (goal.at.Else-not-is_fine d).Start in
+    goes_on d.judge_turn-turn.result d.judge_turn-turn.ensures (after_turn s q) (fine d)
     (fails_first 6 0 (after-word s q) (le-ltb s.args.y q.p (omega arith)))
 
 pub is_inside-requires : goal.is_inside-requires
 is_inside-requires c =
     let d = (goal.at.is_inside-requires c).Else-not-is_fine in
-    let j = d in
-    let s = j in
-    let a = s.args in
+    let a = d.args in
     record {
       lt_p = search rules;
-      n_value = s.requires.n_value (turn_allowed a.taken a.stage (sizes a.s) j.judge_turn-turn.result j.judge_turn-turn.ensures (fine d));
+      n_value = d.requires.n_value (turn_allowed a.taken a.stage (sizes a.s) d.judge_turn-turn.result d.judge_turn-turn.ensures (fine d));
     }
 
 pub returns-then-is_inside : goal.returns-then-is_inside
 unfolding word_refusal challenge_refusal
 returns-then-is_inside c q Q e =
-    let i = c in
-    let d = (goal.at.returns-then-is_inside i).Else-not-is_fine in
-    let j = d in
-    let s = (goal.at.Else-not-is_fine j).Start in
-    goes_on j.judge_turn-turn.result j.judge_turn-turn.ensures (after_turn s q) (fine d)
-    (passes 6 0 (after-word s q) (below q (goal.at.returns-then-is_inside i).Else-p-y e)
-    (fails_first 10 s.args.position (after-domain s) (ap not (sym (i.is_inside.ensures q Q e) ∙ c.if-is_inside.true))))
+    let d = (goal.at.returns-then-is_inside c).Else-not-is_fine in
+    let s = (goal.at.Else-not-is_fine d).Start in
+    goes_on d.judge_turn-turn.result d.judge_turn-turn.ensures (after_turn s q) (fine d)
+    (passes 6 0 (after-word s q) (below q (goal.at.returns-then-is_inside c).Else-p-y e)
+    (fails_first 10 s.args.position (after-domain s) (ap not (sym (c.is_inside.ensures q Q e) ∙ c.if-is_inside.true))))
 
 pub returns : goal.returns
 unfolding word_refusal challenge_refusal
 returns c q Q e =
-    let n = c in
-    let i = n in
-    let d = (goal.at.returns i).Else-not-is_fine in
-    let j = d in
-    let s = (goal.at.Else-not-is_fine j).Start in
-    goes_on j.judge_turn-turn.result j.judge_turn-turn.ensures (after_turn s q) (fine d)
-    (passes 6 0 (after-word s q) (below q (goal.at.returns i).Else-p-y e)
-    (passes 10 s.args.position (after-domain s) (ap not (sym (i.is_inside.ensures q Q e) ∙ n.if-is_inside.false)) (last_answer_lem c.judge_lengths.ensures)))
+    let d = (goal.at.returns c).Else-not-is_fine in
+    let s = (goal.at.Else-not-is_fine d).Start in
+    goes_on d.judge_turn-turn.result d.judge_turn-turn.ensures (after_turn s q) (fine d)
+    (passes 6 0 (after-word s q) (below q (goal.at.returns c).Else-p-y e)
+    (passes 10 s.args.position (after-domain s) (ap not (sym (c.is_inside.ensures q Q e) ∙ c.if-is_inside.false)) (last_answer_lem c.judge_lengths.ensures)))

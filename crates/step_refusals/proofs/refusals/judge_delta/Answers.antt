@@ -33,21 +33,18 @@ past_turn : (q : Prime) (c : Else-not-is_fine) {x : Option Refusal} → let s = 
     x ≡ first (rest s q) → x ≡ delta_refusal q a.stage (sizes a.s) (three a.values) (three a.remainders) (three a.delta)
 unfolding delta_refusal
 past_turn q c =
-    let j = c in
-    goes_on j.judge_turn-turn.result j.judge_turn-turn.ensures (rest (goal.at.Else-not-is_fine j).Start q) (sym c.is_fine.ensures ∙ c.if-not-is_fine.false)
+    goes_on c.judge_turn-turn.result c.judge_turn-turn.ensures (rest (goal.at.Else-not-is_fine c).Start q) (sym c.is_fine.ensures ∙ c.if-not-is_fine.false)
 
 pub returns-then-not-is_fine : goal.returns-then-not-is_fine
 unfolding delta_refusal
 returns-then-not-is_fine c q e =
-    let j = c in
-    stops j.judge_turn-turn.result j.judge_turn-turn.ensures (rest (goal.at.returns-then-not-is_fine j).Start q) (sym c.is_fine.ensures ∙ c.if-not-is_fine.true)
+    stops c.judge_turn-turn.result c.judge_turn-turn.ensures (rest (goal.at.returns-then-not-is_fine c).Start q) (sym c.is_fine.ensures ∙ c.if-not-is_fine.true)
 
 pub returns-then-not-is_fine-2 : goal.returns-then-not-is_fine-2
 returns-then-not-is_fine-2 c q e =
-    let w = c in
-    let s = (goal.at.returns-then-not-is_fine-2 w).Start in
-    past_turn q (goal.at.returns-then-not-is_fine-2 w).Else-not-is_fine
-    (stops w.judge_words-word.result (w.judge_words-word.ensures ∙ word_row q e (ws s)) (lengths-row s)
+    let s = (goal.at.returns-then-not-is_fine-2 c).Start in
+    past_turn q (goal.at.returns-then-not-is_fine-2 c).Else-not-is_fine
+    (stops c.judge_words-word.result (c.judge_words-word.ensures ∙ word_row q e (ws s)) (lengths-row s)
     (sym c.is_fine-2.ensures ∙ c.if-not-is_fine-2.true))
 
 pub judge_lengths-requires : goal.judge_lengths-requires
@@ -55,10 +52,7 @@ judge_lengths-requires c = refl
 
 pub returns : goal.returns
 returns c q e =
-    let l = c in
-    let d = l in
-    let w = d in
-    let s = (goal.at.returns w).Start in
-    past_turn q (goal.at.returns w).Else-not-is_fine
-    (goes_on w.judge_words-word.result (w.judge_words-word.ensures ∙ word_row q e (ws s)) (lengths-row s)
-    (sym d.is_fine-2.ensures ∙ d.if-not-is_fine-2.false) (last_answer_lem (c.judge_lengths.ensures ∙ ap (most s) l.message_lengths.ensures)))
+    let s = (goal.at.returns c).Start in
+    past_turn q (goal.at.returns c).Else-not-is_fine
+    (goes_on c.judge_words-word.result (c.judge_words-word.ensures ∙ word_row q e (ws s)) (lengths-row s)
+    (sym c.is_fine-2.ensures ∙ c.if-not-is_fine-2.false) (last_answer_lem (c.judge_lengths.ensures ∙ ap (most s) c.message_lengths.ensures)))

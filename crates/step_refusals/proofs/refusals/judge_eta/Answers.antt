@@ -24,13 +24,10 @@ module _ (s : Start) where
 pub returns-then-not-is_fine : goal.returns-then-not-is_fine
 unfolding eta_refusal
 returns-then-not-is_fine c q e =
-    let j = c in
-    stops j.judge_turn-turn.result j.judge_turn-turn.ensures (rest (goal.at.returns-then-not-is_fine j).Start q) (sym c.is_fine.ensures ∙ c.if-not-is_fine.true)
+    stops c.judge_turn-turn.result c.judge_turn-turn.ensures (rest (goal.at.returns-then-not-is_fine c).Start q) (sym c.is_fine.ensures ∙ c.if-not-is_fine.true)
 
 pub returns : goal.returns
 unfolding eta_refusal
 returns c q e =
-    let d = c in
-    let j = d in
-    goes_on j.judge_turn-turn.result j.judge_turn-turn.ensures (rest (goal.at.returns j).Start q) (sym d.is_fine.ensures ∙ d.if-not-is_fine.false)
-    (last_answer_lem (c.judge_words.ensures ∙ word_row q e (ws (goal.at.returns j).Start)))
+    goes_on c.judge_turn-turn.result c.judge_turn-turn.ensures (rest (goal.at.returns c).Start q) (sym c.is_fine.ensures ∙ c.if-not-is_fine.false)
+    (last_answer_lem (c.judge_words.ensures ∙ word_row q e (ws (goal.at.returns c).Start)))

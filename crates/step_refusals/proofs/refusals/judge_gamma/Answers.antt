@@ -12,20 +12,17 @@ use Rattle.step_refusals.proofs.refusals.judge_gamma.Goals as goal
 
 pub judge_challenge-requires : goal.judge_challenge-requires
 judge_challenge-requires c =
-    let k = c in
-    let s = sizes k.args.s in
+    let s = sizes c.args.s in
     record {
       lt_p = search rules;
-      n_value = (λ allowed. ap is_size k.largest.ensures ∙ largest_size s allowed);
+      n_value = (λ allowed. ap is_size c.largest.ensures ∙ largest_size s allowed);
       most_len = refl;
     }
 
 pub returns : goal.returns
 unfolding gamma_refusal
 returns c q Q e =
-    let k = c in
-    let m = k in
-    let a = m.args in
+    let a = c.args in
     c.judge_challenge.ensures q Q e
     ∙ ap₂ (λ n l. challenge_step q 5 a.stage (sizes a.s) 2 n a.gamma (a.quotient ∷ []) (l.joined_quotient ∷ []))
-    k.largest.ensures m.message_lengths.ensures
+    c.largest.ensures c.message_lengths.ensures

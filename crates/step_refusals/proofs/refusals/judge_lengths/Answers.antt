@@ -23,10 +23,10 @@ pub loop-i-init : goal.loop-i-init
 loop-i-init c = (search rules, passed_none 11 0 _)
 
 pub offset_bounds-most-i : goal.offset_bounds-most-i
-offset_bounds-most-i c = let s = c in search (rules, s.requires)
+offset_bounds-most-i c = search (rules, c.requires)
 
 pub bounds-most-i : goal.bounds-most-i
-bounds-most-i c = let s = c in omega (arith, s.requires)
+bounds-most-i c = omega (arith, c.requires)
 
 pub overflow_cast-declared : goal.overflow_cast-declared
 overflow_cast-declared c = omega (arith, c.shared_slice_known-in-loop-i-1.given c.loop-i.i)
@@ -34,24 +34,21 @@ overflow_cast-declared c = omega (arith, c.shared_slice_known-in-loop-i-1.given 
 pub returns-then-most-i : goal.returns-then-most-i
 unfolding length_refusal
 returns-then-most-i c =
-    let l = c in
-    let s = (goal.at.returns-then-most-i l).Start in
-    passed_stop 11 0 (tests s) l.loop-i.i l.loop-i.invariant.1 (omega (arith, tests_count s)) true _ (omega arith)
-    (pairs-at leb s.args.declared.now s.args.most.now l.loop-i.i 0 0 true (omega arith) (omega (arith, s.requires)) ∙ lt-leb _ _ c.if-most-i.true)
+    let s = (goal.at.returns-then-most-i c).Start in
+    passed_stop 11 0 (tests s) c.loop-i.i c.loop-i.invariant.1 (omega (arith, tests_count s)) true _ (omega arith)
+    (pairs-at leb s.args.declared.now s.args.most.now c.loop-i.i 0 0 true (omega arith) (omega (arith, s.requires)) ∙ lt-leb _ _ c.if-most-i.true)
 
 pub loop-i-preserved : goal.loop-i-preserved
 loop-i-preserved c =
-    let l = c in
-    let s = (goal.at.loop-i-preserved l).Start in (
+    let s = (goal.at.loop-i-preserved c).Start in (
       search rules,
-      passed_turn 11 0 (tests s) l.loop-i.i l.loop-i.invariant.1 (omega (arith, tests_count s)) true
-          (pairs-at leb s.args.declared.now s.args.most.now l.loop-i.i 0 0 true (omega arith) (omega (arith, s.requires))
+      passed_turn 11 0 (tests s) c.loop-i.i c.loop-i.invariant.1 (omega (arith, tests_count s)) true
+          (pairs-at leb s.args.declared.now s.args.most.now c.loop-i.i 0 0 true (omega arith) (omega (arith, s.requires))
           ∙ le-leb _ _ c.if-most-i.false),
     )
 
 pub returns : goal.returns
 unfolding length_refusal
 returns c =
-    let l = c in
-    let s = (goal.at.returns l).Start in
-    sym (passed_end 11 0 (tests s) l.loop-i.i l.loop-i.invariant.1 (omega (arith, tests_count s)))
+    let s = (goal.at.returns c).Start in
+    sym (passed_end 11 0 (tests s) c.loop-i.i c.loop-i.invariant.1 (omega (arith, tests_count s)))

@@ -25,8 +25,7 @@ past_sizes : (q : Prime) (c : Else-not-is_fine) {r : Option Refusal} → let s =
     r ≡ first (rest q s) → r ≡ open_refusal q (sizes s.args.s) s.args.x.now
 unfolding open_refusal size_refusal
 past_sizes q c =
-    let j = c in
-    goes_on j.judge_sizes-size.result j.judge_sizes-size.ensures (rest q (goal.at.Else-not-is_fine j).Start) (sym c.is_fine.ensures ∙ c.if-not-is_fine.false)
+    goes_on c.judge_sizes-size.result c.judge_sizes-size.ensures (rest q (goal.at.Else-not-is_fine c).Start) (sym c.is_fine.ensures ∙ c.if-not-is_fine.false)
 
 past_length : (q : Prime) (c : Else-x-s) {r : Option Refusal} → let s = (goal.at.Else-x-s c).Start in
     r ≡ first (after-length q s) → r ≡ open_refusal q (sizes s.args.s) s.args.x.now
@@ -38,8 +37,7 @@ past_length q c y =
 pub returns-then-not-is_fine : goal.returns-then-not-is_fine
 unfolding open_refusal size_refusal
 returns-then-not-is_fine c q e =
-    let j = c in
-    stops j.judge_sizes-size.result j.judge_sizes-size.ensures (rest q (goal.at.returns-then-not-is_fine j).Start) (sym c.is_fine.ensures ∙ c.if-not-is_fine.true)
+    stops c.judge_sizes-size.result c.judge_sizes-size.ensures (rest q (goal.at.returns-then-not-is_fine c).Start) (sym c.is_fine.ensures ∙ c.if-not-is_fine.true)
 
 pub returns-then-x-s : goal.returns-then-x-s
 unfolding list_refusal
@@ -49,17 +47,14 @@ returns-then-x-s c q e =
 
 pub returns-then-not-is_fine-2 : goal.returns-then-not-is_fine-2
 returns-then-not-is_fine-2 c q e =
-    let w = c in
-    let x = w.args.x.now in
-    past_length q (goal.at.returns-then-not-is_fine-2 w).Else-x-s
-    (stops w.judge_words-in_words.result {o = word_refusal q x} (w.judge_words-in_words.ensures ∙ word_row q e x) (constant_refusal x ∷ [])
+    let x = c.args.x.now in
+    past_length q (goal.at.returns-then-not-is_fine-2 c).Else-x-s
+    (stops c.judge_words-in_words.result {o = word_refusal q x} (c.judge_words-in_words.ensures ∙ word_row q e x) (constant_refusal x ∷ [])
     (sym c.is_fine-2.ensures ∙ c.if-not-is_fine-2.true))
 
 pub returns : goal.returns
 returns c q e =
-    let d = c in
-    let w = d in
-    let x = w.args.x.now in
-    past_length q (goal.at.returns w).Else-x-s
-    (goes_on w.judge_words-in_words.result {o = word_refusal q x} (w.judge_words-in_words.ensures ∙ word_row q e x) (constant_refusal x ∷ [])
-    (sym d.is_fine-2.ensures ∙ d.if-not-is_fine-2.false) (last_answer_lem c.judge_constant.ensures))
+    let x = c.args.x.now in
+    past_length q (goal.at.returns c).Else-x-s
+    (goes_on c.judge_words-in_words.result {o = word_refusal q x} (c.judge_words-in_words.ensures ∙ word_row q e x) (constant_refusal x ∷ [])
+    (sym c.is_fine-2.ensures ∙ c.if-not-is_fine-2.false) (last_answer_lem c.judge_constant.ensures))

@@ -24,7 +24,7 @@ module _ (s : Start) where
   abbrev rest : Prime → List (Option Refusal)
   rest q = word_refusal q (list_openings (openings s.args.o s.args.index)) ∷ []
 
-turn : (c : Else-not-in_turn) → let s = c in in_turn 6 s.args.stage (sizes s.args.s) ≡ true
+turn : (c : Else-not-in_turn) → in_turn 6 c.args.stage (sizes c.args.s) ≡ true
 turn c = sym c.in_turn.ensures ∙ c.if-not-in_turn.false
 
 pub returns-then-not-in_turn : goal.returns-then-not-in_turn
@@ -35,27 +35,23 @@ returns-then-not-in_turn c q Q e =
 
 pub left_by_steps-requires : goal.left_by_steps-requires
 left_by_steps-requires c =
-    let s = c in
     record {
       lt_p = search rules;
-      s_value = all_true (six_size_tests (sizes s.args.s)) (in_turn_lem 6 s.args.stage (sizes s.args.s) (turn c)).sizes-allowed;
+      s_value = all_true (six_size_tests (sizes c.args.s)) (in_turn_lem 6 c.args.stage (sizes c.args.s) (turn c)).sizes-allowed;
       x_len = search rules;
     }
 
 pub returns-then-not-left_by_steps : goal.returns-then-not-left_by_steps
 unfolding openings_refusal turn_refusal
 returns-then-not-left_by_steps c q Q e =
-    let l = c in
-    let s = (goal.at.returns-then-not-left_by_steps l).Start in
+    let s = (goal.at.returns-then-not-left_by_steps c).Start in
     fails_first 1 0 (rest s q)
-    (ap₂ ◌&&◌ (turn (goal.at.returns-then-not-left_by_steps l).Else-not-in_turn) (sym (l.left_by_steps.ensures q Q e s.args.stage) ∙ c.if-not-left_by_steps.true))
+    (ap₂ ◌&&◌ (turn (goal.at.returns-then-not-left_by_steps c).Else-not-in_turn) (sym (c.left_by_steps.ensures q Q e s.args.stage) ∙ c.if-not-left_by_steps.true))
 
 pub returns : goal.returns
 unfolding openings_refusal turn_refusal
 returns c q Q e =
-    let n = c in
-    let l = n in
-    let s = (goal.at.returns l).Start in
+    let s = (goal.at.returns c).Start in
     passes 1 0 (rest s q)
-    (ap₂ ◌&&◌ (turn (goal.at.returns l).Else-not-in_turn) (sym (l.left_by_steps.ensures q Q e s.args.stage) ∙ n.if-not-left_by_steps.false))
+    (ap₂ ◌&&◌ (turn (goal.at.returns c).Else-not-in_turn) (sym (c.left_by_steps.ensures q Q e s.args.stage) ∙ c.if-not-left_by_steps.false))
     (last_answer_lem (c.judge_opened.ensures q e))
