@@ -25,8 +25,7 @@ returns-then-not-is_fine c =
 pub returns : goal.returns
 unfolding head_refusal
 returns c =
-    let at-if1 = c in
-    let d = at-if1.check_sizes-fault in
-    let ws = at-if1.args.words.now in
-    goes_on d.result d.ensures (counts ws) (sym at-if1.is_fine.ensures ∙ at-if1.if-not-is_fine.false)
+    let d = c.check_sizes-fault in
+    let ws = c.args.words.now in
+    goes_on d.result d.ensures (counts ws) (sym c.is_fine.ensures ∙ c.if-not-is_fine.false)
     (last_answer_lem c.check_counts.ensures)

@@ -26,23 +26,19 @@ words_into-requires c = sym (part_length _ _ (few_words (length c.args.bytes.now
 
 pub slice_bounds-words-end-2 : goal.slice_bounds-words-end-2
 slice_bounds-words-end-2 c =
-    let start = c in
     let call = c.words_into in
-    filled_within _ _ (few_words (length start.args.bytes.now) (search rules)) call.new.words call.auto.words
+    filled_within _ _ (few_words (length c.args.bytes.now) (search rules)) call.new.words call.auto.words
 
 pub slice_bounds-put_words_text-end : goal.slice_bounds-put_words_text-end
 slice_bounds-put_words_text-end c =
-    let start = c in
     let call = c.words_into in
-    filled_length _ _ (few_words (length start.args.bytes.now) (search rules)) call.new.words call.auto.words
+    filled_length _ _ (few_words (length c.args.bytes.now) (search rules)) call.new.words call.auto.words
 
 pub put_words_text-requires : goal.put_words_text-requires
 put_words_text-requires c =
-    let at-words-into = c in
-    let start = at-words-into in
-    let call = at-words-into.words_into in
+    let call = c.words_into in
     record {
-      words_len = sym (filled_length _ _ (few_words (length start.args.bytes.now) (search rules)) call.new.words call.auto.words);
+      words_len = sym (filled_length _ _ (few_words (length c.args.bytes.now) (search rules)) call.new.words call.auto.words);
       head_bytes_le_count = search rules;
       most_proof_in_bounds = search rules;
     }

@@ -17,61 +17,38 @@ overflow_mul-due c =
 
 pub returns-then-due-count : goal.returns-then-due-count
 returns-then-due-count c =
-    let at-if1 = c in
-    let at-job-length = at-if1 in
-    let at-enum-told = at-job-length in
-    let at-judge-head = at-enum-told in
-    let start = at-judge-head in
-    let a = start.args in
-    written_as (text_left-over a.count a.words.now (matched at-enum-told.in-Fine.is at-judge-head.judge_head-head.ensures)
-    (omega (arith, at-job-length.job_length-due.ensures, at-if1.if-due-count.true)))
+    let a = c.args in
+    written_as (text_left-over a.count a.words.now (matched c.in-Fine.is c.judge_head-head.ensures)
+    (omega (arith, c.job_length-due.ensures, c.if-due-count.true)))
     c.put_too_long.ensures
 
 pub returns-then-count-due : goal.returns-then-count-due
 returns-then-count-due c =
-    let at-if2 = c in
-    let at-job-length = at-if2 in
-    let at-enum-told = at-job-length in
-    let at-judge-head = at-enum-told in
-    let start = at-judge-head in
-    let a = start.args in
-    written_as (text_unfinished a.count a.words.now (matched at-enum-told.in-Fine.is at-judge-head.judge_head-head.ensures)
-    (omega (arith, at-job-length.job_length-due.ensures, at-if2.if-count-due.true)))
+    let a = c.args in
+    written_as (text_unfinished a.count a.words.now (matched c.in-Fine.is c.judge_head-head.ensures)
+    (omega (arith, c.job_length-due.ensures, c.if-count-due.true)))
     c.put_too_short.ensures
 
 pub put_whole-requires : goal.put_whole-requires
 put_whole-requires c =
-    let at-job-length = c in
-    let at-enum-told = at-job-length in
-    let at-judge-head = at-enum-told in
-    let s = at-judge-head in
-    let same : s.args.count ≡ 4 * job_length s.args.words.now =
-    omega (arith, at-job-length.job_length-due.ensures, c.if-count-due.false, c.if-due-count.false) in
+    let same : c.args.count ≡ 4 * job_length c.args.words.now =
+    omega (arith, c.job_length-due.ensures, c.if-count-due.false, c.if-due-count.false) in
     record {
-      ws_value = matched at-enum-told.in-Fine.is at-judge-head.judge_head-head.ensures;
-      ws_len = omega (arith, s.requires.words_len, same);
+      ws_value = matched c.in-Fine.is c.judge_head-head.ensures;
+      ws_len = omega (arith, c.requires.words_len, same);
       most_proof_in_bounds = search rules;
     }
 
 pub returns-in-Refused : goal.returns-in-Refused
 returns-in-Refused c =
-    let at_head = c in
-    let at-judge-head = at_head in
-    let start = at-judge-head in
-    let a = start.args in
-    written_as (head_refused a.count a.words.now (sym at-judge-head.judge_head-head.ensures ∙ ap fault_refusal at_head.in-Refused.is))
+    let a = c.args in
+    written_as (head_refused a.count a.words.now (sym c.judge_head-head.ensures ∙ ap fault_refusal c.in-Refused.is))
     c.put_refused.ensures.written
 
 pub returns-else-count-due : goal.returns-else-count-due
 returns-else-count-due c =
-    let at-if2 = c in
-    let at-if1 = at-if2 in
-    let at-job-length = at-if1 in
-    let at-enum-told = at-job-length in
-    let at-judge-head = at-enum-told in
-    let start = at-judge-head in
-    let a = start.args in
+    let a = c.args in
     written_as
-    (text_whole a.count a.words.now (matched at-enum-told.in-Fine.is at-judge-head.judge_head-head.ensures)
-    (omega (arith, at-job-length.job_length-due.ensures, at-if2.if-count-due.false, at-if1.if-due-count.false)))
+    (text_whole a.count a.words.now (matched c.in-Fine.is c.judge_head-head.ensures)
+    (omega (arith, c.job_length-due.ensures, c.if-count-due.false, c.if-due-count.false)))
     c.put_whole.ensures

@@ -10,12 +10,11 @@ use Rattle.verdict.proofs.line_right.Goals as goal
 pub returns : goal.returns
 unfolding line_right
 returns c q Q e is-columns =
-    let inverse = c in
-    let a = inverse.args in
+    let a = c.args in
     let β : Elem q = of a.beta in
     let h1 : Elem q = of a.quotient in
     let σ : Elem q = of a.sum in
-    let share = of-result (reciprocal (of {q = q} a.s.c)) (inverse.size_inverse.ensures q Q e) in
+    let share = of-result (reciprocal (of {q = q} a.s.c)) (c.size_inverse.ensures q Q e) in
     let mean = of-result (σ ⊗ of _) (c.multiply-mean.ensures q e) ∙ ap (λ v. σ ⊗ v) share in
     let rest = of-result (β ⊗ of a.remainder) (c.multiply-rest.ensures q e) in
     let vanish = of-result (vanishing a.s.c β) is-columns in

@@ -14,15 +14,14 @@ use Rattle.verdict.proofs.matrix_left.Goals as goal
 pub returns : goal.returns
 unfolding matrix_left numerator_value
 returns c q Q e is-scale M k v =
-    let d = c in
-    let a = d.args in
+    let a = c.args in
     let s = sizes a.s in
     let t = map_transcript (of {q = q}) (transcript a.t) in
     let index = map_index (of {q = q}) (index_words a.index) in
     let scale = of-result (vanishing s.|R| t.α ⊗ vanishing s.|C| t.β) is-scale in
-    let numerator = of-result (of {q = q} a.scale ⊗ index.rowcolval) (d.multiply-numerator.ensures q e)
+    let numerator = of-result (of {q = q} a.scale ⊗ index.rowcolval) (c.multiply-numerator.ensures q e)
     ∙ ap (λ u. u ⊗ index.rowcolval) scale in
-    let denominator = of-result (denominator_value s t.α t.β index) (d.denominator_value-denominator.ensures q e) in
+    let denominator = of-result (denominator_value s t.α t.β index) (c.denominator_value-denominator.ensures q e) in
     let value = ap (of {q = q}) (sym v) ∙ sym (at_each (λ N. of {q = q} (at (three a.t.values) N)) M) in
     let share = of-result (reciprocal (of {q = q} a.size)) (c.size_inverse.ensures q Q e) in
     let product = of-result (of {q = q} a.value ⊗ of _) (c.multiply-mean.ensures q e) in

@@ -92,9 +92,7 @@ divide-share-requires c =
 pub returns : goal.returns
 unfolding selector
 returns c q Q e is_whole =
-    let divided = c in
-    let inverse = divided in
-    let m = (goal.at.returns inverse).After-multiply-product in
+    let m = (goal.at.returns c).After-multiply-product in
     let v = (goal.at.After-multiply-product m).After-vanishing_value-c in
     let s = start v q e in
     let k = s.args.s.k in
@@ -105,18 +103,18 @@ returns c q Q e is_whole =
     let n : Elem q = of (largest (three k)) in
     let whole : Elem q = vanishing (largest (three k)) γ in
     let n-some : n ≢ 𝟘 = size_not-zero (largest (three k)) (whole_size s) in
-    let size : of inverse.size_inverse.result ≡ reciprocal n =
-    of-result (reciprocal (of {q = q} inverse.largest.result)) (inverse.size_inverse.ensures q Q e)
-    ∙ ap (λ (n : ℕ). reciprocal (of {q = q} n)) inverse.largest.ensures in
-    let mean : of divided.multiply-mean.result ≡ whole ⊗ reciprocal n =
-    of-result (of s.args.whole ⊗ of inverse.size_inverse.result) (divided.multiply-mean.ensures q e)
+    let size : of c.size_inverse.result ≡ reciprocal n =
+    of-result (reciprocal (of {q = q} c.largest.result)) (c.size_inverse.ensures q Q e)
+    ∙ ap (λ (n : ℕ). reciprocal (of {q = q} n)) c.largest.ensures in
+    let mean : of c.multiply-mean.result ≡ whole ⊗ reciprocal n =
+    of-result (of s.args.whole ⊗ of c.size_inverse.result) (c.multiply-mean.ensures q e)
     ∙ ap₂ ◌⊗◌ (of-result whole is_whole) size in
-    let share : of divided.divide-share.result ≡ whole ⊗ reciprocal n ⊘ (x ⊗ y ⊗ z) =
-    of-result (of {q = q} divided.multiply-mean.result ⊘ of m.multiply-product.result) (divided.divide-share.ensures q e)
+    let share : of c.divide-share.result ≡ whole ⊗ reciprocal n ⊘ (x ⊗ y ⊗ z) =
+    of-result (of {q = q} c.multiply-mean.result ⊘ of m.multiply-product.result) (c.divide-share.ensures q e)
     ∙ ap₂ ◌⊘◌ mean (product_is m q e) in
     let other : (size w : ℕ) (own others : Elem q) → of {q = q} w ≡ others → own ≢ 𝟘 → others ≢ 𝟘 → x ⊗ y ⊗ z ≡ own ⊗ others
     → own ≡ vanishing size γ
-    → (of size ⊗ of divided.divide-share.result ⊗ of w).word ≡ (of size ⊗ whole ⊘ (n ⊗ vanishing size γ)).word =
+    → (of size ⊗ of c.divide-share.result ⊗ of w).word ≡ (of size ⊗ whole ⊘ (n ⊗ vanishing size γ)).word =
     λ size w own others is-others own-some others-some split is-own.
     ap (λ (u : Elem q). u.word)
     (ap₂ (λ (u w : Elem q). of size ⊗ u ⊗ w) share is-others

@@ -11,9 +11,7 @@ beside words asked = told asked.number asked.position (words, asked.result)
 
 pub returns-in-Judged : goal.returns-in-Judged
 returns-in-Judged c =
-    let at-into-words = c in
-    let at_told = at-into-words in
-    ap₂ beside (rw at_told.in-Judged.is at-into-words.into_words.ensures) c.give_verdict.ensures
+    ap₂ beside (rw c.in-Judged.is c.into_words.ensures) c.give_verdict.ensures
 
 pub returns-in-Refused : goal.returns-in-Refused
 returns-in-Refused c = ap₂ beside (rw c.in-Refused.is) c.give_verdict-in-Refused.ensures

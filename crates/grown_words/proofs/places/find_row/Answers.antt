@@ -48,12 +48,11 @@ row_end-requires c =
 
 pub returns : goal.returns
 returns c =
-    let t = c in
-    let a = t.args in
-    let last : t.loop-i.i ≡ a.row = omega arith in
-    let begun : t.loop-i.start ≡ row_start a.circuit.now a.matrix a.row =
-    t.loop-i.invariant.1 ∙ ap (row_start a.circuit.now a.matrix) last in (
+    let a = c.args in
+    let last : c.loop-i.i ≡ a.row = omega arith in
+    let begun : c.loop-i.start ≡ row_start a.circuit.now a.matrix a.row =
+    c.loop-i.invariant.1 ∙ ap (row_start a.circuit.now a.matrix) last in (
       begun,
-      c.row_end.ensures ∙ next a.circuit.now a.matrix a.row begun t.total_of-total.ensures
-          (ap (λ (k : ℕ). k + 1) t.total_place-counts.ensures),
+      c.row_end.ensures ∙ next a.circuit.now a.matrix a.row begun c.total_of-total.ensures
+          (ap (λ (k : ℕ). k + 1) c.total_place-counts.ensures),
     )

@@ -11,43 +11,33 @@ use Rattle.job.proofs.parts.put_whole.Goals as goal
 
 pub places_of-p-requires : goal.places_of-p-requires
 places_of-p-requires c =
-    let s = c in
-    omega (arith, s.requires.ws_len, whole_length s.args.ws.now)
+    omega (arith, c.requires.ws_len, whole_length c.args.ws.now)
 
 pub slice_bounds-challenges_in-count : goal.slice_bounds-challenges_in-count
 slice_bounds-challenges_in-count c =
-    let s = c in
-    omega (arith, whole_end_lem s.args.ws.now s.requires.ws_len _ c.places_of-p.ensures.placed)
+    omega (arith, whole_end_lem c.args.ws.now c.requires.ws_len _ c.places_of-p.ensures.placed)
 
 pub slice_bounds-challenges_in-start : goal.slice_bounds-challenges_in-start
 slice_bounds-challenges_in-start c =
-    let s = c in
-    omega (arith, whole_end_lem s.args.ws.now s.requires.ws_len _ c.places_of-p.ensures.placed)
+    omega (arith, whole_end_lem c.args.ws.now c.requires.ws_len _ c.places_of-p.ensures.placed)
 
 pub challenges_in-drawn-requires : goal.challenges_in-drawn-requires
 challenges_in-drawn-requires c =
-    let at_places = c in
-    let s = at_places in
-    omega (arith, nine_words s.args.ws.now s.requires.ws_len _ at_places.places_of-p.ensures.placed)
+    omega (arith, nine_words c.args.ws.now c.requires.ws_len _ c.places_of-p.ensures.placed)
 
 pub put_parts-requires : goal.put_parts-requires
 put_parts-requires c =
-    let at_places = c in
-    let s = at_places in
-    let ws = s.args.ws.now in
-    let placed = at_places.places_of-p.ensures.placed in
+    let ws = c.args.ws.now in
+    let placed = c.places_of-p.ensures.placed in
     record {
-      le_b = in_order ws s.requires.ws_len _ placed;
-      end_value = lists_agree ws s.requires.ws_len _ placed s.requires.ws_value;
+      le_b = in_order ws c.requires.ws_len _ placed;
+      end_value = lists_agree ws c.requires.ws_len _ placed c.requires.ws_value;
       most_proof_in_bounds = search rules;
     }
 
 pub returns : goal.returns
 returns c =
-    let at-challenges = c in
-    let at_places = at-challenges in
-    let s = at_places in
     written_as
     (ap (outcome_text baby_bear)
-    (job_in_parts s.args.ws.now s.requires.ws_len _ at_places.places_of-p.ensures.placed _ at-challenges.challenges_in-drawn.ensures))
+    (job_in_parts c.args.ws.now c.requires.ws_len _ c.places_of-p.ensures.placed _ c.challenges_in-drawn.ensures))
     c.put_parts.ensures

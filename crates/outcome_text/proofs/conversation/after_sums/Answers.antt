@@ -11,33 +11,27 @@ use Rattle.outcome_text.proofs.conversation.after_sums.Goals as goal
 pub overflow_cast-due : goal.overflow_cast-due
 unfolding lengths
 overflow_cast-due c =
-    let n = c in
-    omega (arith, n.requires, ap (λ (l : MessageLengths). l.witness) n.message_lengths-due.ensures)
+    omega (arith, c.requires, ap (λ (l : MessageLengths). l.witness) c.message_lengths-due.ensures)
 
 pub overflow_cast-due-2 : goal.overflow_cast-due-2
 unfolding lengths
 overflow_cast-due-2 c =
-    let n = c in
-    omega (arith, n.requires, ap (λ (l : MessageLengths). l.mask) n.message_lengths-due.ensures)
+    omega (arith, c.requires, ap (λ (l : MessageLengths). l.mask) c.message_lengths-due.ensures)
 
 pub overflow_cast-due-3 : goal.overflow_cast-due-3
 unfolding lengths
 overflow_cast-due-3 c =
-    let n = c in
-    omega (arith, n.well_formed, ap (λ (l : MessageLengths). l.row_quotient) n.message_lengths-due.ensures)
+    omega (arith, c.well_formed, ap (λ (l : MessageLengths). l.row_quotient) c.message_lengths-due.ensures)
 
 pub returns : goal.returns
 unfolding after_sums
 returns c =
-    let at-alpha = c in
-    let at_open = at-alpha in
-    let n = at_open in
-    let a = n.args in
-    let table = n.message_lengths-due.ensures in
+    let a = c.args in
+    let table = c.message_lengths-due.ensures in
     let next : Stepped → Session = λ s. s.session in
-    let opened = ap next (at_open.«open».ensures ∙ ap (λ s. open_step baby_bear s (sizes a.s) a.x.now) at_open.new.ensures) in
+    let opened = ap next (c.«open».ensures ∙ ap (λ s. open_step baby_bear s (sizes a.s) a.x.now) c.new.ensures) in
     let first =
     ap next
-    (at-alpha.alpha.ensures
+    (c.alpha.ensures
     ∙ (λ t. alpha_step baby_bear (opened t) (table t).witness (table t).mask (table t).row_quotient a.alpha)) in
     ap next (c.eta.ensures ∙ ap (λ s. eta_step baby_bear s (three a.sums) (three a.eta)) first)

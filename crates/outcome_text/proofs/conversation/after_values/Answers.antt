@@ -12,43 +12,36 @@ use Rattle.outcome_text.proofs.conversation.after_values.Goals as goal
 pub overflow_cast-due : goal.overflow_cast-due
 unfolding lengths
 overflow_cast-due c =
-    let n = c in
-    omega (arith, n.well_formed, ap (λ (l : MessageLengths). l.line_remainder) n.message_lengths-due.ensures)
+    omega (arith, c.well_formed, ap (λ (l : MessageLengths). l.line_remainder) c.message_lengths-due.ensures)
 
 pub overflow_cast-due-2 : goal.overflow_cast-due-2
 unfolding lengths
 overflow_cast-due-2 c =
-    let n = c in
-    omega (arith, n.well_formed, ap (λ (l : MessageLengths). l.line_quotient) n.message_lengths-due.ensures)
+    omega (arith, c.well_formed, ap (λ (l : MessageLengths). l.line_quotient) c.message_lengths-due.ensures)
 
 pub overflow_cast-remainders : goal.overflow_cast-remainders
 unfolding lengths
 overflow_cast-remainders c =
-    let n = c in
-    omega (arith, n.well_formed, ap (λ (l : MessageLengths). l.matrix_remainders.a) n.message_lengths-due.ensures)
+    omega (arith, c.well_formed, ap (λ (l : MessageLengths). l.matrix_remainders.a) c.message_lengths-due.ensures)
 
 pub overflow_cast-remainders-2 : goal.overflow_cast-remainders-2
 unfolding lengths
 overflow_cast-remainders-2 c =
-    let n = c in
-    omega (arith, n.well_formed, ap (λ (l : MessageLengths). l.matrix_remainders.b) n.message_lengths-due.ensures)
+    omega (arith, c.well_formed, ap (λ (l : MessageLengths). l.matrix_remainders.b) c.message_lengths-due.ensures)
 
 pub overflow_cast-remainders-3 : goal.overflow_cast-remainders-3
 unfolding lengths
 overflow_cast-remainders-3 c =
-    let n = c in
-    omega (arith, n.well_formed, ap (λ (l : MessageLengths). l.matrix_remainders.c) n.message_lengths-due.ensures)
+    omega (arith, c.well_formed, ap (λ (l : MessageLengths). l.matrix_remainders.c) c.message_lengths-due.ensures)
 
 pub returns : goal.returns
 unfolding after_values
 returns c =
-    let at-beta = c in
-    let n = at-beta in
-    let a = n.args in
-    let table = n.message_lengths-due.ensures in
+    let a = c.args in
+    let table = c.message_lengths-due.ensures in
     let next : Stepped → Session = λ s. s.session in
     let third =
     ap next
-    (at-beta.beta.ensures
+    (c.beta.ensures
     ∙ (λ t. beta_step baby_bear (session_meaning a.before) (table t).line_remainder (table t).line_quotient a.beta)) in
     ap next (c.delta.ensures ∙ (λ t. delta_step baby_bear (third t) (three a.values) (table t).matrix_remainders (three a.delta)))

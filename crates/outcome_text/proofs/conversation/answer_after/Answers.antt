@@ -13,19 +13,15 @@ use Rattle.outcome_text.proofs.conversation.answer_after.Goals as goal
 pub overflow_cast-due : goal.overflow_cast-due
 unfolding lengths largest
 overflow_cast-due c =
-    let n = c in
-    omega (arith, n.well_formed, ap (λ (l : MessageLengths). l.joined_quotient) n.message_lengths-due.ensures)
+    omega (arith, c.well_formed, ap (λ (l : MessageLengths). l.joined_quotient) c.message_lengths-due.ensures)
 
 pub returns : goal.returns
 unfolding answer_after
 returns c =
-    let at-ask = c in
-    let at-gamma = at-ask in
-    let n = at-gamma in
-    let a = n.args in
+    let a = c.args in
     let o = openings a.o a.index in
     let heard = ap (λ (s : Stepped). s.session)
-    (at-gamma.gamma.ensures
-    ∙ ap (λ (l : MessageLengths). gamma_step baby_bear (session_meaning a.before) l.joined_quotient a.gamma) n.message_lengths-due.ensures) in
-    let asked = ap (λ (s : Stepped). s.session) (at-ask.ask.ensures ∙ ap (λ s. ask_step baby_bear s o) heard) in
+    (c.gamma.ensures
+    ∙ ap (λ (l : MessageLengths). gamma_step baby_bear (session_meaning a.before) l.joined_quotient a.gamma) c.message_lengths-due.ensures) in
+    let asked = ap (λ (s : Stepped). s.session) (c.ask.ensures ∙ ap (λ s. ask_step baby_bear s o) heard) in
     ap (λ (s : Stepped). s.answer) (c.commit.ensures ∙ ap (λ s. commit_step baby_bear s o) asked)

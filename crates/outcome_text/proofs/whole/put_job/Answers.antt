@@ -29,10 +29,9 @@ refusal s =
 pub put_proof-requires : goal.put_proof-requires
 unfolding openings_call
 put_proof-requires c =
-    let at-openings = c in
     let found =
-    judged-done (refusal (goal.at.put_proof-requires at-openings).Start) _
-    (sym at-openings.openings-opened.ensures ∙ ap openings_meaning c.in-Value.is) in
+    judged-done (refusal (goal.at.put_proof-requires c).Start) _
+    (sym c.openings-opened.ensures ∙ ap openings_meaning c.in-Value.is) in
     record {
       free_job = record { none-refused = found.0 };
       most_proof_in_bounds = search rules;
@@ -41,20 +40,16 @@ put_proof-requires c =
 pub returns-in-Refused : goal.returns-in-Refused
 unfolding openings_call
 returns-in-Refused c =
-    let at-opened = c in
-    let at-openings = at-opened in
-    let s = (goal.at.returns-in-Refused at-openings).Start in
+    let s = (goal.at.returns-in-Refused c).Start in
     let found =
-    judged-refused (refusal s) _ (sym at-openings.openings-opened.ensures ∙ ap openings_meaning at-opened.in-Refused.is) in
+    judged-refused (refusal s) _ (sym c.openings-opened.ensures ∙ ap openings_meaning c.in-Refused.is) in
     written_as (refused_text_lem (input s) s.args.drawn s.requires.ec_value found) c.put_refused.ensures.written
 
 pub returns-in-Value : goal.returns-in-Value
 unfolding openings_call true_openings proof
 returns-in-Value c =
-    let at-opened2 = c in
-    let at-openings = at-opened2 in
-    let s = (goal.at.returns-in-Value at-openings).Start in
+    let s = (goal.at.returns-in-Value c).Start in
     let found =
-    judged-done (refusal s) _ (sym at-openings.openings-opened.ensures ∙ ap openings_meaning at-opened2.in-Value.is) in
+    judged-done (refusal s) _ (sym c.openings-opened.ensures ∙ ap openings_meaning c.in-Value.is) in
     written_as (free_text (input s) s.args.drawn s.requires.ec_value _ _ (record { none-refused = found.0 }) (sym found.1))
     c.put_proof.ensures.written

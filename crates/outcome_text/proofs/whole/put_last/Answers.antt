@@ -31,10 +31,9 @@ slice_bounds-public_words_into-end c = lent_length 1024 (size_bound _ c.requires
 
 pub public_words_into-requires : goal.public_words_into-requires
 public_words_into-requires c =
-    let start = c in
-    let given = start.requires.c_value in (
+    let given = c.requires.c_value in (
       size_quotient_positive _ _ given.1 given.0 given.2,
-      public_within start.args.z.now _ given.0 given.1 given.2 given.3 (size_bound _ given.1),
+      public_within c.args.z.now _ given.0 given.1 given.2 given.3 (size_bound _ given.1),
     )
 
 pub slice_bounds-x-end-2 : goal.slice_bounds-x-end-2
@@ -52,20 +51,16 @@ last_answer-answer-requires c = size_bound _ c.requires.c_value.0
 
 pub returns : goal.returns
 returns c =
-    let at-last-answer = c in
-    let at-arrays = at-last-answer in
-    let at-public-words-into = at-arrays in
-    let start = at-public-words-into in
-    let call = at-public-words-into.public_words_into in
-    let a = start.args in
-    let within : a.s.x ≤ 1024 = size_bound _ start.requires.c_value.1 in
+    let call = c.public_words_into in
+    let a = c.args in
+    let within : a.s.x ≤ 1024 = size_bound _ c.requires.c_value.1 in
     let public =
     back_is 1024 within call.new.out call.auto.out ∙ call.ensures
     ∙ ap (λ (n : ℕ). tabulate n (λ i. get_or a.z.now (i * (a.s.c / a.s.x)) 0)) (sym (lent_length 1024 within)) in
     printed_as
     (ap answer_text
-    (at-last-answer.last_answer-answer.ensures
+    (c.last_answer-answer.ensures
     ∙ (λ t.
     last_answer (sizes a.s) (lengths (sizes a.s)) (public t) a.drawn (three a.sums) (three a.values)
-    (openings a.o (at-arrays.arrays.ensures t)))))
+    (openings a.o (c.arrays.ensures t)))))
     c.put_answer.ensures

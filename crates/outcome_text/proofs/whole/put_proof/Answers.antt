@@ -32,28 +32,22 @@ sums-sums-requires c =
 
 pub put_third-third-requires : goal.put_third-third-requires
 put_third-third-requires c =
-    let at-put-three = c in
-    let at-put-first = at-put-three in
-    let s = (goal.at.put_third-third-requires at-put-first).Start in
-    let f = at-put-first.put_first-first.ensures in
-    let g = at-put-three.put_three-second.ensures in record {
+    let s = (goal.at.put_third-third-requires c).Start in
+    let f = c.put_first-first.ensures in
+    let g = c.put_three-second.ensures in record {
       free = third_free (input s) s.args.drawn s.requires.free_job;
       most_line_in_bounds = omega (arith, s.requires.most_proof_in_bounds, printed_place f, printed_length f, printed_place g, printed_length g);
     }
 
 pub put_rest-requires : goal.put_rest-requires
 put_rest-requires c =
-    let at-put-third = c in
-    let at-put-three = at-put-third in
-    let at-put-first = at-put-three in
-    let s = at-put-first in
-    let f = at-put-first.put_first-first.ensures in
-    let g = at-put-three.put_three-second.ensures in
-    let h = at-put-third.put_third-third.ensures in record {
-      free_job = s.requires.free_job;
+    let f = c.put_first-first.ensures in
+    let g = c.put_three-second.ensures in
+    let h = c.put_third-third.ensures in record {
+      free_job = c.requires.free_job;
       most_rest_in_bounds = omega (
         arith,
-        s.requires.most_proof_in_bounds,
+        c.requires.most_proof_in_bounds,
         printed_place f,
         printed_length f,
         printed_place g,
@@ -66,17 +60,13 @@ put_rest-requires c =
 pub returns : goal.returns
 unfolding stages_text
 returns c =
-    let at-put-third = c in
-    let at-put-three = at-put-third in
-    let at-sums = at-put-three in
-    let at-put-first = at-sums in
-    let s = (goal.at.returns at-put-first).Start in
+    let s = (goal.at.returns c).Start in
     let a = s.args in
     let d = a.drawn in
-    let σ = at-sums.sums-sums.ensures in
+    let σ = c.sums-sums.ensures in
     let whole =
-    printed_then at-put-first.put_first-first.ensures
-    (printed_then at-put-three.put_three-second.ensures (printed_then at-put-third.put_third-third.ensures c.put_rest.ensures)) in
+    printed_then c.put_first-first.ensures
+    (printed_then c.put_three-second.ensures (printed_then c.put_third-third.ensures c.put_rest.ensures)) in
     printed_within
     (printed_as
     (λ t.

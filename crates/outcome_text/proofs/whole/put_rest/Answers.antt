@@ -30,9 +30,8 @@ put_fourth-fourth-requires c =
 
 pub put_fifth-last-requires : goal.put_fifth-last-requires
 put_fifth-last-requires c =
-    let four = c in
-    let s = (goal.at.put_fifth-last-requires four).Start in
-    let f = four.put_fourth-fourth.ensures.printed in
+    let s = (goal.at.put_fifth-last-requires c).Start in
+    let f = c.put_fourth-fourth.ensures.printed in
     record {
       free = fifth_free (input s) s.args.drawn s.requires.free_job;
       most_line_in_bounds = omega (arith, s.requires.most_rest_in_bounds, printed_place f, printed_length f);
@@ -42,10 +41,9 @@ pub put_last-requires : goal.put_last-requires
 unfolding sizes_of circuit_of
 put_last-requires c =
     let k = c.sizes_of-s in
-    let five = c in
-    let s = (goal.at.put_last-requires five).Start in
-    let f = five.put_fourth-fourth.ensures.printed in
-    let h = five.put_fifth-last.ensures in
+    let s = (goal.at.put_last-requires c).Start in
+    let f = c.put_fourth-fourth.ensures.printed in
+    let h = c.put_fifth-last.ensures in
     let F = fitting (input s) s.requires.free_job in
     let columns : k.result.c ≡ s.args.c = ap (λ (t : Sizes). t.|C|) k.ensures in
     let public : k.result.x ≡ s.args.x = ap (λ (t : Sizes). t.|X|) k.ensures in record {
@@ -56,14 +54,12 @@ put_last-requires c =
 pub returns : goal.returns
 unfolding rest_text
 returns c =
-    let at-sizes = c in
-    let five = at-sizes in
-    let s = (goal.at.returns five).Start in
+    let s = (goal.at.returns c).Start in
     let a = s.args in
     let d = a.drawn in
-    let f = five.put_fourth-fourth.ensures in
-    let k = at-sizes.sizes_of-s.ensures in
-    let whole = printed_then f.1 (printed_then five.put_fifth-last.ensures c.put_last.ensures) in
+    let f = c.put_fourth-fourth.ensures in
+    let k = c.sizes_of-s.ensures in
+    let whole = printed_then f.1 (printed_then c.put_fifth-last.ensures c.put_last.ensures) in
     printed_within
     (printed_as
     (λ t.

@@ -38,7 +38,7 @@ shape_fine : (c : Else-not-is_fine) → is_fine c.shape_fault-shape.result ≡ t
 shape_fine c = sym c.is_fine.ensures ∙ c.if-not-is_fine.false
 
 shape_free : (c : Else-not-is_fine) → let j = (goal.at.Else-not-is_fine c).After-shape_fault-shape in shape_refusal (given j) (map length (parts j)) (length (lent j)) ≡ none
-shape_free c = let j = c in fine_none j.shape_fault-shape.result j.shape_fault-shape.ensures (shape_fine c)
+shape_free c = fine_none c.shape_fault-shape.result c.shape_fault-shape.ensures (shape_fine c)
 
 shape : (c : Else-not-is_fine) → let j = (goal.at.Else-not-is_fine c).After-shape_fault-shape in Shaped (given j) (map length (parts j)) (length (lent j))
 shape c = let j = (goal.at.Else-not-is_fine c).After-shape_fault-shape in shaped (given j) (map length (parts j)) (length (lent j)) refl (shape_free c)

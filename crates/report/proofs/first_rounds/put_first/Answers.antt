@@ -37,34 +37,29 @@ slice_bounds-first_round-end-2 c = lent_length 1024 (room (goal.at.slice_bounds-
 
 pub slice_bounds-witness-end-2 : goal.slice_bounds-witness-end-2
 slice_bounds-witness-end-2 c =
-    let f = c in
-    back_holds 1024 (room (goal.at.slice_bounds-witness-end-2 f).After-lengths_of-due).witness_most f.first_round.new.witness
-    f.first_round.auto.witness
+    back_holds 1024 (room (goal.at.slice_bounds-witness-end-2 c).After-lengths_of-due).witness_most c.first_round.new.witness
+    c.first_round.auto.witness
 
 pub slice_bounds-put_first_lines-end : goal.slice_bounds-put_first_lines-end
 slice_bounds-put_first_lines-end c =
-    let f = c in
-    back_length 1024 (room (goal.at.slice_bounds-put_first_lines-end f).After-lengths_of-due).witness_most f.first_round.new.witness
-    f.first_round.auto.witness
+    back_length 1024 (room (goal.at.slice_bounds-put_first_lines-end c).After-lengths_of-due).witness_most c.first_round.new.witness
+    c.first_round.auto.witness
 
 pub slice_bounds-quotient-end-2 : goal.slice_bounds-quotient-end-2
 slice_bounds-quotient-end-2 c =
-    let f = c in
-    back_holds 1024 (room (goal.at.slice_bounds-quotient-end-2 f).After-lengths_of-due).row_quotient_most f.first_round.new.row_quotient
-    f.first_round.auto.row_quotient
+    back_holds 1024 (room (goal.at.slice_bounds-quotient-end-2 c).After-lengths_of-due).row_quotient_most c.first_round.new.row_quotient
+    c.first_round.auto.row_quotient
 
 pub slice_bounds-put_first_lines-end-2 : goal.slice_bounds-put_first_lines-end-2
 slice_bounds-put_first_lines-end-2 c =
-    let f = c in
-    back_length 1024 (room (goal.at.slice_bounds-put_first_lines-end-2 f).After-lengths_of-due).row_quotient_most f.first_round.new.row_quotient
-    f.first_round.auto.row_quotient
+    back_length 1024 (room (goal.at.slice_bounds-put_first_lines-end-2 c).After-lengths_of-due).row_quotient_most c.first_round.new.row_quotient
+    c.first_round.auto.row_quotient
 
 pub put_first_lines-requires : goal.put_first_lines-requires
 put_first_lines-requires c =
-    let f = c in
-    let last = f.first_round.new.1.1.1.1.1.1.1.1.1 in
-    let kept = f.first_round.auto.1.1.1.1.1.1.1.1.1 in
-    let n = (goal.at.put_first_lines-requires f).After-lengths_of-due in
+    let last = c.first_round.new.1.1.1.1.1.1.1.1.1 in
+    let kept = c.first_round.auto.1.1.1.1.1.1.1.1.1 in
+    let n = (goal.at.put_first_lines-requires c).After-lengths_of-due in
     let w = (room n).witness_most in
     let h = (room n).row_quotient_most in record {
       witness_len_bound = (
@@ -78,16 +73,15 @@ put_first_lines-requires c =
 pub returns : goal.returns
 unfolding first_text
 returns c =
-    let f = c in
-    let n = (goal.at.returns f).After-lengths_of-due in
-    let last = f.first_round.new.1.1.1.1.1.1.1.1.1 in
-    let kept = f.first_round.auto.1.1.1.1.1.1.1.1.1 in
+    let n = (goal.at.returns c).After-lengths_of-due in
+    let last = c.first_round.new.1.1.1.1.1.1.1.1.1 in
+    let kept = c.first_round.auto.1.1.1.1.1.1.1.1.1 in
     let w = (room n).witness_most in
     let h = (room n).row_quotient_most in
     let table = n.lengths_of-due.ensures in
     let done =
     first_done (input n) _ n.requires.free (sym (lent_length 1024 w) ∙ ap (λ (l : MessageLengths). l.witness) table)
-    (sym (lent_length 1024 h) ∙ ap (λ (l : MessageLengths). l.row_quotient) table) f.first_round.ensures in
+    (sym (lent_length 1024 h) ∙ ap (λ (l : MessageLengths). l.row_quotient) table) c.first_round.ensures in
     let witness = back_is 1024 w last.0 kept.0 ∙ ap (λ (p : List ℕ × List ℕ). p.0) done in
     let quotient = back_is 1024 h last.1.0 kept.1.0 ∙ ap (λ (p : List ℕ × List ℕ). p.1) done in
     printed_as (λ t. first_lines (witness t) n.args.m.now (quotient t)) c.put_first_lines.ensures

@@ -37,34 +37,29 @@ slice_bounds-third_round-end-2 c = lent_length 1024 (room (goal.at.slice_bounds-
 
 pub slice_bounds-remainder-end-2 : goal.slice_bounds-remainder-end-2
 slice_bounds-remainder-end-2 c =
-    let f = c in
-    back_holds 1024 (room (goal.at.slice_bounds-remainder-end-2 f).After-lengths_of-due).line_remainder_most f.third_round.new.remainder
-    f.third_round.auto.remainder
+    back_holds 1024 (room (goal.at.slice_bounds-remainder-end-2 c).After-lengths_of-due).line_remainder_most c.third_round.new.remainder
+    c.third_round.auto.remainder
 
 pub slice_bounds-put_third_lines-end : goal.slice_bounds-put_third_lines-end
 slice_bounds-put_third_lines-end c =
-    let f = c in
-    back_length 1024 (room (goal.at.slice_bounds-put_third_lines-end f).After-lengths_of-due).line_remainder_most f.third_round.new.remainder
-    f.third_round.auto.remainder
+    back_length 1024 (room (goal.at.slice_bounds-put_third_lines-end c).After-lengths_of-due).line_remainder_most c.third_round.new.remainder
+    c.third_round.auto.remainder
 
 pub slice_bounds-quotient-end-2 : goal.slice_bounds-quotient-end-2
 slice_bounds-quotient-end-2 c =
-    let f = c in
-    back_holds 1024 (room (goal.at.slice_bounds-quotient-end-2 f).After-lengths_of-due).line_quotient_most f.third_round.new.quotient
-    f.third_round.auto.quotient
+    back_holds 1024 (room (goal.at.slice_bounds-quotient-end-2 c).After-lengths_of-due).line_quotient_most c.third_round.new.quotient
+    c.third_round.auto.quotient
 
 pub slice_bounds-put_third_lines-end-2 : goal.slice_bounds-put_third_lines-end-2
 slice_bounds-put_third_lines-end-2 c =
-    let f = c in
-    back_length 1024 (room (goal.at.slice_bounds-put_third_lines-end-2 f).After-lengths_of-due).line_quotient_most f.third_round.new.quotient
-    f.third_round.auto.quotient
+    back_length 1024 (room (goal.at.slice_bounds-put_third_lines-end-2 c).After-lengths_of-due).line_quotient_most c.third_round.new.quotient
+    c.third_round.auto.quotient
 
 pub put_third_lines-requires : goal.put_third_lines-requires
 put_third_lines-requires c =
-    let f = c in
-    let last = f.third_round.new.1.1.1.1.1.1.1.1.1.1.1 in
-    let kept = f.third_round.auto.1.1.1.1.1.1.1.1.1.1.1 in
-    let n = (goal.at.put_third_lines-requires f).After-lengths_of-due in
+    let last = c.third_round.new.1.1.1.1.1.1.1.1.1.1.1 in
+    let kept = c.third_round.auto.1.1.1.1.1.1.1.1.1.1.1 in
+    let n = (goal.at.put_third_lines-requires c).After-lengths_of-due in
     let g = (room n).line_remainder_most in
     let h = (room n).line_quotient_most in record {
       remainder_len_bound = (part_order (back_length 1024 g last.0 kept.0) g, part_order (back_length 1024 h last.1.0 kept.1.0) h);
@@ -74,18 +69,17 @@ put_third_lines-requires c =
 pub returns : goal.returns
 unfolding third_text
 returns c =
-    let f = c in
-    let n = (goal.at.returns f).After-lengths_of-due in
+    let n = (goal.at.returns c).After-lengths_of-due in
     let a = n.args in
-    let last = f.third_round.new.1.1.1.1.1.1.1.1.1.1.1 in
-    let kept = f.third_round.auto.1.1.1.1.1.1.1.1.1.1.1 in
+    let last = c.third_round.new.1.1.1.1.1.1.1.1.1.1.1 in
+    let kept = c.third_round.auto.1.1.1.1.1.1.1.1.1.1.1 in
     let g = (room n).line_remainder_most in
     let h = (room n).line_quotient_most in
     let table = n.lengths_of-due.ensures in
     let done =
     third-done (input n) a.alpha (three a.eta) _ n.requires.free
     (sym (lent_length 1024 g) ∙ ap (λ (l : MessageLengths). l.line_remainder) table)
-    (sym (lent_length 1024 h) ∙ ap (λ (l : MessageLengths). l.line_quotient) table) f.third_round.ensures in
+    (sym (lent_length 1024 h) ∙ ap (λ (l : MessageLengths). l.line_quotient) table) c.third_round.ensures in
     let remainder = back_is 1024 g last.0 kept.0 ∙ ap (λ (p : List ℕ × List ℕ). p.0) done in
     let quotient = back_is 1024 h last.1.0 kept.1.0 ∙ ap (λ (p : List ℕ × List ℕ). p.1) done in
     printed_as (λ t. third_lines (remainder t) (quotient t)) c.put_third_lines.ensures

@@ -7,11 +7,9 @@ use Rattle.report.proofs.lines.put_answer.Goals as goal
 
 pub returns-in-Judged : goal.returns-in-Judged
 returns-in-Judged c =
-    let at-answer = c in
-    printed_as (sym (ap (λ a. answer_text (openings_answer_meaning a)) at-answer.in-Judged.is)) c.put_verdict.ensures
+    printed_as (sym (ap (λ a. answer_text (openings_answer_meaning a)) c.in-Judged.is)) c.put_verdict.ensures
 
 pub returns-in-Refused : goal.returns-in-Refused
 unfolding answer_text
 returns-in-Refused c =
-    let at-answer2 = c in
-    printed_as (sym (ap (λ a. answer_text (openings_answer_meaning a)) at-answer2.in-Refused.is)) c.put_refused.ensures
+    printed_as (sym (ap (λ a. answer_text (openings_answer_meaning a)) c.in-Refused.is)) c.put_refused.ensures

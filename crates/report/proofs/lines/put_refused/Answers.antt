@@ -23,16 +23,15 @@ put_number-placed-requires c =
     let b = c.put_bytes-named.ensures in
     let n = c.put_number-numbered.ensures in
     let w = c.wide in
-    let s = c in
     omega (
       arith,
-      s.requires,
+      c.requires,
       b.next,
       n.next,
       written-length b,
       written-length n,
       word-digits w.result w.ensures.1,
-      place_digits s.args.position (search rules),
+      place_digits c.args.position (search rules),
     )
 
 pub put_byte-requires : goal.put_byte-requires
@@ -41,10 +40,9 @@ put_byte-requires c =
     let n = c.put_number-numbered.ensures in
     let m = c.put_number-placed.ensures in
     let w = c.wide in
-    let s = c in
     omega (
       arith,
-      s.requires,
+      c.requires,
       b.next,
       n.next,
       m.next,
@@ -52,31 +50,26 @@ put_byte-requires c =
       written-length n,
       written-length m,
       word-digits w.result w.ensures.1,
-      place_digits s.args.position (search rules),
+      place_digits c.args.position (search rules),
     )
 
 pub returns : goal.returns
 unfolding refused_text line
 returns c =
-    let at-put-number2 = c in
-    let at-put-number = at-put-number2 in
-    let at_wide = at-put-number in
-    let at-put-bytes = at_wide in
-    let s = at-put-bytes in
-    let b = at-put-bytes.put_bytes-named.ensures in
-    let n = at-put-number.put_number-numbered.ensures in
-    let m = at-put-number2.put_number-placed.ensures in
-    let w = at_wide.wide in
+    let b = c.put_bytes-named.ensures in
+    let n = c.put_number-numbered.ensures in
+    let m = c.put_number-placed.ensures in
+    let w = c.wide in
     let numbered = written_as (ap number w.ensures.0) n in
     let whole = written_then b (written_then numbered (written_then m c.put_byte.ensures)) in
-    let first : length (decimal s.args.number) ≤ 10 = word-digits s.args.number (search rules) in
-    let second : length (decimal s.args.position) ≤ 20 = place_digits s.args.position (search rules) in
+    let first : length (decimal c.args.number) ≤ 10 = word-digits c.args.number (search rules) in
+    let second : length (decimal c.args.position) ≤ 20 = place_digits c.args.position (search rules) in
     record {
       written = whole;
       short =
           omega (
             arith,
-            length-append (decimal s.args.number) (number s.args.position ++ (newline ∷ [])),
-            length-append (decimal s.args.position) (newline ∷ []),
+            length-append (decimal c.args.number) (number c.args.position ++ (newline ∷ [])),
+            length-append (decimal c.args.position) (newline ∷ []),
           );
     }

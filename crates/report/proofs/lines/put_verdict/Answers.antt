@@ -17,32 +17,26 @@ returns-in-Accept c =
 pub returns-in-Row : goal.returns-in-Row
 unfolding answer_text
 returns-in-Row c =
-    let at-enum-told2 = c in
-    let at-verdict = at-enum-told2 in
     printed_as
     (sym
-    (ap (λ v. answer_text (Judged (verdict_meaning v))) at-verdict.in-Fails.is
-    ∙ ap (λ k. answer_text (Judged (Fails (check_of k)))) at-enum-told2.in-Row.is))
+    (ap (λ v. answer_text (Judged (verdict_meaning v))) c.in-Fails.is
+    ∙ ap (λ k. answer_text (Judged (Fails (check_of k)))) c.in-Row.is))
     (record { written = c.put_bytes-in-Row.ensures; short = omega arith })
 
 pub returns-in-Line : goal.returns-in-Line
 unfolding answer_text
 returns-in-Line c =
-    let at-enum-told3 = c in
-    let at-verdict = at-enum-told3 in
     printed_as
     (sym
-    (ap (λ v. answer_text (Judged (verdict_meaning v))) at-verdict.in-Fails.is
-    ∙ ap (λ k. answer_text (Judged (Fails (check_of k)))) at-enum-told3.in-Line.is))
+    (ap (λ v. answer_text (Judged (verdict_meaning v))) c.in-Fails.is
+    ∙ ap (λ k. answer_text (Judged (Fails (check_of k)))) c.in-Line.is))
     (record { written = c.put_bytes-in-Line.ensures; short = omega arith })
 
 pub returns-in-Matrix : goal.returns-in-Matrix
 unfolding answer_text
 returns-in-Matrix c =
-    let at-enum-told4 = c in
-    let at-verdict = at-enum-told4 in
     printed_as
     (sym
-    (ap (λ v. answer_text (Judged (verdict_meaning v))) at-verdict.in-Fails.is
-    ∙ ap (λ k. answer_text (Judged (Fails (check_of k)))) at-enum-told4.in-Matrix.is))
+    (ap (λ v. answer_text (Judged (verdict_meaning v))) c.in-Fails.is
+    ∙ ap (λ k. answer_text (Judged (Fails (check_of k)))) c.in-Matrix.is))
     (record { written = c.put_bytes-in-Matrix.ensures; short = omega arith })

@@ -30,29 +30,26 @@ slice_bounds-fifth_round-end c = lent_length 1024 (room (goal.at.slice_bounds-fi
 
 pub slice_bounds-quotient-end-2 : goal.slice_bounds-quotient-end-2
 slice_bounds-quotient-end-2 c =
-    let f = c in
-    back_holds 1024 (room (goal.at.slice_bounds-quotient-end-2 f).After-lengths_of-n).joined_quotient_most f.fifth_round.new.out
-    f.fifth_round.auto.out
+    back_holds 1024 (room (goal.at.slice_bounds-quotient-end-2 c).After-lengths_of-n).joined_quotient_most c.fifth_round.new.out
+    c.fifth_round.auto.out
 
 pub put_line-requires : goal.put_line-requires
 put_line-requires c =
-    let f = c in
-    let n = (goal.at.put_line-requires f).After-lengths_of-n in
+    let n = (goal.at.put_line-requires c).After-lengths_of-n in
     let h = (room n).joined_quotient_most in
-    let long = back_length 1024 h f.fifth_round.new.out f.fifth_round.auto.out in
+    let long = back_length 1024 h c.fifth_round.new.out c.fifth_round.auto.out in
     omega (arith, n.requires.most_line_in_bounds, h, long)
 
 pub returns : goal.returns
 unfolding fifth_text
 returns c =
-    let f = c in
-    let n = (goal.at.returns f).After-lengths_of-n in
+    let n = (goal.at.returns c).After-lengths_of-n in
     let a = n.args in
-    let last = f.fifth_round.new.out in
-    let kept = f.fifth_round.auto.out in
+    let last = c.fifth_round.new.out in
+    let kept = c.fifth_round.auto.out in
     let h = (room n).joined_quotient_most in
     let lent = sym (lent_length 1024 h) ∙ ap (λ (l : MessageLengths). l.joined_quotient) n.lengths_of-n.ensures in
     let done =
-    fifth-done (input n) a.alpha (three a.eta) a.beta (three a.delta) _ n.requires.free lent f.fifth_round.ensures in
+    fifth-done (input n) a.alpha (three a.eta) a.beta (three a.delta) _ n.requires.free lent c.fifth_round.ensures in
     printed_within (printed_as (ap (section 10) (back_is 1024 h last kept ∙ done)) c.put_line.ensures)
     (omega (arith, h, back_length 1024 h last kept))

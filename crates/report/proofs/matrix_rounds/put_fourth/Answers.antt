@@ -46,46 +46,39 @@ slice_bounds-fourth_round-end-3 c = lent_length 1024 (room (goal.at.slice_bounds
 
 pub slice_bounds-ga-end-2 : goal.slice_bounds-ga-end-2
 slice_bounds-ga-end-2 c =
-    let f = c in
-    back_holds 1024 (room (goal.at.slice_bounds-ga-end-2 f).After-lengths_of).a_most f.fourth_round-answer.new.ga
-    f.fourth_round-answer.auto.ga
+    back_holds 1024 (room (goal.at.slice_bounds-ga-end-2 c).After-lengths_of).a_most c.fourth_round-answer.new.ga
+    c.fourth_round-answer.auto.ga
 
 pub slice_bounds-put_fourth_lines-end : goal.slice_bounds-put_fourth_lines-end
 slice_bounds-put_fourth_lines-end c =
-    let f = c in
-    back_length 1024 (room (goal.at.slice_bounds-put_fourth_lines-end f).After-lengths_of).a_most f.fourth_round-answer.new.ga
-    f.fourth_round-answer.auto.ga
+    back_length 1024 (room (goal.at.slice_bounds-put_fourth_lines-end c).After-lengths_of).a_most c.fourth_round-answer.new.ga
+    c.fourth_round-answer.auto.ga
 
 pub slice_bounds-gb-end-2 : goal.slice_bounds-gb-end-2
 slice_bounds-gb-end-2 c =
-    let f = c in
-    back_holds 1024 (room (goal.at.slice_bounds-gb-end-2 f).After-lengths_of).b_most f.fourth_round-answer.new.gb
-    f.fourth_round-answer.auto.gb
+    back_holds 1024 (room (goal.at.slice_bounds-gb-end-2 c).After-lengths_of).b_most c.fourth_round-answer.new.gb
+    c.fourth_round-answer.auto.gb
 
 pub slice_bounds-put_fourth_lines-end-2 : goal.slice_bounds-put_fourth_lines-end-2
 slice_bounds-put_fourth_lines-end-2 c =
-    let f = c in
-    back_length 1024 (room (goal.at.slice_bounds-put_fourth_lines-end-2 f).After-lengths_of).b_most f.fourth_round-answer.new.gb
-    f.fourth_round-answer.auto.gb
+    back_length 1024 (room (goal.at.slice_bounds-put_fourth_lines-end-2 c).After-lengths_of).b_most c.fourth_round-answer.new.gb
+    c.fourth_round-answer.auto.gb
 
 pub slice_bounds-gc-end-2 : goal.slice_bounds-gc-end-2
 slice_bounds-gc-end-2 c =
-    let f = c in
-    back_holds 1024 (room (goal.at.slice_bounds-gc-end-2 f).After-lengths_of).c_most f.fourth_round-answer.new.gc
-    f.fourth_round-answer.auto.gc
+    back_holds 1024 (room (goal.at.slice_bounds-gc-end-2 c).After-lengths_of).c_most c.fourth_round-answer.new.gc
+    c.fourth_round-answer.auto.gc
 
 pub slice_bounds-put_fourth_lines-end-3 : goal.slice_bounds-put_fourth_lines-end-3
 slice_bounds-put_fourth_lines-end-3 c =
-    let f = c in
-    back_length 1024 (room (goal.at.slice_bounds-put_fourth_lines-end-3 f).After-lengths_of).c_most f.fourth_round-answer.new.gc
-    f.fourth_round-answer.auto.gc
+    back_length 1024 (room (goal.at.slice_bounds-put_fourth_lines-end-3 c).After-lengths_of).c_most c.fourth_round-answer.new.gc
+    c.fourth_round-answer.auto.gc
 
 pub put_fourth_lines-place-requires : goal.put_fourth_lines-place-requires
 put_fourth_lines-place-requires c =
-    let f = c in
-    let last = f.fourth_round-answer.new.1.1.1.1.1.1.1.1.1.1.1.1 in
-    let kept = f.fourth_round-answer.auto.1.1.1.1.1.1.1.1.1.1.1.1 in
-    let n = (goal.at.put_fourth_lines-place-requires f).After-lengths_of in
+    let last = c.fourth_round-answer.new.1.1.1.1.1.1.1.1.1.1.1.1 in
+    let kept = c.fourth_round-answer.auto.1.1.1.1.1.1.1.1.1.1.1.1 in
+    let n = (goal.at.put_fourth_lines-place-requires c).After-lengths_of in
     let R = room n in record {
       ga_len_bound = (
         part_order (back_length 1024 R.a_most last.0 kept.0) R.a_most,
@@ -98,19 +91,17 @@ put_fourth_lines-place-requires c =
 pub returns : goal.returns
 unfolding fourth_text
 returns c =
-    let z = c in
-    let f = z in
-    let n = (goal.at.returns f).After-lengths_of in
+    let n = (goal.at.returns c).After-lengths_of in
     let a = n.args in
-    let last = f.fourth_round-answer.new.1.1.1.1.1.1.1.1.1.1.1.1 in
-    let kept = f.fourth_round-answer.auto.1.1.1.1.1.1.1.1.1.1.1.1 in
+    let last = c.fourth_round-answer.new.1.1.1.1.1.1.1.1.1.1.1.1 in
+    let kept = c.fourth_round-answer.auto.1.1.1.1.1.1.1.1.1.1.1.1 in
     let R = room n in
     let table = ap (λ (l : MessageLengths). l.matrix_remainders) n.lengths_of.ensures in
     let lent =
     three_same (due (input n)).matrix_remainders (sym (lent_length 1024 R.a_most) ∙ ap (λ (l : Three ℕ). l.a) table)
     (sym (lent_length 1024 R.b_most) ∙ ap (λ (l : Three ℕ). l.b) table) (sym (lent_length 1024 R.c_most) ∙ ap (λ (l : Three ℕ). l.c) table) in
-    let done = fourth-done (input n) a.alpha (three a.eta) a.beta _ n.requires.free lent f.fourth_round-answer.ensures in
-    let values = z.words_or_zeros-values.ensures ∙ done.0 in
+    let done = fourth-done (input n) a.alpha (three a.eta) a.beta _ n.requires.free lent c.fourth_round-answer.ensures in
+    let values = c.words_or_zeros-values.ensures ∙ done.0 in
     let ga = back_is 1024 R.a_most last.0 kept.0 ∙ ap (λ (g : Three (List ℕ)). g.a) done.1 in
     let gb = back_is 1024 R.b_most last.1.0 kept.1.0 ∙ ap (λ (g : Three (List ℕ)). g.b) done.1 in
     let gc = back_is 1024 R.c_most last.1.1.0 kept.1.1.0 ∙ ap (λ (g : Three (List ℕ)). g.c) done.1 in

@@ -7,7 +7,6 @@ use Rattle.report.proofs.messages.sums.Goals as goal
 
 pub returns : goal.returns
 returns c =
-    let s = c in
-    let a = s.args in
+    let a = c.args in
     let i : ProverInput = prover_input a.r a.c a.x a.ea.now a.eb.now a.ec.now a.z.now a.mask a.m.now in
-    c.words_or_zeros.ensures ∙ second-done i a.alpha s.requires c.second_round.ensures
+    c.words_or_zeros.ensures ∙ second-done i a.alpha c.requires c.second_round.ensures

@@ -29,19 +29,16 @@ judgement c = c.judge_blind-fault.ensures baby_bear refl
 
 pub blind_into-requires : goal.blind_into-requires
 blind_into-requires c =
-    let d = c in
-    let j = (goal.at.blind_into-requires d).After-judge_blind-fault in
+    let j = (goal.at.blind_into-requires c).After-judge_blind-fault in
     let a = j.args in
     call_fits baby_bear a.r a.c a.x a.ea.now a.eb.now a.ec.now a.z.now (three a.rho) a.blindedA.now
-    a.blindedB.now a.blindedC.now a.blindedZ.now (matched d.in-Fine.is (judgement j))
+    a.blindedB.now a.blindedC.now a.blindedZ.now (matched c.in-Fine.is (judgement j))
 
 pub returns-in-Fine : goal.returns-in-Fine
 unfolding blind_call
 returns-in-Fine c =
-    let filled = c in
-    let d = filled in
-    let j = (goal.at.returns-in-Fine d).After-judge_blind-fault in
-    fill_done (lists (goal.at.After-judge_blind-fault j).Start, j.args.blindedZ.now) (matched d.in-Fine.is (judgement j)) filled.blind_into.ensures
+    let j = (goal.at.returns-in-Fine c).After-judge_blind-fault in
+    fill_done (lists (goal.at.After-judge_blind-fault j).Start, j.args.blindedZ.now) (matched c.in-Fine.is (judgement j)) c.blind_into.ensures
 
 pub returns-in-Refused : goal.returns-in-Refused
 unfolding blind_call

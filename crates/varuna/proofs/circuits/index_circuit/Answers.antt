@@ -22,15 +22,11 @@ handed_on w ea eb ec a b c = λ t. given (get_or w 0 0) (get_or w 1 0) (get_or w
 pub returns : goal.returns
 unfolding grown_index_call
 returns c =
-    let i = c in
-    let third = i in
-    let second = third in
-    let first = second in
-    let a = first.args in
+    let a = c.args in
     let w = a.circuit.now in
     let before : Three (Index (List ℕ)) =
     twelve a.rowA.now a.colA.now a.rowcolA.now a.rowcolvalA.now a.rowB.now a.colB.now a.rowcolB.now
     a.rowcolvalB.now a.rowC.now a.colC.now a.rowcolC.now a.rowcolvalC.now in
-    i.index.ensures
+    c.index.ensures
     ∙ ap (λ (k : CircuitWords). fills (index_call baby_bear k (map_three (map_index length) before)) before)
-    (handed_on w _ _ _ first.matrix_entries.ensures second.matrix_entries-2.ensures third.matrix_entries-3.ensures)
+    (handed_on w _ _ _ c.matrix_entries.ensures c.matrix_entries-2.ensures c.matrix_entries-3.ensures)

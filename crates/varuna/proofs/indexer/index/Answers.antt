@@ -90,12 +90,10 @@ shape_of-rowcolvalC c = c.index_into.auto.rowcolvalC
 pub returns-in-Fine : goal.returns-in-Fine
 unfolding circuit_of
 returns-in-Fine c =
-    let v = c in
-    let d = v in
-    let j = (goal.at.returns-in-Fine d).After-judge_index-fault in
+    let j = (goal.at.returns-in-Fine c).After-judge_index-fault in
     let k : Circuit = circuit_of (circuit (goal.at.After-judge_index-fault j).Start) in
-    let made = v.index_into.ensures baby_bear known-prime k refl refl refl in
-    index-done (circuit (goal.at.After-judge_index-fault j).Start) (lent (goal.at.After-judge_index-fault j).Start) j.judge_index-fault.result (judgement j) d.in-Fine.is
+    let made = c.index_into.ensures baby_bear known-prime k refl refl refl in
+    index-done (circuit (goal.at.After-judge_index-fault j).Start) (lent (goal.at.After-judge_index-fault j).Start) j.judge_index-fault.result (judgement j) c.in-Fine.is
     made.of-a made.of-b made.of_c
 
 pub returns-in-Refused : goal.returns-in-Refused

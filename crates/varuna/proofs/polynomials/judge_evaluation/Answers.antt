@@ -15,23 +15,20 @@ returns-then-f-gt-MAX_WORDS c = simp (lt-leb _ _ c.if-f-gt-MAX_WORDS.true)
 
 pub returns-then-not-is_fine : goal.returns-then-not-is_fine
 returns-then-not-is_fine c =
-    let s = c in
-    evaluation_stops baby_bear (length s.args.f.now) s.args.f.now (s.args.y ∷ []) c.if-f-gt-MAX_WORDS.false
+    evaluation_stops baby_bear (length c.args.f.now) c.args.f.now (c.args.y ∷ []) c.if-f-gt-MAX_WORDS.false
     c.judge_words-fault.result c.judge_words-fault.ensures
     (sym c.is_fine.ensures ∙ c.if-not-is_fine.true)
 
 pub returns-then-y-lt-MODULE_PRIME : goal.returns-then-y-lt-MODULE_PRIME
 returns-then-y-lt-MODULE_PRIME c =
-    let s = c in
-    evaluation_goes baby_bear (length s.args.f.now) s.args.f.now (s.args.y ∷ []) c.if-f-gt-MAX_WORDS.false
+    evaluation_goes baby_bear (length c.args.f.now) c.args.f.now (c.args.y ∷ []) c.if-f-gt-MAX_WORDS.false
     c.judge_words-fault.result c.judge_words-fault.ensures
     (sym c.is_fine.ensures ∙ c.if-not-is_fine.false)
-    (ap (λ (t : Bool). refuse 6 (length s.args.f.now) (t ∷ [])) (sym (lt-ltb _ _ c.if-y-lt-MODULE_PRIME.true)))
+    (ap (λ (t : Bool). refuse 6 (length c.args.f.now) (t ∷ [])) (sym (lt-ltb _ _ c.if-y-lt-MODULE_PRIME.true)))
 
 pub returns-else-y-lt-MODULE_PRIME : goal.returns-else-y-lt-MODULE_PRIME
 returns-else-y-lt-MODULE_PRIME c =
-    let s = c in
-    evaluation_goes baby_bear (length s.args.f.now) s.args.f.now (s.args.y ∷ []) c.if-f-gt-MAX_WORDS.false
+    evaluation_goes baby_bear (length c.args.f.now) c.args.f.now (c.args.y ∷ []) c.if-f-gt-MAX_WORDS.false
     c.judge_words-fault.result c.judge_words-fault.ensures
     (sym c.is_fine.ensures ∙ c.if-not-is_fine.false)
-    (ap (λ (t : Bool). refuse 6 (length s.args.f.now) (t ∷ [])) (sym (le-ltb _ _ c.if-y-lt-MODULE_PRIME.false)))
+    (ap (λ (t : Bool). refuse 6 (length c.args.f.now) (t ∷ [])) (sym (le-ltb _ _ c.if-y-lt-MODULE_PRIME.false)))

@@ -28,11 +28,9 @@ root_of-requires c =
 pub returns : goal.returns
 unfolding domain_call size_refusal list_refusal
 returns c =
-    let d = c in
-    let s = d in
-    let fine : first (size_refusal (is_size s.args.n ∷ []) ∷ list_refusal (eqb (length s.args.out.now) s.args.n ∷ []) ∷ []) ≡ none =
-    simp (sym d.is_size.ensures ∙ d.if-not-is_size.false, eq-eqb _ _ d.if-out-n.false) in
-    fill_done s.args.out.now fine
+    let fine : first (size_refusal (is_size c.args.n ∷ []) ∷ list_refusal (eqb (length c.args.out.now) c.args.n ∷ []) ∷ []) ≡ none =
+    simp (sym c.is_size.ensures ∙ c.if-not-is_size.false, eq-eqb _ _ c.if-out-n.false) in
+    fill_done c.args.out.now fine
     (c.fill_powers.ensures baby_bear refl
-    ∙ powers-domain baby_bear s.args.n _ _ d.if-out-n.false
+    ∙ powers-domain baby_bear c.args.n _ _ c.if-out-n.false
     (c.root_of.ensures baby_bear (record { is_module = refl; value = refl })))

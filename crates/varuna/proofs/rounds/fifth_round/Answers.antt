@@ -92,8 +92,7 @@ pub returns-in-Fine : goal.returns-in-Fine
 unfolding fifth_round_call lengths sizes_of circuit_of largest
 returns-in-Fine c =
     let d = (goal.at.returns-in-Fine c).In-Fine in
-    let s = d in
-    let a = s.args in
+    let a = d.args in
     let F = fits d in
     let k : Circuit = circuit_of (given a.r a.c a.x a.ea.now a.eb.now a.ec.now) in
     fill_done a.out.now (matched d.in-Fine.is (judgement (goal.at.In-Fine d).After-judge_round-fault))

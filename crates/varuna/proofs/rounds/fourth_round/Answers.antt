@@ -100,14 +100,12 @@ shape_of-gc c = c.values_into.auto.gc
 pub returns-in-Fine : goal.returns-in-Fine
 unfolding fourth_round_call lengths sizes_of circuit_of
 returns-in-Fine c =
-    let v = c in
-    let d = (goal.at.returns-in-Fine v).In-Fine in
-    let s = d in
-    let a = s.args in
+    let d = (goal.at.returns-in-Fine c).In-Fine in
+    let a = d.args in
     let F = fits d in
     let k : Circuit = circuit_of (given a.r a.c a.x a.ea.now a.eb.now a.ec.now) in
     let made =
-    v.values_into.ensures baby_bear k
+    c.values_into.ensures baby_bear k
     (matrix-given known-prime baby_bear-qualifies a.r a.c a.x a.ea.now a.eb.now a.ec.now)
     (challenged F.fits a.alpha a.beta [] F.outside) in
     fill_three-done (matched d.in-Fine.is (judgement (goal.at.In-Fine d).After-judge_round-fault)) made.are_values

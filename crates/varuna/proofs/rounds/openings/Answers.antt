@@ -65,9 +65,7 @@ open_all-all-requires c =
 pub returns-in-Fine : goal.returns-in-Fine
 unfolding openings_call
 returns-in-Fine c =
-    let o = c in
-    let d = o in
-    done _ (matched d.in-Fine.is (judgement (goal.at.returns-in-Fine d).After-judge_round-fault)) (o.open_all-all.ensures baby_bear known-prime)
+    done _ (matched c.in-Fine.is (judgement (goal.at.returns-in-Fine c).After-judge_round-fault)) (c.open_all-all.ensures baby_bear known-prime)
 
 pub returns-in-Refused : goal.returns-in-Refused
 unfolding openings_call

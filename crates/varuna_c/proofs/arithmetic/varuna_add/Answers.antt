@@ -5,6 +5,4 @@ use Rattle.varuna_c.proofs.arithmetic.varuna_add.Goals as goal
 
 pub returns : goal.returns
 returns c =
-    let at-add = c in
-    let start = at-add in
-    c.give_word.ensures ∙ ap (λ o. answered o start.args.res.now) at-add.add.ensures
+    c.give_word.ensures ∙ ap (λ o. answered o c.args.res.now) c.add.ensures

@@ -5,6 +5,4 @@ use Rattle.varuna_c.proofs.arithmetic.varuna_inverse.Goals as goal
 
 pub returns : goal.returns
 returns c =
-    let at-inverse = c in
-    let start = at-inverse in
-    c.give_word.ensures ∙ ap (λ o. answered o start.args.res.now) at-inverse.inverse.ensures
+    c.give_word.ensures ∙ ap (λ o. answered o c.args.res.now) c.inverse.ensures

@@ -5,6 +5,4 @@ use Rattle.varuna_c.proofs.arithmetic.varuna_multiply.Goals as goal
 
 pub returns : goal.returns
 returns c =
-    let at-multiply = c in
-    let start = at-multiply in
-    c.give_word.ensures ∙ ap (λ o. answered o start.args.res.now) at-multiply.multiply.ensures
+    c.give_word.ensures ∙ ap (λ o. answered o c.args.res.now) c.multiply.ensures

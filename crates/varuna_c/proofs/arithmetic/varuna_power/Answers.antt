@@ -5,6 +5,4 @@ use Rattle.varuna_c.proofs.arithmetic.varuna_power.Goals as goal
 
 pub returns : goal.returns
 returns c =
-    let at-power = c in
-    let start = at-power in
-    c.give_word.ensures ∙ ap (λ o. answered o start.args.res.now) at-power.power.ensures
+    c.give_word.ensures ∙ ap (λ o. answered o c.args.res.now) c.power.ensures

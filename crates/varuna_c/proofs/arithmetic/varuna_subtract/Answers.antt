@@ -5,6 +5,4 @@ use Rattle.varuna_c.proofs.arithmetic.varuna_subtract.Goals as goal
 
 pub returns : goal.returns
 returns c =
-    let at-subtract = c in
-    let start = at-subtract in
-    c.give_word.ensures ∙ ap (λ o. answered o start.args.res.now) at-subtract.subtract.ensures
+    c.give_word.ensures ∙ ap (λ o. answered o c.args.res.now) c.subtract.ensures

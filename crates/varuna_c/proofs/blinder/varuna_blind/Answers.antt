@@ -17,13 +17,11 @@ use Rattle.varuna_c.proofs.blinder.varuna_blind.Goals as goal
 
 pub returns : goal.returns
 returns c =
-    let at-blind = c in
-    let at-triple = at-blind in
-    let a = at-triple.args in
+    let a = c.args in
     let circuit : CircuitWords = given a.r a.c a.x a.ea.now a.eb.now a.ec.now in
     let lists : Three (List ℕ) = three_of a.blindedA.now a.blindedB.now a.blindedC.now in
     let before : Three (List ℕ) × List ℕ = (lists, a.blindedZ.now) in
     let call : Three ℕ → Outcome (Three (List ℕ) × List ℕ) = λ ρ.
     blind_call baby_bear circuit a.z.now ρ (map_three length lists) (length a.blindedZ.now) in
     filled_told before (call (three_at a.rho.now 0)) c.give_filled.ensures
-    (at-blind.blind-answer.ensures ∙ ap (λ ρ. fills (call ρ) before) at-triple.triple.ensures)
+    (c.blind-answer.ensures ∙ ap (λ ρ. fills (call ρ) before) c.triple.ensures)

@@ -6,7 +6,6 @@ use Rattle.varuna_c.proofs.circuits.varuna_circuit_add.Goals as goal
 
 pub returns : goal.returns
 returns c =
-    let done = c in
-    let a = done.args in
+    let a = c.args in
     filled_told a.circuit.now (add_entry_call baby_bear a.circuit.now a.matrix
-    (record { row = a.row; column = a.column; value = a.value })) c.give_filled.ensures done.add_entry-answer.ensures
+    (record { row = a.row; column = a.column; value = a.value })) c.give_filled.ensures c.add_entry-answer.ensures

@@ -5,6 +5,5 @@ use Rattle.varuna_c.proofs.circuits.varuna_circuit_begin.Goals as goal
 
 pub returns : goal.returns
 returns c =
-    let done = c in
-    let a = done.args in
-    filled_told a.circuit.now (begin_call a.r a.c a.x) c.give_filled.ensures done.begin-answer.ensures
+    let a = c.args in
+    filled_told a.circuit.now (begin_call a.r a.c a.x) c.give_filled.ensures c.begin-answer.ensures

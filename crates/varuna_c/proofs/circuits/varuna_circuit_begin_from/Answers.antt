@@ -7,7 +7,6 @@ use Rattle.varuna_c.proofs.circuits.varuna_circuit_begin_from.Goals as goal
 
 pub returns : goal.returns
 returns c =
-    let done = c in
-    let a = done.args in
+    let a = c.args in
     filled_told a.circuit.now (begin_from_call baby_bear (given a.r a.c a.x a.ea.now a.eb.now a.ec.now))
-    c.give_filled.ensures done.begin_from-answer.ensures
+    c.give_filled.ensures c.begin_from-answer.ensures

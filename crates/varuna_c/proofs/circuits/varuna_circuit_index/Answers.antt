@@ -10,10 +10,9 @@ use Rattle.varuna_c.proofs.circuits.varuna_circuit_index.Goals as goal
 
 pub returns : goal.returns
 returns c =
-    let done = c in
-    let a = done.args in
+    let a = c.args in
     let before =
     twelve a.rowA.now a.colA.now a.rowcolA.now a.rowcolvalA.now a.rowB.now a.colB.now a.rowcolB.now
     a.rowcolvalB.now a.rowC.now a.colC.now a.rowcolC.now a.rowcolvalC.now in
     filled_told before (grown_index_call baby_bear a.circuit.now (map_three (map_index length) before)) c.give_filled.ensures
-    done.index_circuit-answer.ensures
+    c.index_circuit-answer.ensures

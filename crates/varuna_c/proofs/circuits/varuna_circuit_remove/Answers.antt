@@ -5,7 +5,6 @@ use Rattle.varuna_c.proofs.circuits.varuna_circuit_remove.Goals as goal
 
 pub returns : goal.returns
 returns c =
-    let done = c in
-    let a = done.args in
+    let a = c.args in
     filled_told a.circuit.now (remove_entry_call a.circuit.now a.matrix a.row a.column) c.give_filled.ensures
-    done.remove_entry-answer.ensures
+    c.remove_entry-answer.ensures

@@ -5,6 +5,5 @@ use Rattle.varuna_c.proofs.circuits.varuna_circuit_row.Goals as goal
 
 pub returns : goal.returns
 returns c =
-    let found = c in
-    let a = found.args in
-    c.give_place.ensures ∙ ap (λ o. answered o (a.start.now, a.length.now)) found.find_row.ensures
+    let a = c.args in
+    c.give_place.ensures ∙ ap (λ o. answered o (a.start.now, a.length.now)) c.find_row.ensures

@@ -5,6 +5,4 @@ use Rattle.varuna_c.proofs.polynomials.varuna_evaluate.Goals as goal
 
 pub returns : goal.returns
 returns c =
-    let at-evaluate = c in
-    let start = at-evaluate in
-    c.give_word.ensures ∙ ap (λ o. answered o start.args.res.now) at-evaluate.evaluate.ensures
+    c.give_word.ensures ∙ ap (λ o. answered o c.args.res.now) c.evaluate.ensures

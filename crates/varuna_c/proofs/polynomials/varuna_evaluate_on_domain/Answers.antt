@@ -7,8 +7,6 @@ use Rattle.varuna_c.proofs.polynomials.varuna_evaluate_on_domain.Goals as goal
 
 pub returns : goal.returns
 returns c =
-    let at-evaluate = c in
-    let start = at-evaluate in
-    let a = start.args in
+    let a = c.args in
     filled_told a.values.now (evaluate_on_domain_call baby_bear a.n a.coefficients.now (length a.values.now))
-    c.give_filled.ensures at-evaluate.evaluate_on_domain.ensures
+    c.give_filled.ensures c.evaluate_on_domain.ensures

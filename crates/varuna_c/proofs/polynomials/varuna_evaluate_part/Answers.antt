@@ -6,6 +6,5 @@ use Rattle.varuna_c.proofs.polynomials.varuna_evaluate_part.Goals as goal
 
 pub returns : goal.returns
 returns c =
-    let at-evaluate = c in
-    let a = at-evaluate.args in
-    c.give_evaluated.ensures ∙ ap (λ o. answered o (running a.nextSum.now a.nextPower.now)) at-evaluate.evaluate_part.ensures
+    let a = c.args in
+    c.give_evaluated.ensures ∙ ap (λ o. answered o (running a.nextSum.now a.nextPower.now)) c.evaluate_part.ensures

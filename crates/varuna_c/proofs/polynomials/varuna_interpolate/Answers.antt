@@ -7,8 +7,6 @@ use Rattle.varuna_c.proofs.polynomials.varuna_interpolate.Goals as goal
 
 pub returns : goal.returns
 returns c =
-    let at-interpolate = c in
-    let start = at-interpolate in
-    let a = start.args in
+    let a = c.args in
     filled_told a.coefficients.now (interpolate_call baby_bear a.n a.values.now (length a.coefficients.now))
-    c.give_filled.ensures at-interpolate.interpolate.ensures
+    c.give_filled.ensures c.interpolate.ensures

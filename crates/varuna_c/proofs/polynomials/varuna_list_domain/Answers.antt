@@ -7,8 +7,6 @@ use Rattle.varuna_c.proofs.polynomials.varuna_list_domain.Goals as goal
 
 pub returns : goal.returns
 returns c =
-    let at-list-domain = c in
-    let start = at-list-domain in
-    let a = start.args in
+    let a = c.args in
     filled_told a.elements.now (domain_call baby_bear a.n (length a.elements.now))
-    c.give_filled.ensures at-list-domain.list_domain.ensures
+    c.give_filled.ensures c.list_domain.ensures

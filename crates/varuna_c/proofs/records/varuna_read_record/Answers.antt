@@ -5,7 +5,5 @@ use Rattle.varuna_c.proofs.records.varuna_read_record.Goals as goal
 
 pub returns : goal.returns
 returns c =
-    let at-read-record = c in
-    let start = at-read-record in
-    let a = start.args in
-    c.give_sizes.ensures ∙ ap (λ o. answered (sizes_listed o) a.sizes.now) at-read-record.read_record.ensures
+    let a = c.args in
+    c.give_sizes.ensures ∙ ap (λ o. answered (sizes_listed o) a.sizes.now) c.read_record.ensures

@@ -5,6 +5,5 @@ use Rattle.varuna_c.proofs.records.varuna_section.Goals as goal
 
 pub returns : goal.returns
 returns c =
-    let at-find-section = c in
-    let a = at-find-section.args in
-    c.give_place.ensures ∙ ap (λ o. answered o (a.start.now, a.length.now)) at-find-section.find_section.ensures
+    let a = c.args in
+    c.give_place.ensures ∙ ap (λ o. answered o (a.start.now, a.length.now)) c.find_section.ensures

@@ -15,13 +15,10 @@ use Rattle.varuna_c.proofs.records.varuna_write_record.Goals as goal
 
 pub returns : goal.returns
 returns c =
-    let at-write-record = c in
-    let at-sizes-in = at-write-record in
-    let start = at-sizes-in in
-    let a = start.args in
+    let a = c.args in
     let parts =
     each_section a.w.now a.m.now a.h0.now a.s.now a.g1.now a.h1.now
     a.o.now a.ga.now a.gb.now a.gc.now a.h2.now in
     let call : Sizes → Outcome (List ℕ) = λ n. write_call baby_bear n parts (length a.bytes.now) in
     filled_told a.bytes.now (call (sizes_in a.sizes.now)) c.give_filled.ensures
-    (at-write-record.write_record-answer.ensures ∙ ap (λ n. fills (call n) a.bytes.now) at-sizes-in.sizes_in.ensures)
+    (c.write_record-answer.ensures ∙ ap (λ n. fills (call n) a.bytes.now) c.sizes_in.ensures)

@@ -15,15 +15,11 @@ use Rattle.varuna_c.proofs.rounds.varuna_fifth_round.Goals as goal
 
 pub returns : goal.returns
 returns c =
-    let at-fifth-round = c in
-    let at-triple2 = at-fifth-round in
-    let at-triple = at-triple2 in
-    let start = at-triple in
-    let a = start.args in
+    let a = c.args in
     let i = prover_input a.r a.c a.x a.ea.now a.eb.now a.ec.now a.z.now a.mask a.m.now in
     let before = a.quotient.now in
     let call : Three ℕ → Three ℕ → Outcome (List ℕ) = λ η δ.
     fifth_round_call baby_bear i a.alpha η a.beta δ (length a.quotient.now) in
     filled_told before (call (three_at a.eta.now 0) (three_at a.delta.now 0)) c.give_filled.ensures
-    (at-fifth-round.fifth_round-answer.ensures
-    ∙ ap₂ (λ η δ. fills (call η δ) before) at-triple.triple.ensures at-triple2.triple-2.ensures)
+    (c.fifth_round-answer.ensures
+    ∙ ap₂ (λ η δ. fills (call η δ) before) c.triple.ensures c.triple-2.ensures)

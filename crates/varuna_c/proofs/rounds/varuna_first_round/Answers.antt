@@ -10,10 +10,8 @@ use Rattle.varuna_c.proofs.rounds.varuna_first_round.Goals as goal
 
 pub returns : goal.returns
 returns c =
-    let at-first-round = c in
-    let start = at-first-round in
-    let a = start.args in
+    let a = c.args in
     let i = prover_input a.r a.c a.x a.ea.now a.eb.now a.ec.now a.z.now a.mask a.m.now in
     let before : List ℕ × List ℕ = (a.witness.now, a.row_quotient.now) in
     filled_told before (first_round_call baby_bear i (length a.witness.now) (length a.row_quotient.now))
-    c.give_filled.ensures at-first-round.first_round-answer.ensures
+    c.give_filled.ensures c.first_round-answer.ensures

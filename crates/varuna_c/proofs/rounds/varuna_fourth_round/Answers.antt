@@ -16,13 +16,10 @@ use Rattle.varuna_c.proofs.rounds.varuna_fourth_round.Goals as goal
 
 pub returns : goal.returns
 returns c =
-    let at-fourth-round = c in
-    let at-triple = at-fourth-round in
-    let start = at-triple in
-    let a = start.args in
+    let a = c.args in
     let i = prover_input a.r a.c a.x a.ea.now a.eb.now a.ec.now a.z.now a.mask a.m.now in
     let before = three_of a.ga.now a.gb.now a.gc.now in
     let call : Three ℕ → Outcome (Three ℕ × Three (List ℕ)) = λ η.
     fourth_round_call baby_bear i a.alpha η a.beta (three_of (length a.ga.now) (length a.gb.now) (length a.gc.now)) in
     three_filled_told before a.values.now (call (three_at a.eta.now 0)) c.give_three.ensures
-    (at-fourth-round.fourth_round-answer.ensures ∙ ap (λ η. fills_three (call η) before) at-triple.triple.ensures)
+    (c.fourth_round-answer.ensures ∙ ap (λ η. fills_three (call η) before) c.triple.ensures)

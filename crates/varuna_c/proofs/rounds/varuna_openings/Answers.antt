@@ -12,13 +12,9 @@ use Rattle.varuna_c.proofs.rounds.varuna_openings.Goals as goal
 
 pub returns : goal.returns
 returns c =
-    let at-openings = c in
-    let at-triple2 = at-openings in
-    let at-triple = at-triple2 in
-    let start = at-triple in
-    let a = start.args in
+    let a = c.args in
     let i = prover_input a.r a.c a.x a.ea.now a.eb.now a.ec.now a.z.now a.mask a.m.now in
     let before = a.openings.now in
     let call : Three ℕ → Three ℕ → Outcome (List ℕ) = λ η δ. openings_call baby_bear i a.alpha η a.beta δ a.gamma in
     c.give_openings.ensures
-    ∙ ap (λ o. answered o before) (at-openings.openings-answer.ensures ∙ ap₂ call at-triple.triple.ensures at-triple2.triple-2.ensures)
+    ∙ ap (λ o. answered o before) (c.openings-answer.ensures ∙ ap₂ call c.triple.ensures c.triple-2.ensures)

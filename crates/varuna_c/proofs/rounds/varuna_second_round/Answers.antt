@@ -5,6 +5,4 @@ use Rattle.varuna_c.proofs.rounds.varuna_second_round.Goals as goal
 
 pub returns : goal.returns
 returns c =
-    let at-second-round = c in
-    let start = at-second-round in
-    c.give_three.ensures ∙ ap (λ o. answered (three_listed o) start.args.sums.now) at-second-round.second_round-answer.ensures
+    c.give_three.ensures ∙ ap (λ o. answered (three_listed o) c.args.sums.now) c.second_round-answer.ensures

@@ -15,13 +15,10 @@ use Rattle.varuna_c.proofs.rounds.varuna_third_round.Goals as goal
 
 pub returns : goal.returns
 returns c =
-    let at-third-round = c in
-    let at-triple = at-third-round in
-    let start = at-triple in
-    let a = start.args in
+    let a = c.args in
     let i = prover_input a.r a.c a.x a.ea.now a.eb.now a.ec.now a.z.now a.mask a.m.now in
     let before : List ℕ × List ℕ = (a.remainder.now, a.quotient.now) in
     let call : Three ℕ → Outcome (List ℕ × List ℕ) = λ η.
     third_round_call baby_bear i a.alpha η (length a.remainder.now) (length a.quotient.now) in
     filled_told before (call (three_at a.eta.now 0)) c.give_filled.ensures
-    (at-third-round.third_round-answer.ensures ∙ ap (λ η. fills (call η) before) at-triple.triple.ensures)
+    (c.third_round-answer.ensures ∙ ap (λ η. fills (call η) before) c.triple.ensures)

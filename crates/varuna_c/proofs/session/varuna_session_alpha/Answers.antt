@@ -7,11 +7,8 @@ use Rattle.varuna_c.proofs.session.varuna_session_alpha.Goals as goal
 
 pub returns : goal.returns
 returns c =
-    let at-alpha = c in
-    let at-from-words = at-alpha in
-    let start = at-from-words in
-    let a = start.args in
+    let a = c.args in
     c.give_step.ensures
     ∙ ap (λ s. step_answered s a.session.now)
-    (at-alpha.alpha.ensures
-    ∙ ap (λ s. alpha_step baby_bear s a.witness a.mask a.row_quotient a.alpha) at-from-words.from_words-s.ensures)
+    (c.alpha.ensures
+    ∙ ap (λ s. alpha_step baby_bear s a.witness a.mask a.row_quotient a.alpha) c.from_words-s.ensures)

@@ -11,11 +11,7 @@ use Rattle.varuna_c.proofs.session.varuna_session_ask.Goals as goal
 pub returns : goal.returns
 unfolding openings_in three_at
 returns c =
-    let at-ask = c in
-    let at-indexes-in = at-ask in
-    let at-messages-in = at-indexes-in in
-    let at-from-words = at-messages-in in
-    let opened = ap₂ openings at-messages-in.messages_in.ensures at-indexes-in.indexes_in.ensures in
+    let opened = ap₂ openings c.messages_in.ensures c.indexes_in.ensures in
     c.give_verdict.ensures
     ∙ ap (λ (s : Stepped). verdict_answered s.answer)
-    (at-ask.ask-answer.ensures ∙ ap₂ (ask_step baby_bear) at-from-words.from_words-s.ensures opened)
+    (c.ask-answer.ensures ∙ ap₂ (ask_step baby_bear) c.from_words-s.ensures opened)

@@ -7,10 +7,7 @@ use Rattle.varuna_c.proofs.session.varuna_session_beta.Goals as goal
 
 pub returns : goal.returns
 returns c =
-    let at-beta = c in
-    let at-from-words = at-beta in
-    let start = at-from-words in
-    let a = start.args in
+    let a = c.args in
     c.give_step.ensures
     ∙ ap (λ s. step_answered s a.session.now)
-    (at-beta.beta.ensures ∙ ap (λ s. beta_step baby_bear s a.remainder a.quotient a.beta) at-from-words.from_words-s.ensures)
+    (c.beta.ensures ∙ ap (λ s. beta_step baby_bear s a.remainder a.quotient a.beta) c.from_words-s.ensures)

@@ -11,13 +11,8 @@ use Rattle.varuna_c.proofs.session.varuna_session_commit.Goals as goal
 pub returns : goal.returns
 unfolding openings_in three_at
 returns c =
-    let at-commit = c in
-    let at-indexes-in = at-commit in
-    let at-messages-in = at-indexes-in in
-    let at-from-words = at-messages-in in
-    let start = at-from-words in
-    let a = start.args in
-    let opened = ap₂ openings at-messages-in.messages_in.ensures at-indexes-in.indexes_in.ensures in
+    let a = c.args in
+    let opened = ap₂ openings c.messages_in.ensures c.indexes_in.ensures in
     c.give_commit.ensures
     ∙ ap (λ s. commit_answered s a.session.now)
-    (at-commit.commit.ensures ∙ ap₂ (commit_step baby_bear) at-from-words.from_words-s.ensures opened)
+    (c.commit.ensures ∙ ap₂ (commit_step baby_bear) c.from_words-s.ensures opened)

@@ -12,15 +12,10 @@ use Rattle.varuna_c.proofs.session.varuna_session_eta.Goals as goal
 
 pub returns : goal.returns
 returns c =
-    let at-eta = c in
-    let at-triple2 = at-eta in
-    let at-triple = at-triple2 in
-    let at-from-words = at-triple in
-    let start = at-from-words in
-    let a = start.args in
+    let a = c.args in
     let step : steps.Session → Three ℕ → Three ℕ → steps.Stepped = eta_step baby_bear in
     c.give_step.ensures
     ∙ ap (λ s. step_answered s a.session.now)
-    (at-eta.eta.ensures
-    ∙ ap (λ s. step s (three at-triple.triple.result) (three at-triple2.triple-2.result)) at-from-words.from_words-s.ensures
-    ∙ ap₂ (step (session_of a.session.now)) at-triple.triple.ensures at-triple2.triple-2.ensures)
+    (c.eta.ensures
+    ∙ ap (λ s. step s (three c.triple.result) (three c.triple-2.result)) c.from_words-s.ensures
+    ∙ ap₂ (step (session_of a.session.now)) c.triple.ensures c.triple-2.ensures)

@@ -5,5 +5,4 @@ use Rattle.varuna_c.proofs.session.varuna_session_new.Goals as goal
 
 pub returns : goal.returns
 returns c =
-    let at_new = c in
-    c.into_words.ensures ∙ ap session_words at_new.new-s.ensures
+    c.into_words.ensures ∙ ap session_words c.new-s.ensures

@@ -7,12 +7,8 @@ use Rattle.varuna_c.proofs.session.varuna_session_open.Goals as goal
 
 pub returns : goal.returns
 returns c =
-    let at_open = c in
-    let at-sizes-in = at_open in
-    let at-from-words = at-sizes-in in
-    let start = at-from-words in
-    let a = start.args in
+    let a = c.args in
     c.give_step.ensures
     ∙ ap (λ s. step_answered s a.session.now)
-    (at_open.«open».ensures
-    ∙ ap₂ (λ s n. open_step baby_bear s n a.x.now) at-from-words.from_words-s.ensures at-sizes-in.sizes_in.ensures)
+    (c.«open».ensures
+    ∙ ap₂ (λ s n. open_step baby_bear s n a.x.now) c.from_words-s.ensures c.sizes_in.ensures)
