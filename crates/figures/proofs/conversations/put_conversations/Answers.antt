@@ -22,7 +22,7 @@ pub put_decimal-requires : goal.put_decimal-requires
 put_decimal-requires c =
     let start = c in
     let asked = c.small_number in
-    omega (arith, start.requires.number_room_in_bounds, few-digits asked.result (omega (arith, asked.type-inv)))
+    omega (arith, start.requires.number_room_in_bounds, few-digits asked.result (omega (arith, asked.type_inv)))
 
 pub returns : goal.returns
 returns c =
@@ -32,4 +32,4 @@ returns c =
     let same : tuple_rows + (row - tuple_rows) ≡ row = omega arith in
     let number = asked.ensures ∙ ap (λ i. (conversation_at baby_bear i).number (given start.args.request)) same in
     within_as (ap decimal number)
-    (within-room number_room (omega (arith, few-digits asked.result (omega (arith, asked.type-inv)))) c.put_decimal.ensures)
+    (within-room number_room (omega (arith, few-digits asked.result (omega (arith, asked.type_inv)))) c.put_decimal.ensures)

@@ -16,12 +16,12 @@ use Rattle.figures.proofs.table.put_number.Goals as goal
 pub put_decimal-requires : goal.put_decimal-requires
 put_decimal-requires c =
     let start = c in
-    omega (arith, start.requires.number_room_in_bounds, few-digits c.number.result (omega (arith, c.number.type-inv)))
+    omega (arith, start.requires.number_room_in_bounds, few-digits c.number.result (omega (arith, c.number.type_inv)))
 
 pub returns-then-row-lt-NUMBERS : goal.returns-then-row-lt-NUMBERS
 returns-then-row-lt-NUMBERS c =
     let numbered = c in
-    let short = few-digits numbered.number.result (omega (arith, numbered.number.type-inv)) in
+    let short = few-digits numbered.number.result (omega (arith, numbered.number.type_inv)) in
     within-room number_room (omega (arith, ap (λ n. length (decimal n)) numbered.number.ensures))
     (written_as (ap decimal numbered.number.ensures) c.put_decimal.ensures)
 

@@ -9,13 +9,12 @@ use Rattle.figures.proofs.table.put_source.Goals as goal
 pub put_line-requires : goal.put_line-requires
 unfolding figures
 put_line-requires c =
-    let start = c in
-    label_room baby_bear source_of refl source_room (sources_short baby_bear) (sources_lines baby_bear) start.args.row start.requires.row_lt_row_count
-    start.args.at _ start.requires.source_room_in_bounds
+    let room =
+    label_room baby_bear source_of refl source_room (sources_short baby_bear) (sources_lines baby_bear) c.args.row c.requires.row_lt_row_count
+    c.args.at _ c.requires.source_room_in_bounds in
+    record { n_in_bounds = room.0; n_in_bounds_2 = room.1 }
 
 pub returns : goal.returns
 unfolding figures
 returns c =
-    let start = c in
-    label_put baby_bear source_of refl source_room (sources_short baby_bear) (sources_lines baby_bear) start.args.row
-    c.put_line.ensures
+    label_put baby_bear source_of refl source_room (sources_short baby_bear) (sources_lines baby_bear) c.args.row c.put_line.ensures
