@@ -17,6 +17,9 @@ pub record MadeIn (s n : ℕ) (l : List ℕ) : Type 0 where
   pub fits : n ≤ s
   pub kept : length l ≡ length (take n (array s))
 
+pub made_in : {s n : ℕ} (l : List ℕ) → n ≤ s → length l ≡ length (take n (array s)) → MadeIn s n l
+made_in l fits kept = record { fits = fits; kept = kept }
+
 module _ {s n : ℕ} {l : List ℕ} (m : MadeIn s n l) where
   pub made_holds : n ≤ length (returned s n l)
   made_holds = back_holds s m.fits l m.kept
