@@ -8,28 +8,20 @@ use Rattle.figures.proofs.put_sheet.Goals as goal
 
 pub returns-then-input-gt-LONGEST_TEXT : goal.returns-then-input-gt-LONGEST_TEXT
 returns-then-input-gt-LONGEST_TEXT c =
-    let start = c in
-    written_as (sheet_long baby_bear start.args.input.now (search rules)) c.put_bytes.ensures
+    written_as (sheet_long baby_bear c.args.input.now (search rules)) c.put_bytes.ensures
 
 pub returns-then-is_wrong : goal.returns-then-is_wrong
 returns-then-is_wrong c =
-    let branch = c in
-    let asked = branch in
-    let first = asked in
-    let text = first.args.input.now in
+    let text = c.args.input.now in
     written_as
-    (sheet_wrong baby_bear text (search rules) first.first_wrong-judged.result.line first.first_wrong-judged.result.found first.first_wrong-judged.ensures
-    (sym asked.is_wrong.ensures ∙ branch.if-is_wrong.true))
+    (sheet_wrong baby_bear text (search rules) c.first_wrong-judged.result.line c.first_wrong-judged.result.found c.first_wrong-judged.ensures
+    (sym c.is_wrong.ensures ∙ c.if-is_wrong.true))
     c.put_wrong.ensures
 
 pub returns : goal.returns
 returns c =
-    let kept = c in
-    let branch = kept in
-    let asked = branch in
-    let first = asked in
-    let text = first.args.input.now in
+    let text = c.args.input.now in
     written_as
-    (sheet_table baby_bear text (search rules) first.first_wrong-judged.result.line first.first_wrong-judged.result.found first.first_wrong-judged.ensures
-    (sym asked.is_wrong.ensures ∙ branch.if-is_wrong.false))
-    (c.put_circuits.ensures _ kept.collect-kept.ensures)
+    (sheet_table baby_bear text (search rules) c.first_wrong-judged.result.line c.first_wrong-judged.result.found c.first_wrong-judged.ensures
+    (sym c.is_wrong.ensures ∙ c.if-is_wrong.false))
+    (c.put_circuits.ensures _ c.collect-kept.ensures)

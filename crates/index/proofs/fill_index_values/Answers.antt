@@ -79,14 +79,13 @@ made_words : (c : After-multiply) (q : Prime) → let a = (c.before.before.befor
     → made c ≡ map_index word_of (values q k a.entries.now c.loop-i.i)
 unfolding row_element column_element
 made_words c q Q same k listed =
-    let m = c in
     let row =
-    m.listed_element-by_row.ensures q Q k.|R| listed.R-size listed.R-words
-    ∙ ap (λ (j : ℕ). (element {q = q} k.|R| j).word) m.word_or_zero.ensures in
+    c.listed_element-by_row.ensures q Q k.|R| listed.R-size listed.R-words
+    ∙ ap (λ (j : ℕ). (element {q = q} k.|R| j).word) c.word_or_zero.ensures in
     let col =
-    m.listed_element-by_column.ensures q Q k.|C| listed.C-size listed.C-words
-    ∙ ap (λ (j : ℕ). (element {q = q} k.|C| j).word) m.word_or_zero-in-loop-i.ensures in
-    let rowcol = m.multiply-product.ensures q same ∙ ap₂ (λ (s t : Elem q). (s ⊗ t).word) (of-result _ row) (of-result _ col) in
+    c.listed_element-by_column.ensures q Q k.|C| listed.C-size listed.C-words
+    ∙ ap (λ (j : ℕ). (element {q = q} k.|C| j).word) c.word_or_zero-in-loop-i.ensures in
+    let rowcol = c.multiply-product.ensures q same ∙ ap₂ (λ (s t : Elem q). (s ⊗ t).word) (of-result _ row) (of-result _ col) in
     let rowcolval =
     c.multiply.ensures q same
     ∙ ap₂ (λ (s t : Elem q). (s ⊗ t).word) (of-result _ rowcol) (ap of c.word_or_zero-in-loop-i-2.ensures) in
@@ -94,8 +93,7 @@ made_words c q Q same k listed =
 
 pub loop-i-init : goal.loop-i-init
 loop-i-init c =
-    let s = c in
-    (omega arith, s.requires.index_lengths, λ q Q e k listed. made_none _ _ _)
+    (omega arith, c.requires.index_lengths, λ q Q e k listed. made_none _ _ _)
 
 pub loop-i-smaller : goal.loop-i-smaller
 loop-i-smaller c = simp length-set (omega arith)

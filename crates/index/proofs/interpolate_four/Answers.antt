@@ -44,9 +44,8 @@ interpolate_in_place-requires-4 c =
 
 pub returns : goal.returns
 returns c q known tables =
-    let s = c in
-    let a = s.args in
-    let lengths = s.requires.index_lengths in
+    let a = c.args in
+    let lengths = c.requires.index_lengths in
     let at : (m : ℕ) → m ≡ length a.row.now → CoefficientTables q m a.powers.now a.quotients.now =
     λ m e. subst⁻¹ (λ (m : ℕ). CoefficientTables q m a.powers.now a.quotients.now) e tables in (
       c.interpolate_in_place.ensures q known tables,

@@ -26,8 +26,7 @@ copy_front-requires c = size_bound _ c.requires.out_value
 
 pub slice_bounds-values-end : goal.slice_bounds-values-end
 slice_bounds-values-end c =
-    let f = c in
-    omega (arith, size_bound _ f.requires.out_value, f.copy_front.auto.out)
+    omega (arith, size_bound _ c.requires.out_value, c.copy_front.auto.out)
 
 pub slice_bounds-interpolate_with-end : goal.slice_bounds-interpolate_with-end
 slice_bounds-interpolate_with-end c = ap length (sym (copied (goal.at.slice_bounds-interpolate_with-end c).After-copy_front))
@@ -35,11 +34,10 @@ slice_bounds-interpolate_with-end c = ap length (sym (copied (goal.at.slice_boun
 pub interpolate_with-requires : goal.interpolate_with-requires
 interpolate_with-requires c =
     let f = (goal.at.interpolate_with-requires c).After-copy_front in
-    let s = f in
     let long = ap length (sym (copied f)) in record {
-      lt_p = s.requires.lt_p;
-      out_len = (long, ap is_size (sym long) ∙ s.requires.out_value);
-      values_in_bounds = (part_order long s.requires.out_in_bounds.0, part_order long s.requires.out_in_bounds.1);
+      lt_p = f.requires.lt_p;
+      out_len = (long, ap is_size (sym long) ∙ f.requires.out_value);
+      values_in_bounds = (part_order long f.requires.out_in_bounds.0, part_order long f.requires.out_in_bounds.1);
     }
 
 pub returns : goal.returns

@@ -16,27 +16,17 @@ numbers r c k =
 
 pub returns : goal.returns
 returns c =
-    let c8 = c in
-    let c7 = c8 in
-    let c6 = c7 in
-    let c5 = c6 in
-    let c4 = c5 in
-    let c3 = c4 in
-    let c2 = c3 in
-    let c1 = c2 in
-    let most = c1 in
-    let sized = most in
-    let g = given sized.args.g in
+    let g = given c.args.g in
     rw (
-      c1.degree.ensures,
-      c2.allowed.ensures,
-      c3.degree-2.ensures,
-      c4.allowed-2.ensures,
-      c5.degree-3.ensures,
-      c6.degree-4.ensures,
-      c7.degree-5.ensures,
-      c8.degree-6.ensures,
+      c.degree.ensures,
+      c.allowed.ensures,
+      c.degree-2.ensures,
+      c.allowed-2.ensures,
+      c.degree-3.ensures,
+      c.degree-4.ensures,
+      c.degree-5.ensures,
+      c.degree-6.ensures,
       c.allowed-3.ensures,
-      most.largest-most.ensures,
+      c.largest-most.ensures,
     )
-    (ap (numbers g.|R| g.|C|) (ap (λ (s : Sizes). s.|K|) sized.sizes_for.ensures))
+    (ap (numbers g.|R| g.|C|) (ap (λ (s : Sizes). s.|K|) c.sizes_for.ensures))

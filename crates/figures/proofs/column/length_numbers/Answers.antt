@@ -16,8 +16,6 @@ numbers t bytes =
 
 pub returns : goal.returns
 returns c =
-    let listed = c in
-    let sized = listed in
     rw c.record_bytes.ensures
-    (ap (λ t. numbers t (section_bytes (sizes sized.sizes_for-s.result) + trailer_bytes)) listed.message_lengths-l.ensures
-    ∙ ap (λ s. numbers (lengths s) (section_bytes s + trailer_bytes)) sized.sizes_for-s.ensures)
+    (ap (λ t. numbers t (section_bytes (sizes c.sizes_for-s.result) + trailer_bytes)) c.message_lengths-l.ensures
+    ∙ ap (λ s. numbers (lengths s) (section_bytes s + trailer_bytes)) c.sizes_for-s.ensures)

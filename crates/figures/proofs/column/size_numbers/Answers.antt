@@ -7,10 +7,9 @@ use Rattle.figures.proofs.column.size_numbers.Goals as goal
 
 pub returns : goal.returns
 returns c =
-    let sized = c in
-    let g = given sized.args.g in
+    let g = given c.args.g in
     rw c.largest.ensures
     (ap
     (λ (s : Sizes).
     g.|R| ∷ g.|C| ∷ g.|X| ∷ g.entries.a ∷ g.entries.b ∷ g.entries.c ∷ s.|K|.a ∷ s.|K|.b ∷ s.|K|.c ∷ largest s.|K| ∷ [])
-    sized.sizes_for.ensures)
+    c.sizes_for.ensures)

@@ -6,14 +6,10 @@ use Rattle.figures.proofs.messages.put_labelled.Goals as goal
 
 pub put_decimal-requires : goal.put_decimal-requires
 put_decimal-requires c =
-    let start = c in
     let w = c.put_bytes-place.ensures in
-    omega (arith, start.requires, w.next, written-length w, few-digits start.args.n (omega (arith, start.ranges.n)))
+    omega (arith, c.requires, w.next, written-length w, few-digits c.args.n (omega (arith, c.ranges.n)))
 
 pub returns : goal.returns
 returns c =
-    let c2 = c in
-    let c1 = c2 in
-    let start = c1 in
-    within_then (within-room _ (omega arith) c1.put_bytes-place.ensures)
-    (within-room 20 (few-digits start.args.n (omega (arith, start.ranges.n))) c2.put_decimal.ensures)
+    within_then (within-room _ (omega arith) c.put_bytes-place.ensures)
+    (within-room 20 (few-digits c.args.n (omega (arith, c.ranges.n))) c.put_decimal.ensures)

@@ -7,20 +7,16 @@ use Rattle.figures.proofs.messages.put_message.Goals as goal
 
 pub returns-in-NotSix : goal.returns-in-NotSix
 returns-in-NotSix c =
-    let told = c in
-    written_as (sym (ap (λ f. message_of (found_line f)) told.in-NotSix.is)) c.put_bytes.ensures
+    written_as (sym (ap (λ f. message_of (found_line f)) c.in-NotSix.is)) c.put_bytes.ensures
 
 pub returns-in-Refused : goal.returns-in-Refused
 returns-in-Refused c =
-    let told = c in
-    written_as (sym (ap (λ f. message_of (found_line f)) told.in-Refused.is)) c.put_refused.ensures
+    written_as (sym (ap (λ f. message_of (found_line f)) c.in-Refused.is)) c.put_refused.ensures
 
 pub returns-in-Nothing : goal.returns-in-Nothing
 returns-in-Nothing c =
-    let start = c in
-    written_as (sym (ap (λ f. message_of (found_line f)) c.in-Nothing.is)) (written_none start.args.out.now start.args.at (search rules))
+    written_as (sym (ap (λ f. message_of (found_line f)) c.in-Nothing.is)) (written_none c.args.out.now c.args.at (search rules))
 
 pub returns-in-Circuit : goal.returns-in-Circuit
 returns-in-Circuit c =
-    let start = c in
-    written_as (sym (ap (λ f. message_of (found_line f)) c.in-Circuit.is)) (written_none start.args.out.now start.args.at (search rules))
+    written_as (sym (ap (λ f. message_of (found_line f)) c.in-Circuit.is)) (written_none c.args.out.now c.args.at (search rules))

@@ -13,8 +13,7 @@ loop-i-init c = (search rules, refl)
 pub line_end-start-requires : goal.line_end-start-requires
 line_end-start-requires c =
     let l = c.loop-i in
-    let start = c in
-    line-left start.args.text.now l.start l.i l.invariant.1 (omega (arith, start.requires))
+    line-left c.args.text.now l.start l.i l.invariant.1 (omega (arith, c.requires))
 
 pub loop-i-preserved : goal.loop-i-preserved
 loop-i-preserved c =
@@ -25,10 +24,9 @@ loop-i-preserved c =
 pub returns : goal.returns
 returns c =
     let l = c.loop-i in
-    let start = c in
-    let text = start.args.text.now in
-    let all : l.i ≡ start.args.n = omega (arith, l.invariant.0) in
+    let text = c.args.text.now in
+    let all : l.i ≡ c.args.n = omega (arith, l.invariant.0) in
     record {
-      upper_bound = line-left text l.start l.i l.invariant.1 (omega (arith, start.requires));
+      upper_bound = line-left text l.start l.i l.invariant.1 (omega (arith, c.requires));
       text_value = l.invariant.1 ∙ ap (λ k. drop k (lines_of text)) all;
     }

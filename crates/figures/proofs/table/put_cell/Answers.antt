@@ -7,6 +7,4 @@ use Rattle.figures.proofs.table.put_cell.Goals as goal
 pub returns : goal.returns
 unfolding cell_text
 returns c =
-    let c2 = c in
-    let c1 = c2 in
-    within_then (within-room 1 (omega arith) c1.put_byte-place.ensures) c2.put_number.ensures
+    within_then (within-room 1 (omega arith) c.put_byte-place.ensures) c.put_number.ensures

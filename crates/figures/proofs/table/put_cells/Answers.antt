@@ -17,20 +17,16 @@ loop-k-init c =
 
 pub put_cell-place-requires : goal.put_cell-place-requires
 put_cell-place-requires c =
-    let l = c in
-    let start = l in
     record {
-      row_lt_row_count = start.requires.row_lt_row_count;
-      cell_room_in_bounds = omega (arith, start.requires.count_in_bounds, l.loop-k.invariant.1.within, within-length l.loop-k.invariant.1);
+      row_lt_row_count = c.requires.row_lt_row_count;
+      cell_room_in_bounds = omega (arith, c.requires.count_in_bounds, c.loop-k.invariant.1.within, within-length c.loop-k.invariant.1);
     }
 
 pub loop-k-preserved : goal.loop-k-preserved
 loop-k-preserved c =
-    let l = c in
-    let start = l in
-    let a = start.args in (
+    let a = c.args in (
       search rules,
-      cell_turn (figure_at baby_bear a.row) a.array l.loop-k.k _ (omega (arith, l.loop-k.invariant.0, start.requires.count_le_most_circuits, start.well_formed.1.0.1.0.1)) l.loop-k.invariant.1 c.put_cell-place.ensures,
+      cell_turn (figure_at baby_bear a.row) a.array c.loop-k.k _ (omega (arith, c.loop-k.invariant.0, c.requires.count_le_most_circuits, c.well_formed.1.0.1.0.1)) c.loop-k.invariant.1 c.put_cell-place.ensures,
     )
 
 pub shape_of-out : goal.shape_of-out

@@ -15,38 +15,33 @@ use Rattle.figures.proofs.table.put_number.Goals as goal
 
 pub put_decimal-requires : goal.put_decimal-requires
 put_decimal-requires c =
-    let start = c in
-    omega (arith, start.requires.number_room_in_bounds, few-digits c.number.result (omega (arith, c.number.type_inv)))
+    omega (arith, c.requires.number_room_in_bounds, few-digits c.number.result (omega (arith, c.number.type_inv)))
 
 pub returns-then-row-lt-NUMBERS : goal.returns-then-row-lt-NUMBERS
 returns-then-row-lt-NUMBERS c =
-    let numbered = c in
-    let short = few-digits numbered.number.result (omega (arith, numbered.number.type_inv)) in
-    within-room number_room (omega (arith, ap (λ n. length (decimal n)) numbered.number.ensures))
-    (written_as (ap decimal numbered.number.ensures) c.put_decimal.ensures)
+    let short = few-digits c.number.result (omega (arith, c.number.type_inv)) in
+    within-room number_room (omega (arith, ap (λ n. length (decimal n)) c.number.ensures))
+    (written_as (ap decimal c.number.ensures) c.put_decimal.ensures)
 
 pub put_line-requires : goal.put_line-requires
 put_line-requires c =
-    let start = c in
     record {
       n_in_bounds = omega (arith, ap length powers-lines);
-      n_in_bounds_2 = omega (arith, start.requires.number_room_in_bounds, power-short (start.args.row - number_rows));
+      n_in_bounds_2 = omega (arith, c.requires.number_room_in_bounds, power-short (c.args.row - number_rows));
     }
 
 pub returns-then-after-lt-TRIPLES : goal.returns-then-after-lt-TRIPLES
 returns-then-after-lt-TRIPLES c =
-    let start = c in
-    let row = start.args.row in
+    let row = c.args.row in
     let same : number_rows + (row - number_rows) ≡ row = omega arith in
-    let g = given start.args.request in
+    let g = given c.args.request in
     let line = power-row (row - number_rows) g (search rules) ∙ ap (λ i. decimal ((figure_at baby_bear i).number g)) same in
     within-room number_room (omega (arith, ap length line, power-short (row - number_rows))) (written_as line c.put_line.ensures)
 
 pub returns : goal.returns
 returns c =
-    let start = c in
-    let row = start.args.row in
+    let row = c.args.row in
     let same : number_rows + triple_rows + (row - number_rows - triple_rows) ≡ row = omega arith in
     let figure = sym (conversation-row baby_bear (row - number_rows - triple_rows)) ∙ ap (figure_at baby_bear) same in
-    let g = given start.args.request in
+    let g = given c.args.request in
     within_as (ap (λ (f : Figure). decimal (f.number g)) figure) c.put_conversations.ensures

@@ -7,14 +7,8 @@ use Rattle.figures.proofs.table.put_row.Goals as goal
 pub returns : goal.returns
 unfolding row_text
 returns c =
-    let c5 = c in
-    let c4 = c5 in
-    let c3 = c4 in
-    let c2 = c3 in
-    let c1 = c2 in
-    let start = c1 in
-    within_less (omega (arith, start.requires.count_le_most_circuits))
-    (within_then c1.put_name-place.ensures
-    (within_then c2.put_cells-place.ensures
-    (within_then (within-room 1 (omega arith) c3.put_byte-place.ensures)
-    (within_then c4.put_source-place.ensures (within-room 1 (omega arith) c5.put_byte.ensures)))))
+    within_less (omega (arith, c.requires.count_le_most_circuits))
+    (within_then c.put_name-place.ensures
+    (within_then c.put_cells-place.ensures
+    (within_then (within-room 1 (omega arith) c.put_byte-place.ensures)
+    (within_then c.put_source-place.ensures (within-room 1 (omega arith) c.put_byte.ensures)))))

@@ -19,20 +19,17 @@ loop-row-init c = (search rules, within-room 0 (omega arith) (written_none c.arg
 
 pub put_row-place-requires : goal.put_row-place-requires
 put_row-place-requires c =
-    let l = c in
-    let start = l in
     record {
       row_lt_row_count = search rules;
-      count_le_most_circuits = start.requires.count_le_most_circuits;
-      row_room_in_bounds = omega (arith, start.requires.sheet_room_in_bounds, l.loop-row.invariant.1.within, within-length l.loop-row.invariant.1);
+      count_le_most_circuits = c.requires.count_le_most_circuits;
+      row_room_in_bounds = omega (arith, c.requires.sheet_room_in_bounds, c.loop-row.invariant.1.within, within-length c.loop-row.invariant.1);
     }
 
 pub loop-row-preserved : goal.loop-row-preserved
 loop-row-preserved c =
-    let l = c in
-    let a = l.args in (
+    let a = c.args in (
       search rules,
-      row_turn baby_bear (map given (take a.count a.array)) l.loop-row.row (search rules) l.loop-row.invariant.1 c.put_row-place.ensures,
+      row_turn baby_bear (map given (take a.count a.array)) c.loop-row.row (search rules) c.loop-row.invariant.1 c.put_row-place.ensures,
     )
 
 pub shape_of-out : goal.shape_of-out

@@ -57,20 +57,18 @@ loop-i-smaller c = simp length-set (omega arith)
 
 pub loop-i-preserved : goal.loop-i-preserved
 loop-i-preserved c =
-    let m = c in
-    let l = m.loop-i in
-    let root = m in
-    let a = root.args in
+    let l = c.loop-i in
+    let a = c.args in
     let n : ℕ = length a.out.now in (
       simp length-set (omega arith),
       simp length-set l.invariant.1,
       λ q known.
           let (last, filled) = l.invariant.2 q known in (
-            next q n l.i last (root.root_of-g.ensures q known) (c.multiply-power.ensures q known.value),
-            rule_turn n (rule q n a.y) l.out l.i m.multiply.result l.invariant.1 (omega arith) filled
-                (m.multiply.ensures q known.value
+            next q n l.i last (c.root_of-g.ensures q known) (c.multiply-power.ensures q known.value),
+            rule_turn n (rule q n a.y) l.out l.i c.multiply.result l.invariant.1 (omega arith) filled
+                (c.multiply.ensures q known.value
                 ∙ ap (λ (x : Elem q). (of n ⊗ x).word)
-                (of-result _ (m.subtract.ensures q known.value)
+                (of-result _ (c.subtract.ensures q known.value)
                 ∙ ap (λ (x : Elem q). of a.y ⊖ x) (of-result (element n l.i) last))),
           ),
     )

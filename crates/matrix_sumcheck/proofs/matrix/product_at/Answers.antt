@@ -8,22 +8,17 @@ use Rattle.matrix_sumcheck.proofs.matrix.product_at.Goals as goal
 
 pub bounds-rows-row : goal.bounds-rows-row
 bounds-rows-row c =
-    let w = c in
-    let s = w in
-    subst (λ (i : ℕ). i < length s.args.rows.now) (sym w.word_or_zero-row.ensures)
-    (within-at s.requires.entries_within s.args.i).row_below
+    subst (λ (i : ℕ). i < length c.args.rows.now) (sym c.word_or_zero-row.ensures)
+    (within-at c.requires.entries_within c.args.i).row_below
 
 pub bounds-columns-column : goal.bounds-columns-column
 bounds-columns-column c =
-    let w = c in
-    let s = w in
-    subst (λ (i : ℕ). i < length s.args.columns.now) (sym w.word_or_zero-column.ensures)
-    (within-at s.requires.entries_within s.args.i).column-below
+    subst (λ (i : ℕ). i < length c.args.columns.now) (sym c.word_or_zero-column.ensures)
+    (within-at c.requires.entries_within c.args.i).column-below
 
 pub returns : goal.returns
 returns c q e =
-    let w = c in
-    let a = w.args in
+    let a = c.args in
     c.multiply.ensures q e
-    ∙ ap₂ (λ (i j : ℕ). (of {q = q} (get_or a.rows.now i 0) ⊗ of (get_or a.columns.now j 0)).word) w.word_or_zero-row.ensures
-    w.word_or_zero-column.ensures
+    ∙ ap₂ (λ (i j : ℕ). (of {q = q} (get_or a.rows.now i 0) ⊗ of (get_or a.columns.now j 0)).word) c.word_or_zero-row.ensures
+    c.word_or_zero-column.ensures

@@ -13,11 +13,10 @@ loop-i-init c = (omega arith, refl, λ q e. fill_none _ _)
 
 pub product_at-requires : goal.product_at-requires
 product_at-requires c =
-    let s = c in
     record {
       p_nonzero = omega arith;
-      entries_within = s.requires.entries_within;
-      i_lt_max_size = omega (arith, size_fits _ s.requires.out_len);
+      entries_within = c.requires.entries_within;
+      i_lt_max_size = omega (arith, size_fits _ c.requires.out_len);
     }
 
 pub offset_bounds-out-i : goal.offset_bounds-out-i

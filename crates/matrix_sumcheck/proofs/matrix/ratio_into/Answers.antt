@@ -68,17 +68,14 @@ slice_bounds-interpolate_into-end c = made_length (goal.at.slice_bounds-interpol
 pub interpolate_into-requires : goal.interpolate_into-requires
 interpolate_into-requires c =
     let t = (goal.at.interpolate_into-requires c).After-terms_into in
-    let s = t in
     record {
-      lt_p = s.requires.lt_p;
-      out_len = (made_length t, ap is_size (sym (made_length t)) ∙ size_is _ s.requires.out_len);
+      lt_p = t.requires.lt_p;
+      out_len = (made_length t, ap is_size (sym (made_length t)) ∙ size_is _ t.requires.out_len);
     }
 
 pub returns : goal.returns
 returns c q k M m n alpha beta G H L =
-    let i = c in
-    let root = i in
-    let t = (goal.at.returns root).After-terms_into in
+    let t = (goal.at.returns c).After-terms_into in
     let s = (goal.at.After-terms_into t).Start in
     let a = s.args in
     let l : ℕ = length a.out.now in
@@ -88,5 +85,5 @@ returns c q k M m n alpha beta G H L =
     ∙ ap (λ (j : ℕ). words (padded {q = q} j (terms m n (of alpha) (of beta) a.entries.now))) (sym (lent_length 1024 (fits s))) in
     interpolated q (take l (returned 1024 l (made t))) target (made_length t)
     (back_list 1024 (fits s) (made t) t.terms_into.auto.out target filled)
-    (root.root_of-root.ensures q G.known) (i.interpolate_into.ensures q G.qualifies G.known.value)
+    (c.root_of-root.ensures q G.known) (c.interpolate_into.ensures q G.qualifies G.known.value)
     ∙ ap words (ratio_by_terms G H l s.requires.out_len)

@@ -16,21 +16,18 @@ loop-i-init c = (omega arith, refl, λ q e. fill_none _ _)
 
 pub overflow_mul-i : goal.overflow_mul-i
 overflow_mul-i c =
-    let s = c in
-    omega (arith, size_fits _ s.requires.out_len)
+    omega (arith, size_fits _ c.requires.out_len)
 
 pub overflow_add-i : goal.overflow_add-i
 overflow_add-i c =
-    let s = c in
-    omega (arith, size_fits _ s.requires.out_len)
+    omega (arith, size_fits _ c.requires.out_len)
 
 pub product_at-requires : goal.product_at-requires
 product_at-requires c =
-    let s = c in
     record {
       p_nonzero = omega arith;
-      entries_within = s.requires.entries_within;
-      i_lt_max_size = omega (arith, size_fits _ s.requires.out_len);
+      entries_within = c.requires.entries_within;
+      i_lt_max_size = omega (arith, size_fits _ c.requires.out_len);
     }
 
 pub offset_bounds-out-i : goal.offset_bounds-out-i
@@ -65,9 +62,8 @@ shape_of-out c = omega arith
 pub returns : goal.returns
 returns c q e r k alpha beta L =
     let l = c.loop-i in
-    let s = c in
-    let a = s.args in
+    let a = c.args in
     rule_end (length a.out.now) (rule q a.rows.now a.columns.now a.entries.now) l.out l.i l.invariant.1 (omega arith)
     (l.invariant.2 q e)
-    ∙ ap words (terms_made r k alpha beta (length a.out.now) s.requires.entries_within
-    (size_holds _ s.requires.out_len (few-entries s.requires.entries_within.words)) L)
+    ∙ ap words (terms_made r k alpha beta (length a.out.now) c.requires.entries_within
+    (size_holds _ c.requires.out_len (few-entries c.requires.entries_within.words)) L)

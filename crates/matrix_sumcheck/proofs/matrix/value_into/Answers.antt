@@ -61,13 +61,12 @@ overflow_cast-size c = omega (arith, fits (goal.at.overflow_cast-size c).Start)
 
 pub returns : goal.returns
 returns c q k M m n alpha beta G H L =
-    let copied = c in
-    let t = (goal.at.returns copied).After-ratio_into in
+    let t = (goal.at.returns c).After-ratio_into in
     let s = (goal.at.After-ratio_into t).Start in
     let ratio = t.ratio_into.ensures q k M m n alpha beta G H L in
     record {
       is-remainder =
-          copied.copy_tail.ensures ∙ ap tail (back_is 1024 (fits s) (made t) t.ratio_into.auto.out ∙ ratio)
+          c.copy_tail.ensures ∙ ap tail (back_is 1024 (fits s) (made t) t.ratio_into.auto.out ∙ ratio)
           ∙ remainder_made k M (of alpha) (of beta);
       is-value =
           c.multiply.ensures q G.known.value

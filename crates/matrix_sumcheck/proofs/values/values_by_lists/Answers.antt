@@ -6,12 +6,9 @@ use Rattle.matrix_sumcheck.proofs.values.values_by_lists.Goals as goal
 pub returns : goal.returns
 unfolding values
 returns c q k r n alpha beta G H L =
-    let third = c in
-    let second = third in
-    let first = second in
-    let a = first.value_into.ensures q k A r n alpha beta (G A) H L in
-    let b = second.value_into-2.ensures q k B r n alpha beta (G B) H L in
-    let c = third.value_into-3.ensures q k C r n alpha beta (G C) H L in
+    let a = c.value_into.ensures q k A r n alpha beta (G A) H L in
+    let b = c.value_into-2.ensures q k B r n alpha beta (G B) H L in
+    let c = c.value_into-3.ensures q k C r n alpha beta (G C) H L in
     record {
       remainder-a = a.is-remainder;
       remainder-b = b.is-remainder;

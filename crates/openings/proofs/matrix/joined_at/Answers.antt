@@ -39,28 +39,24 @@ size_inverse-requires c = record {
 pub returns : goal.returns
 unfolding sizes_of
 returns c q K k matrices α β γ quotients =
-    let i = c in
-    let l = i in
-    let d = l in
-    let third = d in
-    let a = third.args in
+    let a = c.args in
     let e = K.value in
     let h : MatrixName → Elem q = λ M. eval (matrix_quotient k α β M) γ in
-    let first : of third.share_of-a.result ≡ of a.delta.a ⊗ of (sizeK k A) ⊗ h A =
-    of-result _ (third.share_of-a.ensures q e)
+    let first : of c.share_of-a.result ≡ of a.delta.a ⊗ of (sizeK k A) ⊗ h A =
+    of-result _ (c.share_of-a.ensures q e)
     ∙ ap₂ (λ (t : Three (List Entry)) (v : Elem q). of a.delta.a ⊗ of (size_for (length t.a)) ⊗ v)
     (sym matrices) (of-result (h A) (quotients A)) in
-    let second : of third.share_of-b.result ≡ of a.delta.b ⊗ of (sizeK k B) ⊗ h B =
-    of-result _ (third.share_of-b.ensures q e)
+    let second : of c.share_of-b.result ≡ of a.delta.b ⊗ of (sizeK k B) ⊗ h B =
+    of-result _ (c.share_of-b.ensures q e)
     ∙ ap₂ (λ (t : Three (List Entry)) (v : Elem q). of a.delta.b ⊗ of (size_for (length t.b)) ⊗ v)
     (sym matrices) (of-result (h B) (quotients B)) in
-    let last : of third.share_of-c.result ≡ of a.delta.c ⊗ of (sizeK k C) ⊗ h C =
-    of-result _ (third.share_of-c.ensures q e)
+    let last : of c.share_of-c.result ≡ of a.delta.c ⊗ of (sizeK k C) ⊗ h C =
+    of-result _ (c.share_of-c.ensures q e)
     ∙ ap₂ (λ (t : Three (List Entry)) (v : Elem q). of a.delta.c ⊗ of (size_for (length t.c)) ⊗ v)
     (sym matrices) (of-result (h C) (quotients C)) in
-    let two = of-result (of {q = q} _ ⊕ of _) (d.add.ensures q e) ∙ ap₂ ◌⊕◌ first second in
-    let all = of-result (of {q = q} _ ⊕ of _) (d.add-all.ensures q e) ∙ ap₂ ◌⊕◌ two last in
-    let inverse = of-result (reciprocal (of _)) (i.size_inverse.ensures q (known-qualifies K) e)
-    ∙ ap (λ (n : ℕ). reciprocal (of {q = q} n)) (l.largest_size.ensures k matrices) in
+    let two = of-result (of {q = q} _ ⊕ of _) (c.add.ensures q e) ∙ ap₂ ◌⊕◌ first second in
+    let all = of-result (of {q = q} _ ⊕ of _) (c.add-all.ensures q e) ∙ ap₂ ◌⊕◌ two last in
+    let inverse = of-result (reciprocal (of _)) (c.size_inverse.ensures q (known-qualifies K) e)
+    ∙ ap (λ (n : ℕ). reciprocal (of {q = q} n)) (c.largest_size.ensures k matrices) in
     c.multiply.ensures q e ∙ ap₂ (λ (u v : Elem q). (u ⊗ v).word) all inverse
     ∙ ap (λ (v : Elem q). v.word) (sym (joined-value k α β γ (map_three of (three a.delta))))

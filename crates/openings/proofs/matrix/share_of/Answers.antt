@@ -7,9 +7,8 @@ use Rattle.openings.proofs.matrix.share_of.Goals as goal
 
 pub returns : goal.returns
 returns c q e =
-    let n = c in
-    let a = n.args in
+    let a = c.args in
     c.multiply-2.ensures q e
     ∙ ap (λ (v : Elem q). (v ⊗ of a.quotient).word)
     (of-result (of {q = q} a.delta ⊗ of _) (c.multiply.ensures q e)
-    ∙ ap (λ (m : ℕ). of a.delta ⊗ of m) n.size_of.ensures)
+    ∙ ap (λ (m : ℕ). of a.delta ⊗ of m) c.size_of.ensures)

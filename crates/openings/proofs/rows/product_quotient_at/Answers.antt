@@ -45,28 +45,23 @@ slice_bounds-interpolated_at-end c = made_length (made (goal.at.slice_bounds-int
 pub interpolated_at-both-requires : goal.interpolated_at-both-requires
 interpolated_at-both-requires c =
     let m = (goal.at.interpolated_at-both-requires c).After-products_into in
-    let s = m in
     record {
       p_nonzero = omega arith;
-      values_len = sym (made_length (made m)) ∙ sym s.requires.lagrange_len.0;
+      values_len = sym (made_length (made m)) ∙ sym m.requires.lagrange_len.0;
     }
 
 pub returns : goal.returns
 returns c q K lagrange h e =
-    let third = c in
-    let second = third in
-    let first = second in
-    let m = (goal.at.returns first).After-products_into in
-    let s = m in
-    let a = s.args in
+    let m = (goal.at.returns c).After-products_into in
+    let a = m.args in
     let v = K.value in
     let Q = known-qualifies K in
     let y : Elem q = of a.y in
     let value : List (Elem q) → Elem q = λ f. eval (interpolate a.n f) y in
-    let left = of-result (value (map of a.left.now)) (first.interpolated_at-first.ensures q Q v a.n s.requires.n_value.0 y lagrange) in
-    let right = of-result (value (map of a.right.now)) (second.interpolated_at-second.ensures q Q v a.n s.requires.n_value.0 y lagrange) in
+    let left = of-result (value (map of a.left.now)) (c.interpolated_at-first.ensures q Q v a.n m.requires.n_value.0 y lagrange) in
+    let right = of-result (value (map of a.right.now)) (c.interpolated_at-second.ensures q Q v a.n m.requires.n_value.0 y lagrange) in
     let products : ℕ → List (Elem q) = λ n. products_of n a.left.now a.right.now in
-    let both = of-result (value _) (third.interpolated_at-both.ensures q Q v a.n s.requires.n_value.0 y lagrange)
+    let both = of-result (value _) (c.interpolated_at-both.ensures q Q v a.n m.requires.n_value.0 y lagrange)
     ∙ ap value (made_list (made m) (products a.n) (made_by_length (made m) products (m.products_into.ensures q v))) in
     let product = of-result (of {q = q} _ ⊗ of _) (c.multiply.ensures q v) ∙ ap₂ ◌⊗◌ left right in
     c.over_vanishing.ensures q K h (of-result (of {q = q} _ ⊖ of _) (c.subtract.ensures q v) ∙ ap₂ ◌⊖◌ product both ∙ e)

@@ -19,15 +19,13 @@ divisor c q e =
 
 pub divide-requires : goal.divide-requires
 divide-requires c =
-    let s = c in
     record {
-      lt_p = s.requires.lt_p;
-      b_nonzero = vanishing-word-not-zero s.requires.outside_domain s.requires.n_value _ c.vanishing_value.ensures;
+      lt_p = c.requires.lt_p;
+      b_nonzero = vanishing-word-not-zero c.requires.outside_domain c.requires.n_value _ c.vanishing_value.ensures;
     }
 
 pub returns : goal.returns
 returns c q K h e =
-    let s = c in
-    let a = s.args in
+    let a = c.args in
     c.divide.ensures q K.value ∙ ap₂ (λ (u v : Elem q). (u ⊘ v).word) e (divisor (goal.at.returns c).After-vanishing_value q K.value)
-    ∙ exact_quotient a.n s.requires.n_value K a.y (outside_here K s.requires.outside_domain) h
+    ∙ exact_quotient a.n c.requires.n_value K a.y (outside_here K c.requires.outside_domain) h

@@ -15,11 +15,9 @@ use Rattle.openings.proofs.values.parted_at.Goals as goal
 -- src/values.rt:69:1
 pub returns : goal.returns
 returns c q e =
-    let r = c in
-    let s = r in
-    let f : List ℕ = s.args.f.now in
-    let y : Elem q = of s.args.y in
-    let rest = r.evaluate-rest.ensures q e ∙ ap (λ (g : Poly q). (eval g y).word) (tail-words q f) in
+    let f : List ℕ = c.args.f.now in
+    let y : Elem q = of c.args.y in
+    let rest = c.evaluate-rest.ensures q e ∙ ap (λ (g : Poly q). (eval g y).word) (tail-words q f) in
     record {
       whole =
           c.multiply_add.ensures q e

@@ -22,8 +22,7 @@ place :
     → let a = c.args in
     Within (length a.rows.now) (length a.out.now) (entry_words a.entries.now c.loop-i.i)
 place c =
-    let s = c in
-    entry-within (length s.args.rows.now) (length s.args.out.now) s.args.entries.now s.requires.all c.loop-i.i (omega arith)
+    entry-within (length c.args.rows.now) (length c.args.out.now) c.args.entries.now c.requires.all c.loop-i.i (omega arith)
 
 pub loop-i-init : goal.loop-i-init
 loop-i-init c = (omega arith, refl, λ q e. adding_none q _ _ _ _)

@@ -12,48 +12,40 @@ use Rattle.prover.proofs.line.add_weights.Goals as goal
 
 pub add_column_sums-requires : goal.add_column_sums-requires
 add_column_sums-requires c =
-    let s = c in
     record {
-      p_nonzero = s.requires.p_nonzero;
-      all = s.requires.each_within.in_a;
+      p_nonzero = c.requires.p_nonzero;
+      all = c.requires.each_within.in_a;
     }
 
 pub add_column_sums-requires-2 : goal.add_column_sums-requires-2
 add_column_sums-requires-2 c =
-    let d = c in
-    let s = d in
-    let kept = d.add_column_sums.auto.out in
+    let kept = c.add_column_sums.auto.out in
     record {
-      p_nonzero = s.requires.p_nonzero;
-      all = columns-within (length s.args.rows.now) (entries_of s.args.eb.now) kept s.requires.each_within.in_b;
+      p_nonzero = c.requires.p_nonzero;
+      all = columns-within (length c.args.rows.now) (entries_of c.args.eb.now) kept c.requires.each_within.in_b;
     }
 
 pub add_column_sums-requires-3 : goal.add_column_sums-requires-3
 add_column_sums-requires-3 c =
-    let e = c in
-    let d = e in
-    let s = d in
-    let kept = e.add_column_sums-2.auto.out ∙ d.add_column_sums.auto.out in
+    let kept = c.add_column_sums-2.auto.out ∙ c.add_column_sums.auto.out in
     record {
-      p_nonzero = s.requires.p_nonzero;
-      all = columns-within (length s.args.rows.now) (entries_of s.args.ec.now) kept s.requires.each_within.in_c;
+      p_nonzero = c.requires.p_nonzero;
+      all = columns-within (length c.args.rows.now) (entries_of c.args.ec.now) kept c.requires.each_within.in_c;
     }
 
 pub shape_of-out : goal.shape_of-out
 shape_of-out c =
-    let last = c in
-    last.add_column_sums-3.auto.out
-    ∙ last.add_column_sums-2.auto.out
-    ∙ last.add_column_sums.auto.out
+    c.add_column_sums-3.auto.out
+    ∙ c.add_column_sums-2.auto.out
+    ∙ c.add_column_sums.auto.out
 
 pub returns : goal.returns
 unfolding weighted
 returns c q e =
-    let last = c in
-    let a = (last.before.before.before.before.before.before.before.before.before.before.before.before.before.before.before).args in
-    let first = last.add_column_sums in
-    let second = last.add_column_sums-2 in
-    let third = last.add_column_sums-3 in
+    let a = (c.before.before.before.before.before.before.before.before.before.before.before.before.before.before.before).args in
+    let first = c.add_column_sums in
+    let second = c.add_column_sums-2 in
+    let third = c.add_column_sums-3 in
     let n : ℕ = length a.out.now in
     let rows : List (Elem q) = map of a.rows.now in
     let old : ℕ → Elem q = λ j. of (get_or a.out.now j 0) in

@@ -10,17 +10,14 @@ use Rattle.prover.proofs.line.weights_from.Goals as goal
 
 pub add_weights-requires : goal.add_weights-requires
 add_weights-requires c =
-    let d = c in
     record {
       p_nonzero = omega arith;
-      each_within = each_within refl (sym d.clear.auto.out) d.requires.each_within;
+      each_within = each_within refl (sym c.clear.auto.out) c.requires.each_within;
     }
 
 pub returns : goal.returns
 returns c q e k eR matrices α made =
-    let d = c in
-    let s = d in
-    let a = s.args in
+    let a = c.args in
     c.add_weights.ensures q e
-    ∙ weights_made q k (length a.out.now) eR α (map_three of (three a.eta)) a.ea.now a.eb.now a.ec.now matrices s.requires.each_within
-    made d.clear.ensures
+    ∙ weights_made q k (length a.out.now) eR α (map_three of (three a.eta)) a.ea.now a.eb.now a.ec.now matrices c.requires.each_within
+    made c.clear.ensures

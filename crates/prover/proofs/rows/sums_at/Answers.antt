@@ -69,10 +69,9 @@ slice_bounds-entries_sum-end c = whole_again (goal.at.slice_bounds-entries_sum-e
 pub entries_sum-requires : goal.entries_sum-requires
 entries_sum-requires c =
     let r = (goal.at.entries_sum-requires c).After-lagrange_values_into in
-    let s = r in
     record {
       p_nonzero = omega arith;
-      all = rows-within (whole_again r) (length s.args.z.now) (entries_of s.args.ea.now) s.requires.each_within.in_a;
+      all = rows-within (whole_again r) (length r.args.z.now) (entries_of r.args.ea.now) r.requires.each_within.in_a;
     }
 
 pub slice_bounds-rows-end-3 : goal.slice_bounds-rows-end-3
@@ -84,10 +83,9 @@ slice_bounds-entries_sum-end-2 c = whole_again (goal.at.slice_bounds-entries_sum
 pub entries_sum-requires-2 : goal.entries_sum-requires-2
 entries_sum-requires-2 c =
     let r = (goal.at.entries_sum-requires-2 c).After-lagrange_values_into in
-    let s = r in
     record {
       p_nonzero = omega arith;
-      all = rows-within (whole_again r) (length s.args.z.now) (entries_of s.args.eb.now) s.requires.each_within.in_b;
+      all = rows-within (whole_again r) (length r.args.z.now) (entries_of r.args.eb.now) r.requires.each_within.in_b;
     }
 
 pub slice_bounds-rows-end-4 : goal.slice_bounds-rows-end-4
@@ -99,10 +97,9 @@ slice_bounds-entries_sum-end-3 c = whole_again (goal.at.slice_bounds-entries_sum
 pub entries_sum-requires-3 : goal.entries_sum-requires-3
 entries_sum-requires-3 c =
     let r = (goal.at.entries_sum-requires-3 c).After-lagrange_values_into in
-    let s = r in
     record {
       p_nonzero = omega arith;
-      all = rows-within (whole_again r) (length s.args.z.now) (entries_of s.args.ec.now) s.requires.each_within.in_c;
+      all = rows-within (whole_again r) (length r.args.z.now) (entries_of r.args.ec.now) r.requires.each_within.in_c;
     }
 
 pub returns : goal.returns

@@ -34,19 +34,16 @@ interpolate_into-requires c =
 
 pub slice_bounds-whole-end-2 : goal.slice_bounds-whole-end-2
 slice_bounds-whole-end-2 c =
-    let v = c in
-    filled_within _ _ (bound (goal.at.slice_bounds-whole-end-2 v).Start) v.interpolate_into.new.out v.interpolate_into.auto.out
+    filled_within _ _ (bound (goal.at.slice_bounds-whole-end-2 c).Start) c.interpolate_into.new.out c.interpolate_into.auto.out
 
 pub slice_bounds-quotient_into-end : goal.slice_bounds-quotient_into-end
 slice_bounds-quotient_into-end c =
-    let v = c in
-    filled_length _ _ (bound (goal.at.slice_bounds-quotient_into-end v).Start) v.interpolate_into.new.out v.interpolate_into.auto.out
+    filled_length _ _ (bound (goal.at.slice_bounds-quotient_into-end c).Start) c.interpolate_into.new.out c.interpolate_into.auto.out
 
 pub quotient_into-requires : goal.quotient_into-requires
 quotient_into-requires c =
-    let v = c in
-    let s = (goal.at.quotient_into-requires v).Start in
-    let size = filled_length _ _ (bound s) v.interpolate_into.new.out v.interpolate_into.auto.out in
+    let s = (goal.at.quotient_into-requires c).Start in
+    let size = filled_length _ _ (bound s) c.interpolate_into.new.out c.interpolate_into.auto.out in
     record {
       p_nonzero = omega arith;
       n_nonzero = size_positive _ s.requires.c_value.1;
@@ -58,14 +55,13 @@ shape_of-out c = c.quotient_into.auto.out
 
 pub returns : goal.returns
 returns c q known =
-    let v = c in
-    let s = (goal.at.returns v).Start in
-    let values = v.interpolate_into in
+    let s = (goal.at.returns c).Start in
+    let values = c.interpolate_into in
     let z : Poly q = map of s.args.z.now in
     let size : length s.args.z.now ≡ s.args.c = s.requires.z_len.0 in
     c.quotient_into.ensures q known.value
     ∙ ap (λ (l : Poly q). words (quotient s.args.x l))
     (of_filled _ _ (bound s) values.new.out values.auto.out (interpolate s.args.c z)
     (values.ensures q (known-qualifies known) known.value
-    (v.root_of.ensures q known ∙ ap (λ (n : ℕ). (root {q = q} n).word) (sym size))
+    (c.root_of.ensures q known ∙ ap (λ (n : ℕ). (root {q = q} n).word) (sym size))
     ∙ ap (λ (n : ℕ). words (interpolate {q = q} n z)) size))

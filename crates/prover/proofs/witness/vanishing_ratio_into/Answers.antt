@@ -35,21 +35,18 @@ fill_vanishing-requires c =
 
 pub slice_bounds-vanishing-end-2 : goal.slice_bounds-vanishing-end-2
 slice_bounds-vanishing-end-2 c =
-    let f = c in
-    filled_within _ _ (bound (goal.at.slice_bounds-vanishing-end-2 f).Start) f.fill_vanishing.new.out f.fill_vanishing.auto.out
+    filled_within _ _ (bound (goal.at.slice_bounds-vanishing-end-2 c).Start) c.fill_vanishing.new.out c.fill_vanishing.auto.out
 
 pub slice_bounds-quotient_into-end : goal.slice_bounds-quotient_into-end
 slice_bounds-quotient_into-end c =
-    let f = c in
-    filled_length _ _ (bound (goal.at.slice_bounds-quotient_into-end f).Start) f.fill_vanishing.new.out f.fill_vanishing.auto.out
+    filled_length _ _ (bound (goal.at.slice_bounds-quotient_into-end c).Start) c.fill_vanishing.new.out c.fill_vanishing.auto.out
 
 pub quotient_into-requires : goal.quotient_into-requires
 quotient_into-requires c =
-    let f = c in
-    let s = (goal.at.quotient_into-requires f).Start in
+    let s = (goal.at.quotient_into-requires c).Start in
     let x : ℕ = s.args.x in
     let length-out : length s.args.out.now ≡ s.args.c + 1 - x = omega arith in
-    let whole = filled_length _ _ (bound s) f.fill_vanishing.new.out f.fill_vanishing.auto.out in
+    let whole = filled_length _ _ (bound s) c.fill_vanishing.new.out c.fill_vanishing.auto.out in
     record {
       p_nonzero = omega arith;
       n_nonzero = size_positive _ s.requires.c_value.1;
@@ -61,9 +58,8 @@ shape_of-out c = c.quotient_into.auto.out
 
 pub returns : goal.returns
 returns c q e =
-    let f = c in
-    let s = (goal.at.returns f).Start in
-    let fill = f.fill_vanishing in
+    let s = (goal.at.returns c).Start in
+    let fill = c.fill_vanishing in
     let n : ℕ = s.args.c in
     c.quotient_into.ensures q e
     ∙ ap (λ (l : Poly q). words (quotient s.args.x l))

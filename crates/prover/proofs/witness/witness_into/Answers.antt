@@ -72,22 +72,19 @@ vanishing_ratio_into-requires c =
 
 pub slice_bounds-ratio-end-2 : goal.slice_bounds-ratio-end-2
 slice_bounds-ratio-end-2 c =
-    let r = c in
-    let ratio = r.vanishing_ratio_into in
-    filled_within _ _ (bound (goal.at.slice_bounds-ratio-end-2 r).Start) ratio.new.out ratio.auto.out
+    let ratio = c.vanishing_ratio_into in
+    filled_within _ _ (bound (goal.at.slice_bounds-ratio-end-2 c).Start) ratio.new.out ratio.auto.out
 
 pub slice_bounds-add_scaled-end : goal.slice_bounds-add_scaled-end
 slice_bounds-add_scaled-end c =
-    let r = c in
-    let ratio = r.vanishing_ratio_into in
-    filled_length _ _ (bound (goal.at.slice_bounds-add_scaled-end r).Start) ratio.new.out ratio.auto.out
+    let ratio = c.vanishing_ratio_into in
+    filled_length _ _ (bound (goal.at.slice_bounds-add_scaled-end c).Start) ratio.new.out ratio.auto.out
 
 pub add_scaled-requires : goal.add_scaled-requires
 add_scaled-requires c =
-    let r = c in
-    let s = (goal.at.add_scaled-requires r).Start in
-    let ratio = r.vanishing_ratio_into in
-    let first = r.private_quotient_into in record {
+    let s = (goal.at.add_scaled-requires c).Start in
+    let ratio = c.vanishing_ratio_into in
+    let first = c.private_quotient_into in record {
       p_nonzero = omega arith;
       g_in_bounds = part_order (filled_length _ _ (bound s) ratio.new.out ratio.auto.out)
           (omega (arith, padded-length s first.new.out first.auto.out));
@@ -95,17 +92,15 @@ add_scaled-requires c =
 
 pub shape_of-out : goal.shape_of-out
 shape_of-out c =
-    let d = c in
-    let first = d.private_quotient_into in
-    c.add_scaled.auto.f ∙ padded-length (goal.at.shape_of-out d).Start first.new.out first.auto.out
+    let first = c.private_quotient_into in
+    c.add_scaled.auto.f ∙ padded-length (goal.at.shape_of-out c).Start first.new.out first.auto.out
 
 pub returns : goal.returns
 returns c q known k eC eX =
-    let r = c in
-    let s = (goal.at.returns r).Start in
+    let s = (goal.at.returns c).Start in
     let a = s.args in
-    let first = r.private_quotient_into in
-    let ratio = r.vanishing_ratio_into in
+    let first = c.private_quotient_into in
+    let ratio = c.vanishing_ratio_into in
     let n : ℕ = a.c - a.x in
     let sizes = s.requires.c_value in
     let part = part_length n a.out.now (short s) in

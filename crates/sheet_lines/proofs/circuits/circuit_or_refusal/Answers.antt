@@ -7,12 +7,10 @@ use Rattle.sheet_lines.proofs.circuits.circuit_or_refusal.Goals as goal
 
 pub returns-in-Fine : goal.returns-in-Fine
 returns-in-Fine c =
-    let c1 = c in
-    let g = given c1.args.request in
-    ap (circuit_line g) (sym (ap fault_refusal c.in-Fine.is) ∙ c1.judge-fault.ensures)
+    let g = given c.args.request in
+    ap (circuit_line g) (sym (ap fault_refusal c.in-Fine.is) ∙ c.judge-fault.ensures)
 
 pub returns-in-Refused : goal.returns-in-Refused
 returns-in-Refused c =
-    let c1 = c in
-    let g = given c1.args.request in
-    ap (circuit_line g) (sym (ap fault_refusal c.in-Refused.is) ∙ c1.judge-fault.ensures)
+    let g = given c.args.request in
+    ap (circuit_line g) (sym (ap fault_refusal c.in-Refused.is) ∙ c.judge-fault.ensures)

@@ -13,13 +13,11 @@ loop-start-init c = ([], refl, kept-none _ refl)
 
 pub loop-start-preserved : goal.loop-start-preserved
 loop-start-preserved c =
-    let c2 = c in
-    let c1 = c2 in
-    let l = c1.loop-start in
-    let text = c1.args.text.now in
+    let l = c.loop-start in
+    let text = c.args.text.now in
     let (gs, all, kept) = l.invariant in (
-      gs ++ circuits (found_line c2.read_line.result ∷ []),
-      one_line_more text l.start c1.line_end-end.result c1.line_end-end.ensures c2.read_line.result c2.read_line.ensures gs ∙ all,
+      gs ++ circuits (found_line c.read_line.result ∷ []),
+      one_line_more text l.start c.line_end-end.result c.line_end-end.ensures c.read_line.result c.read_line.ensures gs ∙ all,
       c.keep_found-c.ensures gs kept,
     )
 

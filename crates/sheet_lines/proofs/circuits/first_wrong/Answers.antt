@@ -10,22 +10,18 @@ loop-start-init c = (search rules, refl)
 
 pub returns-then-is_wrong : goal.returns-then-is_wrong
 returns-then-is_wrong c =
-    let c2 = c in
-    let c1 = c2 in
-    let l = c1.loop-start in
-    let text = c1.args.text.now in
+    let l = c.loop-start in
+    let text = c.args.text.now in
     sym l.invariant.1
-    ∙ wrong_here text l.start c1.line_end-end.result c1.line_end-end.ensures c2.read_line-found.result c2.read_line-found.ensures l.line
+    ∙ wrong_here text l.start c.line_end-end.result c.line_end-end.ensures c.read_line-found.result c.read_line-found.ensures l.line
     (sym c.is_wrong.ensures ∙ c.if-is_wrong.true)
 
 pub loop-start-preserved : goal.loop-start-preserved
 loop-start-preserved c =
-    let c2 = c in
-    let c1 = c2 in
-    let l = c1.loop-start in
-    let text = c1.args.text.now in (
+    let l = c.loop-start in
+    let text = c.args.text.now in (
       search rules,
-      wrong_later text l.start c1.line_end-end.result c1.line_end-end.ensures c2.read_line-found.result c2.read_line-found.ensures l.line
+      wrong_later text l.start c.line_end-end.result c.line_end-end.ensures c.read_line-found.result c.read_line-found.ensures l.line
           (sym c.is_wrong.ensures ∙ c.if-is_wrong.false)
           ∙ l.invariant.1,
     )

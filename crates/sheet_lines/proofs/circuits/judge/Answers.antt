@@ -19,13 +19,10 @@ counts r = list_refusal (map (λ n. leb n max_size) (listed (three r.entries))) 
 pub returns-then-not-is_fine : goal.returns-then-not-is_fine
 unfolding sheet_refusal
 returns-then-not-is_fine c =
-    let c1 = c in
-    stops c1.check_sizes-sizes.result c1.check_sizes-sizes.ensures (counts c1.args.request) (sym c.is_fine.ensures ∙ c.if-not-is_fine.true)
+    stops c.check_sizes-sizes.result c.check_sizes-sizes.ensures (counts c.args.request) (sym c.is_fine.ensures ∙ c.if-not-is_fine.true)
 
 pub returns : goal.returns
 unfolding sheet_refusal
 returns c =
-    let c2 = c in
-    let c1 = c2 in
-    goes_on c1.check_sizes-sizes.result c1.check_sizes-sizes.ensures (counts c1.args.request) (sym c2.is_fine.ensures ∙ c.if-not-is_fine.false)
+    goes_on c.check_sizes-sizes.result c.check_sizes-sizes.ensures (counts c.args.request) (sym c.is_fine.ensures ∙ c.if-not-is_fine.false)
     (last_answer_lem c.check_counts.ensures)

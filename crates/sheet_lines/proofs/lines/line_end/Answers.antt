@@ -8,18 +8,15 @@ loop-i-init c = reached_start c.args.text.now c.args.start (search rules)
 
 pub returns-then-text-i-eq10 : goal.returns-then-text-i-eq10
 returns-then-text-i-eq10 c =
-    let l = c in
-    let a = l.args in
-    ends_at a.text.now a.start l.loop-i.i l.loop-i.invariant (search rules) c.if-text-i-eq10.true
+    let a = c.args in
+    ends_at a.text.now a.start c.loop-i.i c.loop-i.invariant (search rules) c.if-text-i-eq10.true
 
 pub loop-i-preserved : goal.loop-i-preserved
 loop-i-preserved c =
-    let l = c in
-    let a = l.args in
-    reached_more a.text.now a.start l.loop-i.i l.loop-i.invariant (search rules) c.if-text-i-eq10.false
+    let a = c.args in
+    reached_more a.text.now a.start c.loop-i.i c.loop-i.invariant (search rules) c.if-text-i-eq10.false
 
 pub returns : goal.returns
 returns c =
-    let l = c in
-    let a = l.args in
-    ends_last a.text.now a.start l.loop-i.i l.loop-i.invariant (search rules) (search rules)
+    let a = c.args in
+    ends_last a.text.now a.start c.loop-i.i c.loop-i.invariant (search rules) (search rules)

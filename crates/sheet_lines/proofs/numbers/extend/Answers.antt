@@ -7,20 +7,10 @@ returns-then-not-within c = rw c.if-not-within.true c.digit_value-digit.ensures
 
 pub returns-then-next-le-LARGEST_READ : goal.returns-then-next-le-LARGEST_READ
 returns-then-next-le-LARGEST_READ c =
-    let c4 = c in
-    let c3 = c4 in
-    let c2 = c3 in
-    let c1 = c2 in
-    let start = c1 in
-    rw c2.if-not-within.false
-    (omega (arith, c1.digit_value-digit.ensures, c3.wide.ensures, c4.wide-2.ensures, c.if-next-le-LARGEST_READ))
+    rw c.if-not-within.false
+    (omega (arith, c.digit_value-digit.ensures, c.wide.ensures, c.wide-2.ensures, c.if-next-le-LARGEST_READ))
 
 pub returns-else-next-le-LARGEST_READ : goal.returns-else-next-le-LARGEST_READ
 returns-else-next-le-LARGEST_READ c =
-    let c4 = c in
-    let c3 = c4 in
-    let c2 = c3 in
-    let c1 = c2 in
-    let start = c1 in
-    rw c2.if-not-within.false
-    (omega (arith, c1.digit_value-digit.ensures, c3.wide.ensures, c4.wide-2.ensures, c.if-next-le-LARGEST_READ))
+    rw c.if-not-within.false
+    (omega (arith, c.digit_value-digit.ensures, c.wide.ensures, c.wide-2.ensures, c.if-next-le-LARGEST_READ))

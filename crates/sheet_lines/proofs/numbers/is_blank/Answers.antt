@@ -13,15 +13,10 @@ returns-then-b-eq9 c = simp (ne_eqb _ _ c.if-b-eq32.false, eq-eqb _ _ c.if-b-eq9
 
 pub returns-then-b-eq10 : goal.returns-then-b-eq10
 returns-then-b-eq10 c =
-    let c2 = c in
-    let c1 = c2 in
-    simp (ne_eqb _ _ c1.if-b-eq32.false, ne_eqb _ _ c2.if-b-eq9.false, eq-eqb _ _ c.if-b-eq10.true)
+    simp (ne_eqb _ _ c.if-b-eq32.false, ne_eqb _ _ c.if-b-eq9.false, eq-eqb _ _ c.if-b-eq10.true)
 
 pub returns : goal.returns
 returns c =
-    let c2 = c in
-    let c1 = c2 in
-    let start = c1 in
-    let b = start.args.b in
-    sym (ap₂ (λ (s t : Bool). s || t || eqb b 10 || eqb b 13) (ne_eqb b 32 c1.if-b-eq32.false) (ne_eqb b 9 c2.if-b-eq9.false)
+    let b = c.args.b in
+    sym (ap₂ (λ (s t : Bool). s || t || eqb b 10 || eqb b 13) (ne_eqb b 32 c.if-b-eq32.false) (ne_eqb b 9 c.if-b-eq9.false)
     ∙ ap (λ t. t || eqb b 13) (ne_eqb b 10 c.if-b-eq10.false))

@@ -14,10 +14,8 @@ loop-i-init c = (search rules, refl)
 
 pub loop-i-preserved : goal.loop-i-preserved
 loop-i-preserved c =
-    let c1 = c in
-    let start = c1 in
-    let l = c1.loop-i in
-    let text = start.args.text.now in
+    let l = c.loop-i in
+    let text = c.args.text.now in
     let left : drop l.i text ≡ _ = drop-cons text l.i 0 (search rules) in (
       search rules,
       ap₂ (λ t n. foldl stepped t (drop n text)) c.step-s.ensures (add-one l.i) ∙ sym (ap (foldl stepped l.s) left) ∙ l.invariant.1,

@@ -58,7 +58,7 @@ open_all-all-requires c =
     let a = c.args in
     record {
       lt_p = lit< tt;
-      fits = (fits c).ranges;
+      fits = (fits c).fits;
       points_outside = points_outside baby_bear-known a.alpha a.beta a.gamma (fits c).outside;
     }
 

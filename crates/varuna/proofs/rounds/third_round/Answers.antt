@@ -90,10 +90,9 @@ shape_of-quotient c = c.line_into.auto.quotient
 pub returns-in-Fine : goal.returns-in-Fine
 unfolding third_round_call lengths sizes_of circuit_of
 returns-in-Fine c =
-    let l = (goal.at.returns-in-Fine c).After-line_into in
-    let a = l.args in
-    let made = l.line_into.ensures baby_bear known-prime baby_bear-qualifies in
-    fill_done (a.remainder.now, a.quotient.now) (matched l.in-Fine.is (judgement (goal.at.After-line_into l).After-judge_round-fault))
+    let a = c.args in
+    let made = c.line_into.ensures baby_bear known-prime baby_bear-qualifies in
+    fill_done (a.remainder.now, a.quotient.now) (matched c.in-Fine.is (judgement (goal.at.returns-in-Fine c).After-judge_round-fault))
     (ap₂ (λ (l m : List ℕ). (l, m)) made.0 made.1)
 
 pub returns-in-Refused : goal.returns-in-Refused
