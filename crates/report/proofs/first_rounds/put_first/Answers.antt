@@ -57,15 +57,13 @@ slice_bounds-put_first_lines-end-2 c =
 
 pub put_first_lines-requires : goal.put_first_lines-requires
 put_first_lines-requires c =
-    let last = c.first_round.new.1.1.1.1.1.1.1.1.1 in
-    let kept = c.first_round.auto.1.1.1.1.1.1.1.1.1 in
     let n = (goal.at.put_first_lines-requires c).After-lengths_of-due in
     let w = (room n).witness_most in
     let h = (room n).row_quotient_most in record {
       witness_len_bound = (
-        part_order (back_length 1024 w last.0 kept.0) w,
+        part_order (back_length 1024 w c.first_round.new.witness c.first_round.auto.witness) w,
         mask_most (input n) n.requires.free,
-        part_order (back_length 1024 h last.1.0 kept.1.0) h,
+        part_order (back_length 1024 h c.first_round.new.row_quotient c.first_round.auto.row_quotient) h,
       );
       most_line_in_bounds = n.requires.most_line_in_bounds;
     }
@@ -74,14 +72,12 @@ pub returns : goal.returns
 unfolding first_text
 returns c =
     let n = (goal.at.returns c).After-lengths_of-due in
-    let last = c.first_round.new.1.1.1.1.1.1.1.1.1 in
-    let kept = c.first_round.auto.1.1.1.1.1.1.1.1.1 in
     let w = (room n).witness_most in
     let h = (room n).row_quotient_most in
     let table = n.lengths_of-due.ensures in
     let done =
     first_done (input n) _ n.requires.free (sym (lent_length 1024 w) ∙ ap (λ (l : MessageLengths). l.witness) table)
     (sym (lent_length 1024 h) ∙ ap (λ (l : MessageLengths). l.row_quotient) table) c.first_round.ensures in
-    let witness = back_is 1024 w last.0 kept.0 ∙ ap (λ (p : List ℕ × List ℕ). p.0) done in
-    let quotient = back_is 1024 h last.1.0 kept.1.0 ∙ ap (λ (p : List ℕ × List ℕ). p.1) done in
+    let witness = back_is 1024 w c.first_round.new.witness c.first_round.auto.witness ∙ ap (λ (p : List ℕ × List ℕ). p.0) done in
+    let quotient = back_is 1024 h c.first_round.new.row_quotient c.first_round.auto.row_quotient ∙ ap (λ (p : List ℕ × List ℕ). p.1) done in
     printed_as (λ t. first_lines (witness t) n.args.m.now (quotient t)) c.put_first_lines.ensures

@@ -57,12 +57,10 @@ slice_bounds-put_third_lines-end-2 c =
 
 pub put_third_lines-requires : goal.put_third_lines-requires
 put_third_lines-requires c =
-    let last = c.third_round.new.1.1.1.1.1.1.1.1.1.1.1 in
-    let kept = c.third_round.auto.1.1.1.1.1.1.1.1.1.1.1 in
     let n = (goal.at.put_third_lines-requires c).After-lengths_of-due in
     let g = (room n).line_remainder_most in
     let h = (room n).line_quotient_most in record {
-      remainder_len_bound = (part_order (back_length 1024 g last.0 kept.0) g, part_order (back_length 1024 h last.1.0 kept.1.0) h);
+      remainder_len_bound = (part_order (back_length 1024 g c.third_round.new.remainder c.third_round.auto.remainder) g, part_order (back_length 1024 h c.third_round.new.quotient c.third_round.auto.quotient) h);
       most_line_in_bounds = n.requires.most_line_in_bounds;
     }
 
@@ -71,8 +69,6 @@ unfolding third_text
 returns c =
     let n = (goal.at.returns c).After-lengths_of-due in
     let a = n.args in
-    let last = c.third_round.new.1.1.1.1.1.1.1.1.1.1.1 in
-    let kept = c.third_round.auto.1.1.1.1.1.1.1.1.1.1.1 in
     let g = (room n).line_remainder_most in
     let h = (room n).line_quotient_most in
     let table = n.lengths_of-due.ensures in
@@ -80,6 +76,6 @@ returns c =
     third-done (input n) a.alpha (three a.eta) _ n.requires.free
     (sym (lent_length 1024 g) ∙ ap (λ (l : MessageLengths). l.line_remainder) table)
     (sym (lent_length 1024 h) ∙ ap (λ (l : MessageLengths). l.line_quotient) table) c.third_round.ensures in
-    let remainder = back_is 1024 g last.0 kept.0 ∙ ap (λ (p : List ℕ × List ℕ). p.0) done in
-    let quotient = back_is 1024 h last.1.0 kept.1.0 ∙ ap (λ (p : List ℕ × List ℕ). p.1) done in
+    let remainder = back_is 1024 g c.third_round.new.remainder c.third_round.auto.remainder ∙ ap (λ (p : List ℕ × List ℕ). p.0) done in
+    let quotient = back_is 1024 h c.third_round.new.quotient c.third_round.auto.quotient ∙ ap (λ (p : List ℕ × List ℕ). p.1) done in
     printed_as (λ t. third_lines (remainder t) (quotient t)) c.put_third_lines.ensures

@@ -33,6 +33,11 @@ slice_bounds-quotient-end-2 c =
     back_holds 1024 (room (goal.at.slice_bounds-quotient-end-2 c).After-lengths_of-n).joined_quotient_most c.fifth_round.new.out
     c.fifth_round.auto.out
 
+pub slice_bounds-put_line-end-2 : goal.slice_bounds-put_line-end-2
+slice_bounds-put_line-end-2 c =
+    back_length 1024 (room (goal.at.slice_bounds-put_line-end-2 c).After-lengths_of-n).joined_quotient_most c.fifth_round.new.out
+    c.fifth_round.auto.out
+
 pub put_line-requires : goal.put_line-requires
 put_line-requires c =
     let n = (goal.at.put_line-requires c).After-lengths_of-n in

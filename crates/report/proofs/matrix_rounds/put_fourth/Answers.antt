@@ -76,14 +76,12 @@ slice_bounds-put_fourth_lines-end-3 c =
 
 pub put_fourth_lines-place-requires : goal.put_fourth_lines-place-requires
 put_fourth_lines-place-requires c =
-    let last = c.fourth_round-answer.new.1.1.1.1.1.1.1.1.1.1.1.1 in
-    let kept = c.fourth_round-answer.auto.1.1.1.1.1.1.1.1.1.1.1.1 in
     let n = (goal.at.put_fourth_lines-place-requires c).After-lengths_of in
     let R = room n in record {
       ga_len_bound = (
-        part_order (back_length 1024 R.a_most last.0 kept.0) R.a_most,
-        part_order (back_length 1024 R.b_most last.1.0 kept.1.0) R.b_most,
-        part_order (back_length 1024 R.c_most last.1.1.0 kept.1.1.0) R.c_most,
+        part_order (back_length 1024 R.a_most c.fourth_round-answer.new.ga c.fourth_round-answer.auto.ga) R.a_most,
+        part_order (back_length 1024 R.b_most c.fourth_round-answer.new.gb c.fourth_round-answer.auto.gb) R.b_most,
+        part_order (back_length 1024 R.c_most c.fourth_round-answer.new.gc c.fourth_round-answer.auto.gc) R.c_most,
       );
       most_fourth_in_bounds = n.requires.most_fourth_in_bounds;
     }
@@ -93,8 +91,6 @@ unfolding fourth_text
 returns c =
     let n = (goal.at.returns c).After-lengths_of in
     let a = n.args in
-    let last = c.fourth_round-answer.new.1.1.1.1.1.1.1.1.1.1.1.1 in
-    let kept = c.fourth_round-answer.auto.1.1.1.1.1.1.1.1.1.1.1.1 in
     let R = room n in
     let table = ap (λ (l : MessageLengths). l.matrix_remainders) n.lengths_of.ensures in
     let lent =
@@ -102,9 +98,9 @@ returns c =
     (sym (lent_length 1024 R.b_most) ∙ ap (λ (l : Three ℕ). l.b) table) (sym (lent_length 1024 R.c_most) ∙ ap (λ (l : Three ℕ). l.c) table) in
     let done = fourth-done (input n) a.alpha (three a.eta) a.beta _ n.requires.free lent c.fourth_round-answer.ensures in
     let values = c.words_or_zeros-values.ensures ∙ done.0 in
-    let ga = back_is 1024 R.a_most last.0 kept.0 ∙ ap (λ (g : Three (List ℕ)). g.a) done.1 in
-    let gb = back_is 1024 R.b_most last.1.0 kept.1.0 ∙ ap (λ (g : Three (List ℕ)). g.b) done.1 in
-    let gc = back_is 1024 R.c_most last.1.1.0 kept.1.1.0 ∙ ap (λ (g : Three (List ℕ)). g.c) done.1 in
+    let ga = back_is 1024 R.a_most c.fourth_round-answer.new.ga c.fourth_round-answer.auto.ga ∙ ap (λ (g : Three (List ℕ)). g.a) done.1 in
+    let gb = back_is 1024 R.b_most c.fourth_round-answer.new.gb c.fourth_round-answer.auto.gb ∙ ap (λ (g : Three (List ℕ)). g.b) done.1 in
+    let gc = back_is 1024 R.c_most c.fourth_round-answer.new.gc c.fourth_round-answer.auto.gc ∙ ap (λ (g : Three (List ℕ)). g.c) done.1 in
     record {
       values_value = values;
       printed = printed_as (λ t. fourth_lines (values t) (three_of (ga t) (gb t) (gc t))) c.put_fourth_lines-place.ensures;
