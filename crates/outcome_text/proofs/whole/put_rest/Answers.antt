@@ -59,12 +59,12 @@ returns c =
     let d = a.drawn in
     let f = c.put_fourth-fourth.ensures in
     let k = c.sizes_of-s.ensures in
-    let whole = printed_then f.1 (printed_then c.put_fifth-last.ensures c.put_last.ensures) in
+    let whole = printed_then f.printed (printed_then c.put_fifth-last.ensures c.put_last.ensures) in
     printed_within
     (printed_as
     (λ t.
     fourth_text (input s) d.alpha d.beta
     ++ (fifth_text (input s) d.alpha d.beta (three d.delta)
-    ++ last_text (k t) a.z.now d (three a.sums) (f.0 t) (opened_meaning a.o a.i)))
+    ++ last_text (k t) a.z.now d (three a.sums) (f.values_value t) (opened_meaning a.o a.i)))
     whole)
     (omega arith)
