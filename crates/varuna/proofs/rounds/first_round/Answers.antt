@@ -8,7 +8,7 @@ use borrow.Author.Tests.{eqb-true}
 use Rattle.domain.specs.BabyBear.{baby_bear}
 use Rattle.domain.proofs.Qualification.{baby_bear-qualifies, baby_bear_modulus}
 use Rattle.protocol.specs.Circuit.{Circuit, sizes_of}
-use Rattle.protocol.specs.Messages.{MessageLengths, lengths, witness, row_quotient}
+use Rattle.protocol.specs.Messages.{MessageLengths, lengths}
 use Rattle.shared.specs.Meanings.{fault_refusal}
 use Rattle.protocol.specs.Calls.{ProverInput, circuit_of, round_refusal, first_round_call}
 use Rattle.circuit.specs.Given.{given, prover_input}

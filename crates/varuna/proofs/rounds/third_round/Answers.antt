@@ -7,10 +7,10 @@ use borrow.Author.Tests.{eqb-true}
 use Rattle.domain.specs.BabyBear.{baby_bear}
 use Rattle.domain.proofs.Qualification.{baby_bear-qualifies, baby_bear_modulus}
 use Rattle.protocol.specs.Circuit.{sizes_of}
-use Rattle.protocol.specs.Messages.{MessageLengths, lengths, line_remainder, line_quotient}
+use Rattle.protocol.specs.Messages.{MessageLengths, lengths}
 use Rattle.shared.specs.Meanings.{fault_refusal}
 use Rattle.protocol.specs.Calls.{ProverInput, circuit_of, round_refusal, third_round_call}
-use Rattle.circuit.specs.Given.{given, prover_input}
+use Rattle.circuit.specs.Given.{prover_input}
 use Rattle.varuna.proofs.AnswerLaws.{matched, fill_done}
 use Rattle.varuna.proofs.CallRounds.{InputFits, input_fits, known-prime}
 use Rattle.varuna.proofs.rounds.third_round.Goals as goal
