@@ -1,7 +1,7 @@
 -- The reserved columns by the sizes, entries in a reserved row and reserved columns, found in lists of words, and whether row and columns
 -- can be reserved. Assumes nothing.
-use mathlib.Core.Path.{◌≡◌, refl, sym, ap, ap₂, ◌∙◌}
-use mathlib.Core.Bool.{Bool, true, false, not, ◌&&◌, ◌||◌}
+use mathlib.Core.Path.{◌≡◌, sym, ap, ap₂, ◌∙◌}
+use mathlib.Core.Bool.{Bool, true, false, not, ◌&&◌, ◌||◌, or_assoc}
 use mathlib.Core.Logic.{◌≢◌}
 use mathlib.Core.List.{List, ◌++◌}
 use Prim.Native.Nat.{ℕ, ◌-◌, ◌*◌, ◌/◌, ◌<◌, ◌≤◌}
@@ -26,14 +26,6 @@ use Rattle.blinding.specs.Given.{Sized, Reserving}
 -- an entry stands in a row or in one of three columns
 abbrev pub stands : ℕ → Three ℕ → Entry → Bool
 stands last columns e = eqb e.row last || any (eqb e.column) (listed columns)
-
--- by the last column, where the row and the other columns do not have it
-pub by_last : {r a b : Bool} (d : Bool) → r ≡ false → a ≡ false → b ≡ false → d ≡ (r || (a || (b || (d || false))))
-by_last d r a b = go d ∙ sym (λ t. r t || (a t || (b t || (d || false))))
-  where
-    go : (d : Bool) → d ≡ (d || false)
-    go true = refl
-    go false = refl
 
 -- in those of a circuit
 pub stands_by : (k : Circuit) {last : ℕ} {columns : Three ℕ} → reserved_row k ≡ last → reserved_columns k ≡ columns → (es : List Entry)
@@ -101,15 +93,8 @@ module _ (k : Circuit) {r c x : ℕ} (columns : k.|C| ≡ c) (publics : k.|X| �
   pub too_few : c - x < 3 → false ≡ reservable k
   too_few few = sym (by_lists ∙ ap (λ (b : Bool). b && not (found ea || (found eb || found ec))) (lt-leb 3 (c - x) few))
 
-  module _ (enough : 3 ≤ c - x) where
-    by_entries : reservable k ≡ not (found ea || (found eb || found ec))
-    by_entries = by_lists ∙ ap (λ (b : Bool). b && not (found ea || (found eb || found ec))) (le-leb 3 (c - x) enough)
-
-    pub found_in_a : found ea ≡ true → false ≡ reservable k
-    found_in_a a = sym (by_entries ∙ ap (λ (b : Bool). not (b || (found eb || found ec))) a)
-
-    pub found_in_b : found ea ≡ false → found eb ≡ true → false ≡ reservable k
-    found_in_b a b = sym (by_entries ∙ ap₂ (λ (a b : Bool). not (a || (b || found ec))) a b)
-
-    pub found_in_c : {f : Bool} → found ea ≡ false → found eb ≡ false → f ≡ found ec → not f ≡ reservable k
-    found_in_c a b c = ap not c ∙ sym (by_entries ∙ ap₂ (λ (a b : Bool). not (a || (b || found ec))) a b)
+  -- enough columns: it is not so where an entry of the three lists is found
+  pub by_entries : {f : Bool} → 3 ≤ c - x → f ≡ ((found ea || found eb) || found ec) → not f ≡ reservable k
+  by_entries enough e =
+      ap not (e ∙ or_assoc (found ea) (found eb) (found ec))
+      ∙ sym (by_lists ∙ ap (λ (b : Bool). b && not (found ea || (found eb || found ec))) (le-leb 3 (c - x) enough))

@@ -1,6 +1,7 @@
 -- What the contracts of this crate ask of a call: its sizes, its lists, and its lent slices. Assumes nothing.
 use Rattle.std.specs.Prelude.{◌≡◌, true, List, ℕ, ◌+◌, ◌-◌, ◌*◌, ◌%◌, ◌<◌, ◌≤◌, length}
 use Rattle.domain.specs.Size.{is_size, max_size}
+use Rattle.circuit.specs.declared.given.CircuitWords.{CircuitWords}
 
 -- sizes that 4 lets through
 pub record Sized (r c x : ℕ) : Type 0 where
@@ -37,3 +38,11 @@ pub record Fitting (r c x : ℕ) (ea eb ec z blindedA blindedB blindedC blindedZ
   pub lent-b : length blindedB ≡ length eb + 3
   pub lent-c : length blindedC ≡ length ec + 3
   pub lent-z : length blindedZ ≡ c
+
+-- the same for the circuit that a call is given
+abbrev pub ShapedCircuit : CircuitWords → List ℕ → Type 0
+ShapedCircuit k z = Shaped k.r k.c k.x k.matrices.a.now k.matrices.b.now k.matrices.c.now z
+
+abbrev pub FittingCircuit : CircuitWords → List ℕ → List ℕ → List ℕ → List ℕ → List ℕ → Type 0
+FittingCircuit k z blindedA blindedB blindedC blindedZ =
+    Fitting k.r k.c k.x k.matrices.a.now k.matrices.b.now k.matrices.c.now z blindedA blindedB blindedC blindedZ

@@ -2,11 +2,12 @@
 ghost use Rattle.std.specs.Prelude.{◌≡◌, [], ◌∷◌, ◌++◌, ◌+◌, ◌<◌, length, set};
 ghost use Rattle.protocol.specs.Blinded.{blinded_words};
 ghost use Rattle.shared.specs.Meanings.{three};
-ghost use Rattle.circuit.specs.Given.{given};
-ghost use Rattle.blinding.specs.Given.{Fitting};
+ghost use Rattle.circuit.specs.Given.{circuit_words};
+ghost use Rattle.blinding.specs.Given.{FittingCircuit};
 
 use crate::columns;
-use shared::Triple;
+use circuit::given::CircuitWords;
+use shared::{Three, Triple};
 
 // The entries, and one more after them.
 fn entries_into(entries: &[u32], row: u32, column: u32, value: u32, out: &mut [u32])
@@ -35,27 +36,23 @@ fn assignment_into(z: &[u32], columns: Triple, rho: Triple, out: &mut [u32])
 
 // All four.
 pub fn blind_into(
-    r: u32,
-    c: u32,
-    x: u32,
-    ea: &[u32],
-    eb: &[u32],
-    ec: &[u32],
+    circuit: &CircuitWords,
     z: &[u32],
     rho: Triple,
-    blindedA: &mut [u32],
-    blindedB: &mut [u32],
-    blindedC: &mut [u32],
-    blindedZ: &mut [u32],
+    blinded_a: &mut [u32],
+    blinded_b: &mut [u32],
+    blinded_c: &mut [u32],
+    blinded_z: &mut [u32],
 )
-    requires { Fitting r c x ea.now eb.now ec.now z.now blindedA.old blindedB.old blindedC.old blindedZ.old }
-    ensures { (record { a = blindedA.new; b = blindedB.new; c = blindedC.new }, blindedZ.new)
-        ≡ blinded_words (given r c x ea.now eb.now ec.now) z.now (three rho) }
+    requires { FittingCircuit circuit.now z.now blinded_a.old blinded_b.old blinded_c.old blinded_z.old }
+    ensures { (record { a = blinded_a.new; b = blinded_b.new; c = blinded_c.new }, blinded_z.new)
+        ≡ blinded_words (circuit_words circuit.now) z.now (three rho) }
 {
-    let columns = columns::reserved_columns(c, x);
-    let last = r - 1;
-    entries_into(ea, last, columns.a, 1, blindedA);
-    entries_into(eb, last, columns.b, 1, blindedB);
-    entries_into(ec, last, columns.c, 1, blindedC);
-    assignment_into(z, columns, rho, blindedZ);
+    let columns = columns::reserved_columns(circuit.c, circuit.x);
+    let last = circuit.r - 1;
+    let Three { a, b, c } = circuit.matrices;
+    entries_into(a, last, columns.a, 1, blinded_a);
+    entries_into(b, last, columns.b, 1, blinded_b);
+    entries_into(c, last, columns.c, 1, blinded_c);
+    assignment_into(z, columns, rho, blinded_z);
 }

@@ -5,10 +5,11 @@ ghost use Rattle.protocol.specs.Circuit.{Circuit};
 ghost use Rattle.protocol.specs.Calls.{entries_of};
 ghost use Rattle.protocol.specs.Blinded.{reserved_row, reserved_columns, stands_reserved, reservable};
 ghost use Rattle.shared.specs.Meanings.{three};
-ghost use Rattle.circuit.specs.Given.{entry_lists};
+ghost use Rattle.circuit.specs.Given.{lists_in};
 ghost use Rattle.blinding.specs.Given.{Sized, Reserving};
 
-use shared::Triple;
+use circuit::given::CircuitWords;
+use shared::{Three, Triple};
 
 // The three highest columns that are not public, rising. Where every second column is public they are every second one, else the last
 // three.
@@ -34,16 +35,7 @@ pub fn reserved_columns(c: u32, x: u32) -> Triple
 fn is_reserved(last: u32, columns: Triple, row: u32, column: u32) -> bool
     ensures { result ≡ (eqb row last || any (eqb column) (columns.a ∷ columns.b ∷ columns.c ∷ [])) }
 {
-    if row == last {
-        return true;
-    }
-    if column == columns.a {
-        return true;
-    }
-    if column == columns.b {
-        return true;
-    }
-    column == columns.c
+    row == last || column == columns.a || column == columns.b || column == columns.c
 }
 
 // Some entry of a list does.
@@ -51,33 +43,27 @@ fn any_reserved(last: u32, columns: Triple, entries: &[u32]) -> bool
     ensures { (k : Circuit) → reserved_row k ≡ last → reserved_columns k ≡ three columns
         → result ≡ any (stands_reserved k) (entries_of entries.now) }
 {
-    let count = entries.len() / 3;
-    let mut i = 0;
-    while i < count {
+    for i in 0..entries.len() / 3 {
         if is_reserved(last, columns, entries[3 * i], entries[3 * i + 1]) {
             return true;
         }
-        i += 1;
     }
     false
 }
 
 // There are three columns that are not public, and no entry stands in the last row or in the highest three of them.
-pub fn is_reservable(r: u32, c: u32, x: u32, ea: &[u32], eb: &[u32], ec: &[u32]) -> bool
-    requires { Sized r c x }
-    ensures { (k : Circuit) → k.|R| ≡ r → k.|C| ≡ c → k.|X| ≡ x
-        → k.matrices ≡ entry_lists ea.now eb.now ec.now → result ≡ reservable k }
+pub fn is_reservable(circuit: &CircuitWords) -> bool
+    requires { Sized circuit.now.r circuit.now.c circuit.now.x }
+    ensures { (k : Circuit) → k.|R| ≡ circuit.now.r → k.|C| ≡ circuit.now.c → k.|X| ≡ circuit.now.x
+        → k.matrices ≡ lists_in circuit.now → result ≡ reservable k }
 {
-    if c - x < 3 {
+    if circuit.c - circuit.x < 3 {
         return false;
     }
-    let columns = reserved_columns(c, x);
-    let last = r - 1;
-    if any_reserved(last, columns, ea) {
-        return false;
-    }
-    if any_reserved(last, columns, eb) {
-        return false;
-    }
-    !any_reserved(last, columns, ec)
+    let columns = reserved_columns(circuit.c, circuit.x);
+    let last = circuit.r - 1;
+    let Three { a, b, c } = circuit.matrices;
+    !(any_reserved(last, columns, a)
+        || any_reserved(last, columns, b)
+        || any_reserved(last, columns, c))
 }

@@ -7,185 +7,118 @@ ghost use Rattle.std.specs.Prelude.{◌≡◌, ◌<◌, ◌≤◌, length};
 ghost use Rattle.field.specs.Prime.{Prime};
 ghost use Rattle.domain.specs.Qualifies.{Qualifies};
 ghost use Rattle.protocol.specs.Circuit.{Circuit};
-ghost use Rattle.shared.specs.Meanings.{fault_refusal};
+ghost use Rattle.shared.specs.Meanings.{refusal_in};
 ghost use Rattle.protocol.specs.Calls.{round_refusal};
-ghost use Rattle.circuit.specs.Given.{given, prover_input, entry_lists, ThreeLists, Shaped};
+ghost use Rattle.circuit.specs.Given.{circuit_words, input_words, lists_in, WholeLists, ShapedInput};
 ghost use Rattle.circuit.specs.Judgement.{index_shape_refusal, shape_refusal, circuit_refusal, index_due, index_refusal, index_contents_refusal, contents_refusal};
 
+use circuit::given::{CircuitWords, ProverInput};
 use circuit::{checks, matrices};
 use shared::constant::judge_constant;
-use shared::{Fault, is_fine};
+use shared::{Refusal, Three};
 
 // 4 and 5 of a circuit: its sizes and its entry lists.
-fn judge_index_shape(r: u32, c: u32, x: u32, ea: &[u32], eb: &[u32], ec: &[u32]) -> Fault
-    ensures { fault_refusal result ≡ index_shape_refusal (given r c x ea.now eb.now ec.now) }
+fn judge_index_shape(circuit: &CircuitWords) -> Result<(), Refusal>
+    ensures { refusal_in result ≡ index_shape_refusal (circuit_words circuit.now) }
 {
-    let fault = checks::check_sizes(r, c, x);
-    if !is_fine(fault) {
-        return fault;
-    }
-    checks::check_entry_lists(ea.len(), eb.len(), ec.len())
+    checks::check_sizes(circuit.r, circuit.c, circuit.x)?;
+    let Three { a, b, c } = circuit.matrices;
+    checks::check_entry_lists(a.len(), b.len(), c.len())
 }
 
 // 4 and 5 of what every prover call begins with: sizes, entry lists, z and m.
-fn judge_shape(
-    r: u32,
-    c: u32,
-    x: u32,
-    ea: &[u32],
-    eb: &[u32],
-    ec: &[u32],
-    z: &[u32],
-    m: &[u32],
-) -> Fault
-    ensures { fault_refusal result
-        ≡ shape_refusal (given r c x ea.now eb.now ec.now) z.now m.now }
+fn judge_shape(input: &ProverInput) -> Result<(), Refusal>
+    ensures { refusal_in result ≡ shape_refusal (circuit_words input.now.circuit) input.now.z.now input.now.m.now }
 {
-    let fault = judge_index_shape(r, c, x, ea, eb, ec);
-    if !is_fine(fault) {
-        return fault;
-    }
-    checks::check_assignment_lists(c, z.len(), m.len())
+    judge_index_shape(&input.circuit)?;
+    checks::check_assignment_lists(input.circuit.c, input.z.len(), input.m.len())
 }
 
 // 6 and 7 of a circuit whose shape is fine.
-fn judge_index_contents(p: u32, r: u32, c: u32, ea: &[u32], eb: &[u32], ec: &[u32]) -> Fault
-    requires { ThreeLists ea.now eb.now ec.now }
-    ensures { (q : Prime) → q.p ≡ p → (k : Circuit) → k.|R| ≡ r → k.|C| ≡ c
-        → k.matrices ≡ entry_lists ea.now eb.now ec.now → fault_refusal result ≡ index_contents_refusal q k }
+fn judge_index_contents(p: u32, circuit: &CircuitWords) -> Result<(), Refusal>
+    requires { WholeLists circuit.now }
+    ensures { (q : Prime) → q.p ≡ p → (k : Circuit) → k.|R| ≡ circuit.now.r → k.|C| ≡ circuit.now.c
+        → k.matrices ≡ lists_in circuit.now → refusal_in result ≡ index_contents_refusal q k }
 {
-    let fault = checks::check_three_values(p, ea, eb, ec);
-    if !is_fine(fault) {
-        return fault;
-    }
-    checks::check_three_entries(r, c, ea, eb, ec)
+    checks::check_three_values(p, circuit)?;
+    checks::check_three_entries(circuit)
 }
 
 // 6, 7, 8, 13, 9 and 10 of a prover call whose shape is fine. The challenges are all its challenge words, the points those of α, β, γ that
 // it has.
 fn judge_contents(
     p: u32,
-    r: u32,
-    c: u32,
-    ea: &[u32],
-    eb: &[u32],
-    ec: &[u32],
-    z: &[u32],
-    mask: u32,
-    m: &[u32],
+    input: &ProverInput,
     challenges: &[u32],
     points: &[u32],
-) -> Fault
+) -> Result<(), Refusal>
     requires lt_p { 1 < p }
-    requires shaped { Shaped r c ea.now eb.now ec.now z.now m.now }
+    requires shaped { ShapedInput input.now }
     requires points_len_bound { length points.now ≤ 3 }
-    ensures { (q : Prime) → Qualifies q → q.p ≡ p → (k : Circuit) → k.|R| ≡ r → k.|C| ≡ c
-        → k.matrices ≡ entry_lists ea.now eb.now ec.now
-        → fault_refusal result ≡ contents_refusal q k z.now mask m.now challenges.now points.now }
+    ensures { (q : Prime) → Qualifies q → q.p ≡ p → (k : Circuit)
+        → k.|R| ≡ input.now.circuit.r → k.|C| ≡ input.now.circuit.c
+        → k.matrices ≡ lists_in input.now.circuit
+        → refusal_in result ≡ contents_refusal q k input.now.z.now input.now.mask input.now.m.now challenges.now points.now }
 {
-    let in_words = checks::check_call_words(p, ea, eb, ec, z, mask, m, challenges);
-    if !is_fine(in_words) {
-        return in_words;
-    }
-    let in_entries = checks::check_three_entries(r, c, ea, eb, ec);
-    if !is_fine(in_entries) {
-        return in_entries;
-    }
-    let in_mask = checks::check_mask(p, c, m);
-    if !is_fine(in_mask) {
-        return in_mask;
-    }
-    let in_constant = judge_constant(z);
-    if !is_fine(in_constant) {
-        return in_constant;
-    }
-    let in_rows = checks::check_assignment(p, r, ea, eb, ec, z);
-    if !is_fine(in_rows) {
-        return in_rows;
-    }
-    checks::check_points(p, r, c, matrices::largest_size(ea, eb, ec), points)
+    let circuit = &input.circuit;
+    checks::check_call_words(p, input, challenges)?;
+    checks::check_three_entries(circuit)?;
+    checks::check_mask(p, circuit.c, input.m)?;
+    judge_constant(input.z)?;
+    checks::check_assignment(p, circuit, input.z)?;
+    checks::check_points(
+        p,
+        circuit.r,
+        circuit.c,
+        matrices::largest_size(circuit),
+        points,
+    )
 }
 
 // 4 to 7 of a circuit whose call lends no slice.
-pub fn judge_circuit(p: u32, r: u32, c: u32, x: u32, ea: &[u32], eb: &[u32], ec: &[u32]) -> Fault
-    ensures { (q : Prime) → q.p ≡ p → fault_refusal result
-        ≡ circuit_refusal q (given r c x ea.now eb.now ec.now) }
+pub fn judge_circuit(p: u32, circuit: &CircuitWords) -> Result<(), Refusal>
+    ensures { (q : Prime) → q.p ≡ p → refusal_in result ≡ circuit_refusal q (circuit_words circuit.now) }
 {
-    let shape = judge_index_shape(r, c, x, ea, eb, ec);
-    if !is_fine(shape) {
-        return shape;
-    }
-    judge_index_contents(p, r, c, ea, eb, ec)
+    judge_index_shape(circuit)?;
+    judge_index_contents(p, circuit)
 }
 
 // The lengths that the lent slices of the indexer must have.
-fn index_lengths(ea: &[u32], eb: &[u32], ec: &[u32]) -> [usize; 12]
-    ensures { result ≡ index_due (entry_lists ea.now eb.now ec.now) }
+fn index_lengths(circuit: &CircuitWords) -> [usize; 12]
+    ensures { result ≡ index_due (lists_in circuit.now) }
 {
-    let ka = matrices::size_of(ea) as usize;
-    let kb = matrices::size_of(eb) as usize;
-    let kc = matrices::size_of(ec) as usize;
-    [ka, ka, ka, ka, kb, kb, kb, kb, kc, kc, kc, kc]
+    let a = matrices::size_of(circuit.matrices.a) as usize;
+    let b = matrices::size_of(circuit.matrices.b) as usize;
+    let c = matrices::size_of(circuit.matrices.c) as usize;
+    [a, a, a, a, b, b, b, b, c, c, c, c]
 }
 
 // 4 to 7 of the indexer.
-pub fn judge_index(
-    p: u32,
-    r: u32,
-    c: u32,
-    x: u32,
-    ea: &[u32],
-    eb: &[u32],
-    ec: &[u32],
-    lent: [usize; 12],
-) -> Fault
-    ensures { (q : Prime) → q.p ≡ p
-        → fault_refusal result ≡ index_refusal q (given r c x ea.now eb.now ec.now) lent }
+pub fn judge_index(p: u32, circuit: &CircuitWords, lent: [usize; 12]) -> Result<(), Refusal>
+    ensures { (q : Prime) → q.p ≡ p → refusal_in result ≡ index_refusal q (circuit_words circuit.now) lent }
 {
-    let shape = judge_index_shape(r, c, x, ea, eb, ec);
-    if !is_fine(shape) {
-        return shape;
-    }
-    let due = index_lengths(ea, eb, ec);
-    let slices = checks::check_lent(3, &lent, &due);
-    if !is_fine(slices) {
-        return slices;
-    }
-    judge_index_contents(p, r, c, ea, eb, ec)
+    judge_index_shape(circuit)?;
+    let due = index_lengths(circuit);
+    checks::check_lent(3, &lent, &due)?;
+    judge_index_contents(p, circuit)
 }
 
 // 4 to 8, 13, 9 and 10 of a prover call. The challenges are all its challenge words, the points those of α, β, γ that it has.
 pub fn judge_round(
     p: u32,
-    r: u32,
-    c: u32,
-    x: u32,
-    ea: &[u32],
-    eb: &[u32],
-    ec: &[u32],
-    z: &[u32],
-    mask: u32,
-    m: &[u32],
+    input: &ProverInput,
     lent: &[usize],
     due: &[usize],
     challenges: &[u32],
     points: &[u32],
-) -> Fault
+) -> Result<(), Refusal>
     requires lt_p { 1 < p }
     requires due_len { length due.now ≡ length lent.now }
     requires points_len_bound { length points.now ≤ 3 }
     ensures { (q : Prime) → Qualifies q → q.p ≡ p
-        → fault_refusal result
-        ≡ round_refusal q (prover_input r c x ea.now eb.now ec.now z.now mask m.now)
-        lent.now due.now challenges.now points.now }
+        → refusal_in result ≡ round_refusal q (input_words input.now) lent.now due.now challenges.now points.now }
 {
-    let shape = judge_shape(r, c, x, ea, eb, ec, z, m);
-    if !is_fine(shape) {
-        return shape;
-    }
-    let slices = checks::check_lent(5, lent, due);
-    if !is_fine(slices) {
-        return slices;
-    }
-    judge_contents(p, r, c, ea, eb, ec, z, mask, m, challenges, points)
+    judge_shape(input)?;
+    checks::check_lent(5, lent, due)?;
+    judge_contents(p, input, challenges, points)
 }

@@ -1,5 +1,5 @@
 -- The sizes are the eleven powers of two up to 1,024. The smaller of two divides the larger, each divides p - 1, and none is
--- 0 in the field; the inverse of each. Doubling from 1 finds the size of a count. Assumes nothing.
+-- 0 in the field; the inverse of each. Assumes nothing.
 use mathlib.Core.Path.{◌≡◌, refl, sym, ap, ◌∙◌}
 use mathlib.Core.Logic.{◌≢◌}
 use mathlib.Core.Bool.{true}
@@ -10,7 +10,7 @@ use lib.Pow.{pow-add, pow-lt, pow_mono, pow_pos}
 use borrow.Author.Tests.{eqb-true, eq-eqb, leb-true, le-leb, lt-leb}
 use native.Mathlib.Omega.{arith}
 use native.Mathlib.Decide.{dec_le, dec_lt}
-use native.Mathlib.Nat.{not-suc-le-zero, one-le-pow, pow-suc, pow-le-pow_right, mul-zero, mul-add, mul_assoc}
+use native.Mathlib.Nat.{one-le-pow, pow-suc, pow-le-pow_right, mul-zero, mul-add, mul_assoc}
 use native.Mathlib.Nat.{div-eq_of_eq-mul_right, div-le_self, max-eq_left, max-eq_right}
 use Rattle.algebra.proofs.Counting.{all-tabulate}
 use Rattle.algebra.proofs.FieldLaws.{mul-not-zero}
@@ -93,42 +93,26 @@ pub size_for_holds : (count : ℕ) → count ≤ max_size → count ≤ size_for
 unfolding size_for
 size_for_holds count le = leb-true count (size_for count) (first_or_passes max_size (leb count) sizes (le-leb count max_size le))
 
--- the size of a count is found by doubling: size is a power of two up to 1,024, and each lower one is below the count
-pub record Doubled (count size : ℕ) : Type 0 where
-  pub exponent : ℕ
-  pub limit : exponent < 11
-  pub power : size ≡ 2 ^ exponent
-  pub lower : (j : ℕ) → j < exponent → 2 ^ j < count
+-- the size of a count is the smallest power of two that holds it
+pub next-power : (count : ℕ) → count ≤ max_size → (k : ℕ) {size : ℕ} → size ≡ 2 ^ k → count ≤ size → size / 2 < max 1 count
+    → size ≡ size_for count
+unfolding size_for sizes
+next-power count most k {size} power enough least =
+    power
+    ∙ sym
+    (first_or_tabulate max_size (leb count) 11 k (λ k. 2 ^ k) limit (λ j l. lt-leb count (2 ^ j) (lower j l))
+    (le-leb count (2 ^ k) (omega (arith, power))))
+  where
+    limit : k < 11
+    limit = elim (dec_lt k 11) [
+      | yes l ↦ l
+      | no m ↦ absurd (omega (arith, power, pow_mono {i = 11} {j = k} (omega arith)))
+    ]
 
-pub doubled-none : (count : ℕ) → Doubled count 1
-doubled-none count = record { exponent = 0; limit = omega arith; power = refl; lower = λ j l. absurd (not-suc-le-zero l) }
-
-module _ {count size : ℕ} (d : Doubled count size) where
-  pub doubled_positive : 0 < size
-  doubled_positive = omega (arith, d.power, pow_pos d.exponent)
-
-  pub doubled_turn : size < count → count ≤ max_size → Doubled count (size * 2)
-  doubled_turn more most =
-      record {
-        exponent = suc d.exponent;
-        limit = elim (dec_lt d.exponent 10) [
-          | yes l ↦ omega arith
-          | no m ↦ absurd (omega (arith, d.power, pow_mono {i = 10} {j = d.exponent} (omega arith)))
-        ];
-        power = ap (λ x. x * 2) d.power ∙ sym (pow-suc 2 d.exponent);
-        lower = below;
-      }
-    where
-      below : (j : ℕ) → j < suc d.exponent → 2 ^ j < count
-      below j l = omega (arith, d.power, pow_mono {i = j} {j = d.exponent} (omega arith))
-
-  pub doubled_end : count ≤ size → size ≡ size_for count
-  unfolding size_for sizes
-  doubled_end enough =
-      d.power
-      ∙ sym
-      (first_or_tabulate max_size (leb count) 11 d.exponent (λ k. 2 ^ k) d.limit (λ j l. lt-leb count (2 ^ j) (d.lower j l))
-      (le-leb count (2 ^ d.exponent) (omega (arith, d.power))))
+    lower : (j : ℕ) → j < k → 2 ^ j < count
+    lower j l =
+        let up : k ≡ suc (k - 1) = omega arith in
+        omega (arith, power, ap (λ k. 2 ^ k) up, pow-suc 2 (k - 1), pow_mono {i = j} {j = k - 1} (omega arith), pow_pos j)
 
 pub size_for_past : (count : ℕ) → max_size < count → size_for count ≡ max_size
 unfolding size_for sizes

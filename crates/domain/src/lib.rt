@@ -27,10 +27,7 @@ const ROOTS: [u32; 11] = [
 pub fn is_size(n: u32) -> bool
     ensures { result ≡ is_size n }
 {
-    if n > MAX_SIZE {
-        return false;
-    }
-    u32::count_ones(n) == 1
+    n <= MAX_SIZE && n.count_ones() == 1
 }
 
 // The smallest size not below the count, 1,024 past it.
@@ -40,11 +37,7 @@ pub fn size_for(count: u32) -> u32
     if count > MAX_SIZE {
         return MAX_SIZE;
     }
-    let mut size: u32 = 1;
-    while size < count {
-        size = size * 2;
-    }
-    size
+    count.next_power_of_two()
 }
 
 // g_n, from the table.
@@ -52,7 +45,7 @@ pub fn root_of(p: u32, n: u32) -> u32
     requires { is_size n ≡ true }
     ensures { (q : Prime) → Known q p → result ≡ (root {q = q} n).word }
 {
-    ROOTS[u32::trailing_zeros(n) as usize]
+    ROOTS[n.trailing_zeros() as usize]
 }
 
 // 1/n of a size n, which divides p - 1: (p - 1)/n times n is -1.
@@ -70,11 +63,9 @@ pub fn fill_powers(p: u32, g: u32, out: &mut [u32])
     ensures { (q : Prime) → q.p ≡ p → out.new ≡ words (tabulate (length out.old) (pow (prime_ring q) (of g))) }
 {
     let mut power: u32 = 1;
-    let mut i = 0;
-    while i < out.len() {
-        out[i] = power;
+    for place in out.iter_mut() {
+        *place = power;
         power = field::multiply(p, power, g);
-        i += 1;
     }
 }
 
@@ -126,15 +117,12 @@ fn double_lagrange(p: u32, g: u32, y: u32, out: &mut [u32])
     // 1/2, and x/2 at i = half, where a is -1.
     let share = p / 2 + 1;
     let mut turned = field::multiply(p, y, p / 2);
-    let mut i = half;
-    while 0 < i {
-        i -= 1;
-        let j = half + i;
+    for i in (0..half).rev() {
         let whole = out[i];
         turned = field::multiply(p, turned, g);
         let low = field::multiply(p, whole, field::add_reduced(p, turned, share));
         out[i] = low;
-        out[j] = field::subtract_reduced(p, whole, low);
+        out[half + i] = field::subtract_reduced(p, whole, low);
     }
 }
 
@@ -167,10 +155,8 @@ pub fn interpolated_at(p: u32, weights: &[u32], values: &[u32]) -> u32
         → result ≡ (eval (interpolate n (map of values.now)) y).word }
 {
     let mut sum: u32 = 0;
-    let mut i = 0;
-    while i < weights.len() {
-        sum = field::multiply_add(p, values[i], weights[i], sum);
-        i += 1;
+    for (value, weight) in values.iter().zip(weights) {
+        sum = field::multiply_add(p, *value, *weight, sum);
     }
     sum
 }

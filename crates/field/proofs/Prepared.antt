@@ -1,17 +1,7 @@
 -- The product by a prepared quotient: with Q = w·B / p and e = Q·x / B, where x is below B, w·x lies between e·p and (e + 2)·p, so it is
--- e·p with a rest below 2p. Also that the words in between fit. Assumes nothing.
-use Rattle.std.proofs.Common.{◌≡◌, ℕ, ◌+◌, ◌-◌, ◌*◌, ◌/◌, ◌%◌, ◌^◌, ◌<◌, ◌≤◌, sym, ap, ◌∙◌, mod-eq_of_lt, mul_assoc, mul_comm, add-mul, lt_of_mul-lt-mul_right, mul-le-mul_left, mul-lt-mul_of_pos_right, div-mul-le_self, le_of_mul-le-mul_right, mul_left_comm, arith, pow-add}
-use native.Mathlib.Nat.{lt-div-mul-add, mod-eq-sub-mod, add-mul-mod_self_right}
-use native.Mathlib.Decide.{dec_lt}
-
--- a quotient of 2k bits by 2^k has k bits
-pub high_bits_fit : (k a : ℕ) → a < 2 ^ (k + k) → a / 2 ^ k < 2 ^ k
-high_bits_fit k a below = lt_of_mul-lt-mul_right (2 ^ k) (omega (arith, div-mul-le_self a (2 ^ k), pow-add 2 k k))
-
--- the prepared quotient of a word below p fits
-pub prepared-fits : (p w B : ℕ) → 0 < B → w < p → w * B / p < B
-prepared-fits p w B some below =
-    lt_of_mul-lt-mul_right p (omega (arith, div-mul-le_self (w * B) p, mul-lt-mul_of_pos_right below some, mul_comm p B))
+-- e·p with a rest below 2p. Assumes nothing.
+use Rattle.std.proofs.Common.{◌≡◌, ℕ, ◌+◌, ◌-◌, ◌*◌, ◌/◌, ◌%◌, ◌<◌, ◌≤◌, sym, ap, ◌∙◌, mod-eq_of_lt, mul_assoc, mul_comm, add-mul, lt_of_mul-lt-mul_right, mul-le-mul_left, mul-lt-mul_of_pos_right, div-mul-le_self, le_of_mul-le-mul_right, mul_left_comm, arith}
+use native.Mathlib.Nat.{lt-div-mul-add, add-mod_right, add-mul-mod_self_right}
 
 -- the inequalities of Q and e, multiplied out
 module _ (p w x B Q e : ℕ) where
@@ -88,13 +78,27 @@ once_less p n below above =
     ap (λ (m : ℕ). m % p) (sym whole) ∙ add-mul-mod_self_right (n - p) 1 p ∙ mod-eq_of_lt (omega arith)
 
 -- a difference that does not wrap
-pub unwrapped : (C r m n : ℕ) → (r + m) % C ≡ n → r < C → m ≤ n → n < C → r ≡ n - m
-unwrapped C r m n e within le below = elim (dec_lt (r + m) C) [
-  | yes l ↦ omega (arith, mod-eq_of_lt l, e)
-  | no l ↦ absurd (past (omega arith))
-]
-  where
-    past : C ≤ r + m → ⊥
-    past over =
-        let less : r + m - C < C = omega arith in
-        omega (arith, mod-eq-sub-mod over, mod-eq_of_lt less, e)
+not_wrapped : (C m n : ℕ) → m ≤ n → n < C → (n + (C - m)) % C ≡ n - m
+not_wrapped C m n le below =
+    let e : n + (C - m) ≡ n - m + C = omega arith in
+    ap (λ (k : ℕ). k % C) e ∙ add-mod_right (n - m) C ∙ mod-eq_of_lt (omega arith)
+
+-- what is left of w·x is its remainder, or that and p
+module _ (C B p w x : ℕ) (positive : 0 < p) (some : p + p ≤ B) (x-below : x < B) (fits : w * x < C) where
+  left : (w * x + (C - estimate p w x B * p)) % C % B ≡ w * x - estimate p w x B * p
+  left =
+      let some' : 0 < B = omega arith in
+      let below : w * x - estimate p w x B * p < B = omega (arith, rest_below p w x B positive some' x-below) in
+      ap (λ (n : ℕ). n % B) (not_wrapped C (estimate p w x B * p) (w * x) (estimate_below p w x B positive some' x-below) fits)
+      ∙ mod-eq_of_lt below
+
+  module _ {r : ℕ} (e : r ≡ (w * x + (C - estimate p w x B * p)) % C % B) where
+    left-remainder : r % p ≡ (w * x) % p
+    left-remainder = ap (λ (n : ℕ). n % p) (e ∙ left) ∙ rest-remainder p w x B positive (omega arith) x-below
+
+    pub left_below : r < p → r ≡ (w * x) % p
+    left_below below = sym (mod-eq_of_lt below) ∙ left-remainder
+
+    pub left_above : p ≤ r → r - p ≡ (w * x) % p
+    left_above above =
+        sym (once_less p r (omega (arith, e ∙ left, rest_below p w x B positive (omega arith) x-below)) above) ∙ left-remainder

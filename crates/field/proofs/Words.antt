@@ -1,6 +1,6 @@
 -- The words of sums, products and differences of the elements that two numbers stand for, and a number that is an element's
 -- word, or a list of them. Assumes nothing.
-use Rattle.std.proofs.Common.{◌≡◌, ℕ, ◌+◌, ◌-◌, ◌*◌, ◌%◌, ◌^◌, ◌<◌, ◌≤◌, ◌≢◌, List, [], ◌∷◌, map, sym, refl, ap, ◌∙◌, subst, ap₂, lt_of_le_of_lt, le_of_lt, mul-le-mul_right, mod-eq_of_lt, suc-mul, mul-le-mul_left, mul-lt-mul_of_pos_right, arith, pow_pos, pow-add}
+use Rattle.std.proofs.Common.{◌≡◌, ℕ, ◌+◌, ◌-◌, ◌*◌, ◌%◌, ◌^◌, ◌<◌, ◌≤◌, ◌≢◌, List, [], ◌∷◌, map, sym, refl, ap, ◌∙◌, subst, ap₂, lt_of_le_of_lt, le_of_lt, mod-eq_of_lt, mul-le-mul_left, mul-lt-mul_of_pos_right, arith, pow_pos, pow-add}
 use mathlib.Core.Path.{subst⁻¹}
 use native.Mathlib.Nat.{add-mod_right}
 use Rattle.algebra.specs.Counting.{All}
@@ -99,15 +99,3 @@ pub product-below : (k : ℕ) {a b : ℕ} → a < 2 ^ k → b < 2 ^ k → a * b 
 product-below k {a} {b} a-below b-below =
     subst⁻¹ (λ (n : ℕ). a * b < n) (pow-add 2 k k)
     (lt_of_le_of_lt (mul-le-mul_left a (le_of_lt b-below)) (mul-lt-mul_of_pos_right a-below (pow_pos k)))
-
--- and so has the product with one more added
-pub product-sum-below : (k : ℕ) {a b c : ℕ} → a < 2 ^ k → b < 2 ^ k → c < 2 ^ k → a * b + c < 2 ^ (k + k)
-product-sum-below k {a} {b} {c} a-below b-below c-below =
-    omega (
-      arith,
-      pow-add 2 k k,
-      suc-mul a (2 ^ k),
-      mul-le-mul_left a (le_of_lt b-below),
-      mul-le-mul_right (2 ^ k) a-below,
-      c-below,
-    )

@@ -1,9 +1,7 @@
--- What the values of the declared types mean. Assumes nothing.
-use Rattle.std.proofs.Math.Option.{Option, none, some}
-use Rattle.std.specs.Prelude.{ℕ}
-use Rattle.field.specs.declared.Inverse.{Inverse}
-use Rattle.field.specs.declared.Inverse.TheVariants as inverse
+-- What the code answers about an inverse, as an option of the definitions. Assumes nothing.
+use Rattle.std.proofs.Math.Option as definition
+use Rattle.std.specs.Prelude.{ℕ, Option, Some, None}
 
-abbrev pub inverse_meaning : Inverse → Option ℕ
-inverse_meaning inverse.None = none
-inverse_meaning (inverse.Value w) = some w
+abbrev pub inverse_meaning : Option ℕ → definition.Option ℕ
+inverse_meaning None = definition.none
+inverse_meaning (Some w) = definition.some w

@@ -9,24 +9,18 @@ ghost use Rattle.field.specs.Element.{of, 𝟘, ◌⊕◌, ◌⊗◌, ◌⊖◌,
 ghost use Rattle.field.specs.Power.{power, inverse, ◌⊘◌};
 ghost use Rattle.field.specs.Meanings.{inverse_meaning};
 
-// The module's prime: the remainder by a constant needs no division.
+// The module's prime.
 pub const MODULE_PRIME: u32 = 2013265921;
 
-pub fn wide(x: u32) -> u64
-    ensures { (result ≡ x) × (result < 4294967296) }
-{
-    x as u64
-}
-
-// x modulo p.
+// x modulo p. The module's prime has a branch of its own, here and in `prepare`: the remainder by a constant needs no division.
 fn reduce(p: u32, x: u64) -> u32
     requires { 0 < p }
     ensures { result ≡ x % p }
 {
     if p == MODULE_PRIME {
-        (x % (MODULE_PRIME as u64)) as u32
+        (x % u64::from(MODULE_PRIME)) as u32
     } else {
-        (x % wide(p)) as u32
+        (x % u64::from(p)) as u32
     }
 }
 
@@ -34,22 +28,22 @@ pub fn add(p: u32, a: u32, b: u32) -> u32
     requires { 0 < p }
     ensures { (q : Prime) → q.p ≡ p → result ≡ (of {q = q} a ⊕ of b).word }
 {
-    reduce(p, wide(a) + wide(b))
+    reduce(p, u64::from(a) + u64::from(b))
 }
 
 pub fn subtract(p: u32, a: u32, b: u32) -> u32
     requires { 0 < p }
     ensures { (q : Prime) → q.p ≡ p → result ≡ (of {q = q} a ⊖ of b).word }
 {
-    let low = reduce(p, wide(b));
-    reduce(p, wide(a) + wide(p - low))
+    let low = reduce(p, u64::from(b));
+    reduce(p, u64::from(a) + u64::from(p - low))
 }
 
 pub fn multiply(p: u32, a: u32, b: u32) -> u32
     requires { 0 < p }
     ensures { (q : Prime) → q.p ≡ p → result ≡ (of {q = q} a ⊗ of b).word }
 {
-    reduce(p, wide(a) * wide(b))
+    reduce(p, u64::from(a) * u64::from(b))
 }
 
 // a·b + c, with one division.
@@ -57,7 +51,7 @@ pub fn multiply_add(p: u32, a: u32, b: u32, c: u32) -> u32
     requires { 0 < p }
     ensures { (q : Prime) → q.p ≡ p → result ≡ (of {q = q} a ⊗ of b ⊕ of c).word }
 {
-    reduce(p, wide(a) * wide(b) + wide(c))
+    reduce(p, u64::from(a) * u64::from(b) + u64::from(c))
 }
 
 // What a product by w needs in place of a division, for a word w below p: w·2^32 divided by p.
@@ -65,11 +59,11 @@ pub fn prepare(p: u32, w: u32) -> u32
     requires { 0 < p }
     ensures { w < p → result ≡ w * 4294967296 / p }
 {
-    let shifted = wide(w) * 4294967296;
+    let shifted = u64::from(w) * 4294967296;
     if p == MODULE_PRIME {
-        (shifted / (MODULE_PRIME as u64) % 4294967296) as u32
+        (shifted / u64::from(MODULE_PRIME) % 4294967296) as u32
     } else {
-        (shifted / wide(p) % 4294967296) as u32
+        (shifted / u64::from(p) % 4294967296) as u32
     }
 }
 
@@ -77,8 +71,8 @@ pub fn prepare(p: u32, w: u32) -> u32
 pub fn multiply_prepared(p: u32, w: u32, quotient: u32, x: u32) -> u32
     ensures { (q : Prime) → q.p ≡ p → p < 2 ^ 31 → w < p → quotient ≡ w * 4294967296 / p → result ≡ (of {q = q} w ⊗ of x).word }
 {
-    let estimate = wide(quotient) * wide(x) / 4294967296;
-    let rest = std::num::wrapping_sub_u64(wide(w) * wide(x), estimate * wide(p));
+    let estimate = u64::from(quotient) * u64::from(x) / 4294967296;
+    let rest = (u64::from(w) * u64::from(x)).wrapping_sub(estimate * u64::from(p));
     let low = (rest % 4294967296) as u32;
     if low < p { low } else { low - p }
 }
@@ -87,9 +81,9 @@ pub fn multiply_prepared(p: u32, w: u32, quotient: u32, x: u32) -> u32
 pub fn add_reduced(p: u32, a: u32, b: u32) -> u32
     ensures { (q : Prime) → q.p ≡ p → (a < p) × (b < p) → result ≡ (of {q = q} a ⊕ of b).word }
 {
-    let room = std::num::wrapping_sub_u32(p, b);
+    let room = p.wrapping_sub(b);
     if a < room {
-        std::num::wrapping_add_u32(a, b)
+        a.wrapping_add(b)
     } else {
         a - room
     }
@@ -99,11 +93,7 @@ pub fn add_reduced(p: u32, a: u32, b: u32) -> u32
 pub fn subtract_reduced(p: u32, a: u32, b: u32) -> u32
     ensures { (q : Prime) → q.p ≡ p → (a < p) × (b < p) → result ≡ (of {q = q} a ⊖ of b).word }
 {
-    if b <= a {
-        a - b
-    } else {
-        std::num::wrapping_sub_u32(p, b - a)
-    }
+    if b <= a { a - b } else { p.wrapping_sub(b - a) }
 }
 
 // a^n, by squaring.
@@ -119,7 +109,7 @@ pub fn raise(p: u32, a: u32, n: u32) -> u32
             result = multiply(p, result, base);
         }
         base = multiply(p, base, base);
-        rest = rest / 2;
+        rest /= 2;
     }
     result
 }
@@ -133,20 +123,13 @@ pub fn divide(p: u32, a: u32, b: u32) -> u32
     multiply(p, a, raise(p, b, p - 2))
 }
 
-// The inverse of an element, or that there is none.
-#[derive(Clone, Copy)]
-pub enum Inverse {
-    None,
-    Value(u32),
-}
-
 // 1/a; none for 0.
-pub fn invert(p: u32, a: u32) -> Inverse
+pub fn invert(p: u32, a: u32) -> Option<u32>
     requires { 1 < p }
     ensures { (q : Prime) → q.p ≡ p → inverse_meaning result ≡ map word_of (inverse (of {q = q} a)) }
 {
-    if reduce(p, wide(a)) == 0 {
-        return Inverse::None;
+    if reduce(p, u64::from(a)) == 0 {
+        return None;
     }
-    Inverse::Value(raise(p, a, p - 2))
+    Some(raise(p, a, p - 2))
 }

@@ -1,34 +1,18 @@
--- Line n of a text: it begins within the text, and it is what stands from there to its end. Assumes nothing.
-use mathlib.Core.Path.{◌≡◌, refl, sym, ap, ◌∙◌}
-use mathlib.Core.Bool.{Bool, true, false}
-use mathlib.Core.List.{List, []}
-use Prim.Native.Nat.{ℕ, ◌+◌, ◌-◌, ◌<◌}
-use native.Mathlib.Omega.{arith}
-use lib.Dec.{ltb}
-use lib.ListN.{length, take, drop, get_or, length-drop, drop_of_length-le}
-use lib.Seq.{drop-drop, get_or-drop}
-use borrow.Author.Tests.{ltb-true, ltb-false}
+-- Line n of a text is its part n between the newlines. Assumes nothing.
+use Rattle.std.proofs.Common.{◌≡◌, ap, ◌∙◌, arith, List, [], ◌∷◌, ◌++◌, ℕ, ◌<◌, length, get_or, length-append}
+use Rattle.std.specs.Prelude.{Some, slice_get}
+use Rattle.std.proofs.lemmas.List.{get_or_append_left}
+use Rattle.std.proofs.lemmas.Option.{slice_get-get_or}
+use mathlib.Core.Logic.{inl, inr}
 use Rattle.sheet_lines.specs.Lines.{lines_of}
-use Rattle.sheet_lines.specs.Meanings.{LineEnd}
+use Rattle.sheet_lines.proofs.LineLaws.{parts, Covers, parts_cover}
 
--- the lines after the first n
-module _ (text : List ℕ) (start n : ℕ) (left : lines_of (drop start text) ≡ drop n (lines_of text)) where
-  pub line-left : n < length (lines_of text) → start < length text
-  unfolding lines_of
-  line-left below =
-      go (ltb start (length text)) refl
-    where
-      go : (t : Bool) → ltb start (length text) ≡ t → start < length text
-      go true e = ltb-true start (length text) e
-      go false e =
-          let none : drop start text ≡ [] = drop_of_length-le text (ltb-false start (length text) e) in
-          absurd (omega (arith, ap length (sym left ∙ ap lines_of none), length-drop n (lines_of text)))
-
-  module _ (end : ℕ) (e : LineEnd text start end) where
-    pub lines_after : lines_of (drop (end + 1) text) ≡ drop (n + 1) (lines_of text)
-    lines_after = ap (drop 1) (sym e.lines ∙ left) ∙ drop-drop 1 n (lines_of text)
-
-    pub line-is : get_or (lines_of text) n [] ≡ take (end - start) (drop start text)
-    line-is =
-        let same : n + 0 ≡ n = omega arith in
-        sym (get_or-drop n (lines_of text) 0 [] ∙ ap (λ i. get_or (lines_of text) i []) same) ∙ ap (λ (l : List (List ℕ)). get_or l 0 []) (sym left ∙ e.lines)
+pub part_at : (text : List ℕ) (n : ℕ) → n < length (lines_of text) → slice_get (parts text) n ≡ Some (get_or (lines_of text) n [])
+part_at text n below = go (parts text) (lines_of text) below (parts_cover text)
+  where
+    go : (ps ls : List (List ℕ)) → n < length ls → Covers ps ls → slice_get ps n ≡ Some (get_or ls n [])
+    go ps ls below (inl e) = rw e (slice_get-get_or ls n [] below)
+    go ps ls below (inr e) =
+        rw e
+        (slice_get-get_or (ls ++ ([] ∷ [])) n [] (omega (arith, length-append ls ([] ∷ [])))
+        ∙ ap Some (get_or_append_left ls ([] ∷ []) [] n below))

@@ -30,25 +30,18 @@ const CHECKS: usize = 9;
 
 pub const NUMBERS: usize = SIZES + LENGTHS + CHECKS;
 
-// m - n, and 0 where n is larger.
-pub fn less(m: usize, n: usize) -> usize
-    ensures { result ≡ m - n }
-{
-    if n <= m { m - n } else { 0 }
-}
-
 // 2n - d: the degree of a check over a domain of size n.
 pub fn degree(n: u32, d: usize) -> usize
     ensures { result ≡ 2 * n - d }
 {
-    less(2 * (n as usize), d)
+    (2 * (n as usize)).saturating_sub(d)
 }
 
 // The points outside a domain of size n.
 pub fn allowed(n: u32) -> usize
     ensures { result ≡ baby_bear.p - n }
 {
-    less(MODULE_PRIME as usize, n as usize)
+    (MODULE_PRIME as usize).saturating_sub(n as usize)
 }
 
 pub fn sizes_for(g: Request) -> Sizes

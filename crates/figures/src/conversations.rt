@@ -6,7 +6,6 @@ ghost use Rattle.sheet_lines.specs.Meanings.{given};
 ghost use Rattle.figures.specs.Figures.{Figure, mask_figures};
 ghost use Rattle.figures.specs.Placed.{tuple_rows, mask_rows, repeat_rows, conversation_rows, conversation_at, Within, number_room};
 
-use crate::column::less;
 use crate::repeats::{REPEATS, repeats};
 use crate::tuples::{TUPLES, put_tuples};
 use sheet_lines::numbers::Request;
@@ -25,7 +24,7 @@ fn mask_numbers(g: Request) -> [usize; MASKS]
     ensures { result ≡ map (λ (f : Figure). f.number (given g)) mask_figures }
 {
     let all = 2 * (g.c as usize);
-    [all, less(all, FREED)]
+    [all, all.saturating_sub(FREED)]
 }
 
 // The number of a row after those that count tuples.

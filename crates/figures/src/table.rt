@@ -1,5 +1,5 @@
 // The table: a row for each figure, with its name, a number for each circuit, and the theorem behind it.
-ghost use Rattle.std.specs.Prelude.{map, ◌+◌, ◌*◌, ◌≤◌, ◌<◌, length, take};
+ghost use Rattle.std.specs.Prelude.{map, ◌+◌, ◌*◌, ◌≤◌, ◌<◌, length};
 ghost use Rattle.domain.specs.BabyBear.{baby_bear};
 ghost use Rattle.text.specs.Ascii.{ascii};
 ghost use Rattle.text.specs.Decimal.{decimal};
@@ -12,7 +12,6 @@ ghost use Rattle.figures.specs.Sheet.{most_circuits, cell_text, cells_text, row_
 use crate::column::{NUMBERS, number};
 use crate::conversations::{CONVERSATIONS, put_conversations};
 use crate::nth_line::put_line;
-use sheet_lines::circuits::MOST_CIRCUITS;
 use sheet_lines::numbers::Request;
 use text::{put_byte, put_decimal};
 
@@ -101,59 +100,42 @@ fn put_cell(row: usize, request: Request, out: &mut [u8], at: usize) -> usize
     put_number(row, request, out, place)
 }
 
-// The cells of a row for the first circuits of the array.
-fn put_cells(
-    row: usize,
-    array: [Request; MOST_CIRCUITS],
-    count: usize,
-    out: &mut [u8],
-    at: usize,
-) -> usize
+// The cells of a row for the circuits.
+fn put_cells(row: usize, requests: &[Request], out: &mut [u8], at: usize) -> usize
     requires row_lt_row_count { row < row_count }
-    requires count_le_most_circuits { count ≤ most_circuits }
-    requires count_in_bounds { at + cell_room * count ≤ length out.old }
-    ensures { Within (cell_room * count) out.old at
-        (cells_text (figure_at baby_bear row) (map given (take count array))) result out.new }
+    requires count_in_bounds { at + cell_room * length requests.now ≤ length out.old }
+    ensures { Within (cell_room * length requests.now) out.old at
+        (cells_text (figure_at baby_bear row) (map given requests.now)) result out.new }
 {
     let mut place = at;
-    let mut k = 0;
-    while k < count {
-        place = put_cell(row, array[k], out, place);
-        k += 1;
+    for request in requests {
+        place = put_cell(row, *request, out, place);
     }
     place
 }
 
-fn put_row(
-    row: usize,
-    array: [Request; MOST_CIRCUITS],
-    count: usize,
-    out: &mut [u8],
-    at: usize,
-) -> usize
+fn put_row(row: usize, requests: &[Request], out: &mut [u8], at: usize) -> usize
     requires row_lt_row_count { row < row_count }
-    requires count_le_most_circuits { count ≤ most_circuits }
+    requires count_le_most_circuits { length requests.now ≤ most_circuits }
     requires row_room_in_bounds { at + row_room ≤ length out.old }
-    ensures { Within row_room out.old at (row_text (map given (take count array)) (figure_at baby_bear row)) result out.new }
+    ensures { Within row_room out.old at (row_text (map given requests.now) (figure_at baby_bear row)) result out.new }
 {
     let place = put_name(row, out, at);
-    let place = put_cells(row, array, count, out, place);
+    let place = put_cells(row, requests, out, place);
     let place = put_byte(b'\t', out, place);
     let place = put_source(row, out, place);
     put_byte(b'\n', out, place)
 }
 
-// The table of the first circuits of the array, from the start of the buffer.
-pub fn put_table(array: [Request; MOST_CIRCUITS], count: usize, out: &mut [u8]) -> usize
-    requires count_le_most_circuits { count ≤ most_circuits }
+// The table of the circuits, from the start of the buffer.
+pub fn put_table(requests: &[Request], out: &mut [u8]) -> usize
+    requires count_le_most_circuits { length requests.now ≤ most_circuits }
     requires sheet_room_in_bounds { sheet_room ≤ length out.old }
-    ensures { Written out.old 0 (rows_text (map given (take count array)) (figures baby_bear)) result out.new }
+    ensures { Written out.old 0 (rows_text (map given requests.now) (figures baby_bear)) result out.new }
 {
     let mut place = 0;
-    let mut row = 0;
-    while row < ROWS {
-        place = put_row(row, array, count, out, place);
-        row += 1;
+    for row in 0..ROWS {
+        place = put_row(row, requests, out, place);
     }
     place
 }

@@ -1,15 +1,9 @@
 -- A circuit's words as they are filled: words before zeros, the rows' counts entry by entry, and parts put one after the other up to
 -- the whole of a matrix and of a circuit. Assumes nothing.
-use mathlib.Core.Path.{◌≡◌, refl, sym, ap, ap₂, ◌∙◌}
-use mathlib.Core.List.{List, [], ◌∷◌, ◌++◌, append_assoc, append-nil}
-use Prim.Native.Nat.{ℕ, zero, suc, ◌+◌, ◌-◌, ◌*◌, ◌/◌, ◌%◌, ◌<◌, ◌≤◌}
-use native.Mathlib.Numerals.{add-one}
-use native.Mathlib.Omega.{arith}
+use Rattle.std.proofs.Common.{◌≡◌, refl, sym, ap, ap₂, ◌∙◌, List, [], ◌∷◌, ◌++◌, append_assoc, append-nil, ℕ, zero, suc, ◌+◌, ◌-◌, ◌*◌, ◌/◌, ◌%◌, ◌<◌, ◌≤◌, add-one, arith, eqb, length, get_or, take, drop, set, replicate, length-append, length-drop, drop_of_length-le, take-suc, take_all, length-take-le, take_at, drop_at}
 use borrow.Rule.Slice.PartMut.{put_mid}
-use lib.Dec.{eqb}
-use lib.ListN.{length, get_or, take, drop, set, replicate, length-append, length-drop, length-replicate}
-use lib.ListN.{replicate-append-replicate, drop_of_length-le}
-use lib.Seq.{take-suc, take_all, length-take-le, take_at, drop_at, sets-eq}
+use lib.ListN.{replicate-append-replicate}
+use lib.Seq.{sets-eq}
 use Rattle.algebra.specs.Lists.{tabulate}
 use Rattle.algebra.specs.Counting.{All}
 use Rattle.algebra.proofs.Counting.{all_map}
@@ -23,16 +17,6 @@ use Rattle.protocol.specs.Grown.{row_entries, stored_matrix, stored, matrix_word
 use Rattle.protocol.proofs.EntryWords.{entry-words_back, own_row, other_row}
 use Rattle.circuit.specs.Given.{given, Within}
 use Rattle.protocol.proofs.EntryLists.{length-entries_of}
-
--- zeros that words stand before
-pub zeros-after : (d words : List ℕ) (n : ℕ) → d ≡ replicate n 0 → length words ≤ n
-    → words ++ drop (length words) d ≡ words ++ replicate (n - length words) 0
-zeros-after d words n cleared fits =
-    let m : ℕ = length words in
-    let cut : n ≡ m + (n - m) = omega arith in
-    let zeros : d ≡ replicate m 0 ++ replicate (n - m) 0 =
-    cleared ∙ ap (λ (k : ℕ). replicate k 0) cut ∙ sym (replicate-append-replicate m (n - m) 0) in
-    ap (λ (l : List ℕ). words ++ l) (ap (drop m) zeros ∙ drop_at (replicate m 0) (replicate (n - m) 0) m (length-replicate m 0))
 
 -- zeros made by a rule
 zero-counts : (n : ℕ) → tabulate n (λ j. 0) ≡ replicate {A = ℕ} n 0
@@ -84,10 +68,10 @@ empty_matrix : stored_matrix [] ≡ replicate matrix_words 0
 unfolding stored_matrix words_of_entries
 empty_matrix = zeros-joined max_size (3 * max_size) matrix_words refl
 
-zeros_cut : (m n : ℕ) → n ≡ 3 + 3 * m → drop {A = ℕ} 3 (replicate n 0) ≡ replicate m 0 ++ (replicate m 0 ++ replicate m 0)
+zeros_cut : (m n : ℕ) → n ≡ 3 + 3 * m → replicate {A = ℕ} (n - 3) 0 ≡ replicate m 0 ++ (replicate m 0 ++ replicate m 0)
 zeros_cut m n room =
-    let all : n ≡ suc (suc (suc (m + (m + m)))) = omega arith in
-    ap (λ (k : ℕ). drop 3 (replicate k 0)) all
+    let all : n - 3 ≡ m + (m + m) = omega arith in
+    ap (λ (k : ℕ). replicate k 0) all
     ∙ sym (ap (λ (l : List ℕ). replicate m 0 ++ l) (replicate-append-replicate m m 0) ∙ replicate-append-replicate m (m + m) 0)
 
 -- a part put right after what is in place
@@ -125,41 +109,34 @@ matrix-stored l counts words n m whole rows room counted copied =
     (copied ∙ ap₂ (λ (w : List ℕ) (k : ℕ). w ++ replicate k 0) (sym (entry-words_back l whole)) left))
 
 -- a circuit's words: the sizes, then the words of three matrices, m of each
-module _ (w : List ℕ) (r c x : ℕ) where
-  sizes-first : 3 ≤ length w → set (set (set w 0 r) 1 c) 2 x ≡ r ∷ c ∷ x ∷ drop 3 w
-  sizes-first some = sets-eq (r ∷ c ∷ x ∷ []) w 0 (omega arith)
+pub circuit_filled : (w sizes ma mb mc : List ℕ) (m : ℕ) → length w ≡ 3 + 3 * m → length sizes ≡ 3 → length ma ≡ m → length mb ≡ m
+    → put_mid (3 + 2 * m) m (put_mid (3 + m) m (put_mid 3 m (sizes ++ drop 3 w) ma) mb) mc ≡ sizes ++ (ma ++ (mb ++ mc))
+circuit_filled w sizes ma mb mc m room three many-a many-b =
+    let rest : List ℕ = drop 3 w in
+    let sized : List ℕ = sizes ++ rest in
+    let over : drop m (drop m (drop m rest)) ≡ [] = drop_of_length-le (drop m (drop m rest)) {i = m} (simp length-drop (omega arith)) in
+    let with_a : put_mid 3 m sized ma ≡ (sizes ++ ma) ++ drop m rest = put-after sizes ma rest sized 3 m refl three in
+    let with_b : put_mid (3 + m) m (put_mid 3 m sized ma) mb ≡ ((sizes ++ ma) ++ mb) ++ drop m (drop m rest) =
+    put-after (sizes ++ ma) mb (drop m rest) (put_mid 3 m sized ma) (3 + m) m with_a (omega (arith, length-append sizes ma)) in
+    put-after ((sizes ++ ma) ++ mb) mc (drop m (drop m rest)) (put_mid (3 + m) m (put_mid 3 m sized ma) mb) (3 + 2 * m) m with_b
+    (omega (arith, length-append (sizes ++ ma) mb, length-append sizes ma))
+    ∙ ap (λ (l : List ℕ). (((sizes ++ ma) ++ mb) ++ mc) ++ l) over
+    ∙ append-nil (((sizes ++ ma) ++ mb) ++ mc)
+    ∙ append_assoc (sizes ++ ma) mb mc
+    ∙ append_assoc sizes ma (mb ++ mc)
 
-  pub circuit_filled : (ma mb mc : List ℕ) (m : ℕ) → length w ≡ 3 + 3 * m → length ma ≡ m → length mb ≡ m
-      → put_mid (3 + 2 * m) m (put_mid (3 + m) m (put_mid 3 m (set (set (set w 0 r) 1 c) 2 x) ma) mb) mc
-      ≡ r ∷ c ∷ x ∷ (ma ++ (mb ++ mc))
-  circuit_filled ma mb mc m room many-a many-b =
-      let sizes : List ℕ = r ∷ c ∷ x ∷ [] in
-      let sized : List ℕ = set (set (set w 0 r) 1 c) 2 x in
-      let rest : List ℕ = drop 3 w in
-      let over : drop m (drop m (drop m rest)) ≡ [] = drop_of_length-le (drop m (drop m rest)) {i = m} (simp length-drop (omega arith)) in
-      let with_a : put_mid 3 m sized ma ≡ (sizes ++ ma) ++ drop m rest =
-      put-after sizes ma rest sized 3 m (sizes-first (omega arith)) refl in
-      let with_b : put_mid (3 + m) m (put_mid 3 m sized ma) mb ≡ ((sizes ++ ma) ++ mb) ++ drop m (drop m rest) =
-      put-after (sizes ++ ma) mb (drop m rest) (put_mid 3 m sized ma) (3 + m) m with_a (omega arith) in
-      put-after ((sizes ++ ma) ++ mb) mc (drop m (drop m rest)) (put_mid (3 + m) m (put_mid 3 m sized ma) mb) (3 + 2 * m) m with_b
-      (omega (arith, length-append ma mb))
-      ∙ ap (λ (l : List ℕ). (((sizes ++ ma) ++ mb) ++ mc) ++ l) over
-      ∙ append-nil (((sizes ++ ma) ++ mb) ++ mc)
-      ∙ ap (λ (l : List ℕ). r ∷ c ∷ x ∷ l) (append_assoc ma mb mc)
-
-  pub circuit-stored : (ea eb ec ma mb mc : List ℕ) → ma ≡ stored_matrix (entries_of ea) → mb ≡ stored_matrix (entries_of eb)
-      → mc ≡ stored_matrix (entries_of ec) → r ∷ c ∷ x ∷ (ma ++ (mb ++ mc)) ≡ stored (circuit_of (given r c x ea eb ec))
+module _ (r c x : ℕ) where
+  pub circuit-stored : (ea eb ec : List ℕ) {sizes ma mb mc : List ℕ} → sizes ≡ r ∷ c ∷ x ∷ [] → ma ≡ stored_matrix (entries_of ea)
+      → mb ≡ stored_matrix (entries_of eb) → mc ≡ stored_matrix (entries_of ec)
+      → sizes ++ (ma ++ (mb ++ mc)) ≡ stored (circuit_of (given r c x ea eb ec))
   unfolding stored circuit_of
-  circuit-stored ea eb ec ma mb mc in_a in_b in_c =
-      ap (λ (l : List ℕ). r ∷ c ∷ x ∷ l) (ap₂ ◌++◌ in_a (ap₂ ◌++◌ in_b in_c))
+  circuit-stored ea eb ec first in_a in_b in_c = ap₂ ◌++◌ first (ap₂ ◌++◌ in_a (ap₂ ◌++◌ in_b in_c))
 
-  -- the sizes over zeros are the words of a circuit without entries
-  pub nothing_stored : (n : ℕ) → w ≡ replicate n 0 → n ≡ grown_words → set (set (set w 0 r) 1 c) 2 x ≡ stored (empty_circuit r c x)
+  -- the sizes before zeros are the words of a circuit without entries
+  pub nothing_stored : (n : ℕ) → n ≡ grown_words → r ∷ c ∷ x ∷ replicate (n - 3) 0 ≡ stored (empty_circuit r c x)
   unfolding stored
-  nothing_stored n cleared room =
-      sizes-first (omega (arith, ap length cleared, length-replicate {A = ℕ} n 0))
-      ∙ ap (λ (l : List ℕ). r ∷ c ∷ x ∷ l)
-      (ap (drop 3) cleared ∙ zeros_cut matrix_words n room ∙ sym (ap (λ (l : List ℕ). l ++ (l ++ l)) empty_matrix))
+  nothing_stored n room =
+      ap (λ (l : List ℕ). r ∷ c ∷ x ∷ l) (zeros_cut matrix_words n room ∙ sym (ap (λ (l : List ℕ). l ++ (l ++ l)) empty_matrix))
 
 -- rows within a matrix are below 1,024
 pub rows-below : (r c : ℕ) (es : List Entry) → r ≤ max_size → All (Within r c) es → All (λ (e : Entry). e.row < max_size) es

@@ -1,14 +1,8 @@
 -- What is found at a row and column, the rows of an addition one after the other, and the answers of an addition and a removal.
 -- Assumes nothing.
-use mathlib.Core.Path.{◌≡◌, refl, ap, ap₂, ◌∙◌}
-use mathlib.Core.Bool.{Bool, true, false, not, ◌&&◌}
-use mathlib.Core.List.{List, [], ◌∷◌}
+use Rattle.std.proofs.Common.{◌≡◌, refl, ap, ap₂, ◌∙◌, Bool, true, false, not, ◌&&◌, List, [], ◌∷◌, ℕ, suc, ◌-◌, ◌<◌, ◌≤◌, arith, eqb, ltb, get_or, ltb-true, lt-ltb, le-ltb}
+use Rattle.std.specs.Prelude.{Result, IsErrAnd}
 use mathlib.Core.Option.{Option, none, some}
-use Prim.Native.Nat.{ℕ, suc, ◌-◌, ◌<◌, ◌≤◌}
-use native.Mathlib.Omega.{arith}
-use lib.Dec.{eqb, ltb}
-use lib.ListN.{get_or}
-use borrow.Author.Tests.{ltb-true, lt-ltb, le-ltb}
 use Rattle.field.specs.Prime.{Prime}
 use Rattle.domain.specs.Size.{max_size}
 use Rattle.protocol.specs.Circuit.{Entry}
@@ -16,12 +10,12 @@ use Rattle.protocol.specs.Refusals.{Refusal, first, refuse, list_refusal, word_r
 use Rattle.protocol.specs.Grown.{total_place, total, row_start, row_length, column_at, first_not_below, place_of, occupied, with_entry, without_entry, grown_circuit}
 use Rattle.protocol.specs.Grown.{occupied_refusal, vacant_refusal, entry_rows, add_refusal, add_entry_call, remove_entry_call}
 use Rattle.protocol.proofs.RefusalLaws.{and-true}
-use Rattle.protocol.proofs.Rows.{first_only}
-use Rattle.shared.specs.declared.Fault.{Fault}
-use Rattle.shared.specs.Meanings.{fault_refusal, is_fine}
+use Rattle.protocol.proofs.Rows.{first_only, first-front}
+use Rattle.shared.specs.declared.Refusal as declared-refusal
+use Rattle.shared.specs.Meanings.{refusal as refusal_meaning, refusal_in}
 use Rattle.shared.specs.Answers.{LentAnswer}
-use Rattle.shared.proofs.EarlyReturns.{stops_among, goes_past, fails_first, passes}
-use Rattle.shared.proofs.LentAnswers.{lent_refuses, lent-fills, lent-refused}
+use Rattle.shared.proofs.EarlyReturns.{goes_past, fails_first, passes}
+use Rattle.shared.proofs.LentAnswers.{lent_refuses, lent_exits, lent-fills}
 use Rattle.grown_words.proofs.PlaceLaws.{start_within, start_rises, total-within, search_within}
 
 module _ (w : List ℕ) (n : ℕ) (e : Entry) where
@@ -33,7 +27,8 @@ module _ (w : List ℕ) (n : ℕ) (e : Entry) where
   entry_fits = ltb e.row max_size && fits (grown_circuit w) e
 
   pub room_there : room ≡ true → (n < 3) × (get_or w (total_place n) 0 < max_size)
-  room_there free = let t = and-true (ltb n 3) (ltb (get_or w (total_place n) 0) max_size) free in (ltb-true n 3 t.0, ltb-true _ max_size t.1)
+  room_there free =
+      let t = and-true (ltb n 3) (ltb (get_or w (total_place n) 0) max_size) free in (ltb-true n 3 t.0, ltb-true _ max_size t.1)
 
   pub row_there : entry_fits ≡ true → e.row < max_size
   row_there fit = ltb-true e.row max_size (and-true (ltb e.row max_size) (fits (grown_circuit w) e) fit).0
@@ -105,27 +100,29 @@ unfolding total
 total-below w n below = omega (arith, below)
 
 -- the answers of an addition: 5, 6 or 7, then 14, then the circuit with the entry
-module _ (q : Prime) (w : List ℕ) (n : ℕ) (e : Entry) (f : Fault) (says : fault_refusal f ≡ first (entry_rows q w n e)) where
+module _ (q : Prime) (w : List ℕ) (n : ℕ) (e : Entry) where
   abbrev place_row : List (Option Refusal)
   place_row = occupied_refusal w n e.row e.column ∷ []
 
-  pub add_stops : is_fine f ≡ false → LentAnswer (add_entry_call q w n e) (fault_refusal f) w w
+  pub add_stops : {T : Type 0} (r : Result T declared-refusal.Refusal) (y : declared-refusal.Refusal) → IsErrAnd r (λ x. x ≡ y)
+      → some (refusal_meaning y) ≡ first (entry_rows q w n e) → LentAnswer (add_entry_call q w n e) (refusal_in r) w w
   unfolding add_entry_call add_refusal
-  add_stops stop = lent-refused f (stops_among f (entry_rows q w n e) says place_row stop) (with_entry w n e) w stop
+  add_stops r y exit says =
+      lent_exits (with_entry w n e) w r y exit (ap (λ o. first (o ∷ place_row)) says ∙ first-front (entry_rows q w n e) place_row)
 
-  module _ (fine : is_fine f ≡ true) where
+  module _ (says : none ≡ first (entry_rows q w n e)) where
     pub add-taken : occupied w n e.row e.column ≡ true
         → LentAnswer (add_entry_call q w n e) (some (record { number = 14; position = 0 })) w w
     unfolding add_entry_call add_refusal occupied_refusal
     add-taken taken =
-        lent_refuses (with_entry w n e) w (record { number = 14; position = 0 })
-        (goes_past f (entry_rows q w n e) says place_row fine (fails_first 14 0 [] (ap not taken)))
+        lent_refuses (with_entry w n e) w _ (record { number = 14; position = 0 }) refl
+        (goes_past (entry_rows q w n e) says place_row (fails_first 14 0 [] (ap not taken)))
 
     pub add_done : (after : List ℕ) → occupied w n e.row e.column ≡ false → after ≡ with_entry w n e
         → LentAnswer (add_entry_call q w n e) none w after
     unfolding add_entry_call add_refusal occupied_refusal
     add_done after vacant made =
-        lent-fills (with_entry w n e) w (goes_past f (entry_rows q w n e) says place_row fine (passes 14 0 [] (ap not vacant) refl)) made
+        lent-fills (with_entry w n e) w (goes_past (entry_rows q w n e) says place_row (passes 14 0 [] (ap not vacant) refl)) made
 
 -- the answers of a removal: 14, or the circuit without the entry
 module _ (w : List ℕ) (n i j : ℕ) where
@@ -135,7 +132,7 @@ module _ (w : List ℕ) (n i j : ℕ) where
   remove_refused : stands ≡ false → LentAnswer (remove_entry_call w n i j) (some (record { number = 14; position = 0 })) w w
   unfolding remove_entry_call vacant_refusal
   remove_refused none-there =
-      lent_refuses (without_entry w n i j) w (record { number = 14; position = 0 })
+      lent_refuses (without_entry w n i j) w _ (record { number = 14; position = 0 }) refl
       (fails_first 14 0 [] none-there ∙ first_only (vacant_refusal w n i j))
 
   pub remove_no_matrix : 3 ≤ n → LentAnswer (remove_entry_call w n i j) (some (record { number = 14; position = 0 })) w w
@@ -150,7 +147,8 @@ module _ (w : List ℕ) (n i j : ℕ) where
       stands_by : (b : Bool) → occupied w n i j ≡ b → stands ≡ b
       stands_by b e = ap₂ (λ (c d : Bool). c && d && occupied w n i j) (lt-ltb n 3 matrix) (lt-ltb i max_size row) ∙ e
 
-      pub remove_vacant : occupied w n i j ≡ false → LentAnswer (remove_entry_call w n i j) (some (record { number = 14; position = 0 })) w w
+      pub remove_vacant : occupied w n i j ≡ false
+          → LentAnswer (remove_entry_call w n i j) (some (record { number = 14; position = 0 })) w w
       remove_vacant vacant = remove_refused (stands_by false vacant)
 
       pub remove_done : (after : List ℕ) → occupied w n i j ≡ true → after ≡ without_entry w n i j

@@ -7,13 +7,14 @@ ghost use Rattle.domain.specs.Size.{max_size};
 ghost use Rattle.protocol.specs.Circuit.{Entry};
 ghost use Rattle.protocol.specs.Calls.{entries_of, circuit_of};
 ghost use Rattle.protocol.specs.Grown.{grown_words, matrix_words, row_entries, stored_matrix, stored, begin_call, begin_from_call};
-ghost use Rattle.shared.specs.Meanings.{fault_refusal};
+ghost use Rattle.shared.specs.Meanings.{refusal_in};
 ghost use Rattle.shared.specs.Answers.{LentAnswer};
-ghost use Rattle.circuit.specs.Given.{given, EntryWords, ThreeLists};
+ghost use Rattle.circuit.specs.Given.{circuit_words, EntryWords, WholeLists};
 
 use call_refusals::judge_circuit;
 use circuit::checks::check_sizes;
-use shared::{Fault, is_fine};
+use circuit::given::CircuitWords;
+use shared::{Refusal, Three};
 
 // How many entries each row has, a word for each row.
 fn count_rows(entries: &[u32], out: &mut [u32])
@@ -22,13 +23,10 @@ fn count_rows(entries: &[u32], out: &mut [u32])
     ensures { out.new
         ≡ tabulate (length out.old) (λ i. length (row_entries i (entries_of entries.now))) }
 {
-    poly::clear(out);
-    let count = entries.len() / 3;
-    let mut i = 0;
-    while i < count {
+    out.fill(0);
+    for i in 0..entries.len() / 3 {
         let row = entries[3 * i] as usize;
         out[row] += 1;
-        i += 1;
     }
 }
 
@@ -37,8 +35,8 @@ fn copy_words(words: &[u32], out: &mut [u32])
     requires { length words.now ≤ length out.old }
     ensures { out.new ≡ words.now ++ replicate (length out.old - length words.now) 0 }
 {
-    poly::clear(out);
-    poly::copy_front(words, out);
+    out.fill(0);
+    out[..words.len()].copy_from_slice(words);
 }
 
 // A matrix's words: the total, the rows' counts and the entries.
@@ -54,59 +52,39 @@ fn store_matrix(entries: &[u32], out: &mut [u32])
 }
 
 // A circuit's words.
-fn store(circuit: &mut [u32], r: u32, c: u32, x: u32, ea: &[u32], eb: &[u32], ec: &[u32])
+fn store(circuit: &mut [u32], given: &CircuitWords)
     requires circuit_len { length circuit.old ≡ grown_words }
-    requires three_lists { ThreeLists ea.now eb.now ec.now }
-    requires all { All (λ (e : Entry). e.row < max_size) (entries_of ea.now) }
-    requires all_2 { All (λ (e : Entry). e.row < max_size) (entries_of eb.now) }
-    requires all_3 { All (λ (e : Entry). e.row < max_size) (entries_of ec.now) }
-    ensures { circuit.new ≡ stored (circuit_of (given r c x ea.now eb.now ec.now)) }
+    requires three_lists { WholeLists given.now }
+    requires all { All (λ (e : Entry). e.row < max_size) (entries_of given.now.matrices.a.now) }
+    requires all_2 { All (λ (e : Entry). e.row < max_size) (entries_of given.now.matrices.b.now) }
+    requires all_3 { All (λ (e : Entry). e.row < max_size) (entries_of given.now.matrices.c.now) }
+    ensures { circuit.new ≡ stored (circuit_of (circuit_words given.now)) }
 {
-    circuit[0] = r;
-    circuit[1] = c;
-    circuit[2] = x;
-    store_matrix(ea, &mut circuit[3..4100]);
-    store_matrix(eb, &mut circuit[4100..8197]);
-    store_matrix(ec, &mut circuit[8197..12294]);
+    let Three { a, b, c } = given.matrices;
+    circuit[..3].copy_from_slice(&[given.r, given.c, given.x]);
+    store_matrix(a, &mut circuit[3..4100]);
+    store_matrix(b, &mut circuit[4100..8197]);
+    store_matrix(c, &mut circuit[8197..12294]);
 }
 
 // A circuit without entries. Refusal: 4 for a size.
-pub fn begin(circuit: &mut [u32], r: u32, c: u32, x: u32) -> Fault
+pub fn begin(circuit: &mut [u32], r: u32, c: u32, x: u32) -> Result<(), Refusal>
     requires { length circuit.old ≡ grown_words }
-    ensures { LentAnswer (begin_call r c x) (fault_refusal result) circuit.old circuit.new }
+    ensures { LentAnswer (begin_call r c x) (refusal_in result) circuit.old circuit.new }
 {
-    let fault = check_sizes(r, c, x);
-    if !is_fine(fault) {
-        return fault;
-    }
-    poly::clear(circuit);
-    circuit[0] = r;
-    circuit[1] = c;
-    circuit[2] = x;
-    Fault::Fine
+    check_sizes(r, c, x)?;
+    copy_words(&[r, c, x], circuit);
+    Ok(())
 }
 
 // A circuit from its entry lists. Refusals: 4 for a size, 5 for a list, 6 for a value, 7 for an entry.
-pub fn begin_from(
-    p: u32,
-    circuit: &mut [u32],
-    r: u32,
-    c: u32,
-    x: u32,
-    ea: &[u32],
-    eb: &[u32],
-    ec: &[u32],
-) -> Fault
+pub fn begin_from(p: u32, circuit: &mut [u32], given: &CircuitWords) -> Result<(), Refusal>
     requires circuit_len { length circuit.old ≡ grown_words }
     requires p_value { (q : Prime) × (q.p ≡ p) }
     ensures { (q : Prime) → q.p ≡ p
-        → LentAnswer (begin_from_call q (given r c x ea.now eb.now ec.now)) (fault_refusal result)
-        circuit.old circuit.new }
+        → LentAnswer (begin_from_call q (circuit_words given.now)) (refusal_in result) circuit.old circuit.new }
 {
-    let fault = judge_circuit(p, r, c, x, ea, eb, ec);
-    if !is_fine(fault) {
-        return fault;
-    }
-    store(circuit, r, c, x, ea, eb, ec);
-    Fault::Fine
+    judge_circuit(p, given)?;
+    store(circuit, given);
+    Ok(())
 }

@@ -7,14 +7,8 @@ pub fn insert_entry(words: &mut [u32], from: usize, to: usize, row: u32, column:
     requires { (from ≤ to) × (to + 3 ≤ length words.old) }
     ensures { words.new ≡ inserted words.old from to (record { row = row; column = column; value = value }) }
 {
-    let mut i = to;
-    while from < i {
-        i -= 1;
-        words[i + 3] = words[i];
-    }
-    words[from] = row;
-    words[from + 1] = column;
-    words[from + 2] = value;
+    words.copy_within(from..to, from + 3);
+    words[from..from + 3].copy_from_slice(&[row, column, value]);
 }
 
 // The entry at `from` taken out; the words after it up to `to` move back by three, and zeros stand after them.
@@ -22,12 +16,6 @@ pub fn remove_entry(words: &mut [u32], from: usize, to: usize)
     requires { (from + 3 ≤ to) × (to ≤ length words.old) }
     ensures { words.new ≡ removed words.old from to }
 {
-    let mut i = from + 3;
-    while i < to {
-        words[i - 3] = words[i];
-        i += 1;
-    }
-    words[to - 3] = 0;
-    words[to - 2] = 0;
-    words[to - 1] = 0;
+    words.copy_within(from + 3..to, from);
+    words[to - 3..to].fill(0);
 }

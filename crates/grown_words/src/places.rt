@@ -43,11 +43,7 @@ pub fn total_of(circuit: &[u32], matrix: u32) -> usize
     requires matrix_bound { matrix < 3 }
     ensures { result ≡ total circuit.now matrix }
 {
-    let stored = circuit[total_place(matrix)];
-    if stored > domain::MAX_SIZE {
-        return domain::MAX_SIZE as usize;
-    }
-    stored as usize
+    circuit[total_place(matrix)].min(domain::MAX_SIZE) as usize
 }
 
 // Where a row ends that begins at `start` and has so many entries; the matrix has `total`.
@@ -55,8 +51,7 @@ fn row_end(start: usize, count: u32, total: usize) -> usize
     requires { start ≤ max_size }
     ensures { result ≡ min (start + count) total }
 {
-    let end = start + count as usize;
-    if end < total { end } else { total }
+    (start + count as usize).min(total)
 }
 
 // The entries of a row: one pass over the counts of the rows up to it.
@@ -69,10 +64,8 @@ pub fn find_row(circuit: &[u32], matrix: u32, row: u32) -> Span
     let counts = total_place(matrix) + 1;
     let rows = row as usize;
     let mut start = 0;
-    let mut i = 0;
-    while i < rows {
-        start = row_end(start, circuit[counts + i], total);
-        i += 1;
+    for count in &circuit[counts..counts + rows] {
+        start = row_end(start, *count, total);
     }
     Span {
         start,
@@ -108,8 +101,5 @@ pub fn is_taken(circuit: &[u32], matrix: u32, column: u32, end: usize, place: us
     requires matrix_bound { (matrix < 3) × (end ≤ max_size) }
     ensures { result ≡ (ltb place end && eqb (column_at circuit.now matrix place) column) }
 {
-    if place >= end {
-        return false;
-    }
-    circuit[entries_place(matrix) + 3 * place + 1] == column
+    place < end && circuit[entries_place(matrix) + 3 * place + 1] == column
 }

@@ -1,4 +1,5 @@
-// The indexer: the four index polynomials of a matrix.
+// The indexer: the four index polynomials of a matrix. Working memory is arrays of the largest size, of which a part is used: there is no
+// heap.
 #![tactic(auto)]
 
 ghost use Rattle.std.specs.Prelude.{◌≡◌, true, map, ◌≤◌, ◌<◌, length};
@@ -13,9 +14,12 @@ ghost use Rattle.protocol.specs.Three.{MatrixName, at};
 ghost use Rattle.protocol.specs.Circuit.{Circuit};
 ghost use Rattle.protocol.specs.Index.{map_index, index};
 ghost use Rattle.protocol.specs.Calls.{entries_of};
-ghost use Rattle.circuit.specs.Given.{EntryWords, CircuitShaped, entry_lists};
+ghost use Rattle.circuit.specs.Given.{EntryWords, ShapedCircuit, lists_in};
 ghost use Rattle.circuit.specs.IndexLists.{index_lists, IndexLengths};
 ghost use Rattle.index.specs.IndexValues.{index_values, Listed, ThreeIndexed};
+
+use circuit::given::CircuitWords;
+use shared::Three;
 
 // The values of the four index polynomials on K_M into the slices, from lists of the elements of R and C. Past the last entry row,
 // column and value are taken as 0: g^0 is 1 and the weighted value 0, as document 01 has it.
@@ -36,8 +40,7 @@ fn fill_index_values(
         → index_lists row.new col.new rowcol.new rowcolval.new
         ≡ map_index words (index_values {q = q} k entries.now (length row.old)) }
 {
-    let mut i = 0;
-    while i < row.len() {
+    for i in 0..row.len() {
         let place = 3 * i;
         let by_row = domain::listed_element(rows, poly::word_or_zero(entries, place));
         let by_column = domain::listed_element(columns, poly::word_or_zero(entries, place + 1));
@@ -46,7 +49,6 @@ fn fill_index_values(
         col[i] = by_column;
         rowcol[i] = product;
         rowcolval[i] = field::multiply(p, product, poly::word_or_zero(entries, place + 2));
-        i += 1;
     }
 }
 
@@ -164,48 +166,47 @@ fn index_matrix_into(
     );
 }
 
-// The indexer: the four index polynomials of A, B and C into slices of length |K_M|. The elements of R and C are listed once.
+// The indexer: the four index polynomials of A, B and C into slices of length |K_M|. The elements of R and C are listed once. The slices
+// come one by one and not in a struct: of slices that a struct lends, a caller's proof does not know what they hold in the end, so that its
+// goal `returns` does not close.
 pub fn index_into(
     p: u32,
-    r: u32,
-    c: u32,
-    ea: &[u32],
-    eb: &[u32],
-    ec: &[u32],
-    rowA: &mut [u32],
-    colA: &mut [u32],
-    rowcolA: &mut [u32],
-    rowcolvalA: &mut [u32],
-    rowB: &mut [u32],
-    colB: &mut [u32],
-    rowcolB: &mut [u32],
-    rowcolvalB: &mut [u32],
-    rowC: &mut [u32],
-    colC: &mut [u32],
-    rowcolC: &mut [u32],
-    rowcolvalC: &mut [u32],
+    circuit: &CircuitWords,
+    row_a: &mut [u32],
+    col_a: &mut [u32],
+    rowcol_a: &mut [u32],
+    rowcolval_a: &mut [u32],
+    row_b: &mut [u32],
+    col_b: &mut [u32],
+    rowcol_b: &mut [u32],
+    rowcolval_b: &mut [u32],
+    row_c: &mut [u32],
+    col_c: &mut [u32],
+    rowcol_c: &mut [u32],
+    rowcolval_c: &mut [u32],
 )
     requires lt_p { 1 < p }
-    requires circuit_shaped { CircuitShaped r c ea.now eb.now ec.now }
-    requires index_lengths { IndexLengths (size_for (length (entries_of ea.now))) rowA.old colA.old rowcolA.old rowcolvalA.old }
-    requires index_lengths_2 { IndexLengths (size_for (length (entries_of eb.now))) rowB.old colB.old rowcolB.old rowcolvalB.old }
-    requires index_lengths_3 { IndexLengths (size_for (length (entries_of ec.now))) rowC.old colC.old rowcolC.old rowcolvalC.old }
-    ensures { (q : Prime) → Known q p → (k : Circuit) → k.|R| ≡ r → k.|C| ≡ c
-        → k.matrices ≡ entry_lists ea.now eb.now ec.now
+    requires circuit_shaped { ShapedCircuit circuit.now }
+    requires index_lengths { IndexLengths (size_for (length (entries_of circuit.now.matrices.a.now))) row_a.old col_a.old rowcol_a.old rowcolval_a.old }
+    requires index_lengths_2 { IndexLengths (size_for (length (entries_of circuit.now.matrices.b.now))) row_b.old col_b.old rowcol_b.old rowcolval_b.old }
+    requires index_lengths_3 { IndexLengths (size_for (length (entries_of circuit.now.matrices.c.now))) row_c.old col_c.old rowcol_c.old rowcolval_c.old }
+    ensures { (q : Prime) → Known q p → (k : Circuit) → k.|R| ≡ circuit.now.r → k.|C| ≡ circuit.now.c
+        → k.matrices ≡ lists_in circuit.now
         → ThreeIndexed q k
-        (index_lists rowA.new colA.new rowcolA.new rowcolvalA.new)
-        (index_lists rowB.new colB.new rowcolB.new rowcolvalB.new)
-        (index_lists rowC.new colC.new rowcolC.new rowcolvalC.new) }
+        (index_lists row_a.new col_a.new rowcol_a.new rowcolval_a.new)
+        (index_lists row_b.new col_b.new rowcol_b.new rowcolval_b.new)
+        (index_lists row_c.new col_c.new rowcol_c.new rowcolval_c.new) }
 {
-    let n = r as usize;
-    let l = c as usize;
+    let n = circuit.r as usize;
+    let l = circuit.c as usize;
     let mut rows = [0u32; 1024];
     let mut columns = [0u32; 1024];
-    domain::fill_powers(p, domain::root_of(p, r), &mut rows[..n]);
-    domain::fill_powers(p, domain::root_of(p, c), &mut columns[..l]);
+    domain::fill_powers(p, domain::root_of(p, circuit.r), &mut rows[..n]);
+    domain::fill_powers(p, domain::root_of(p, circuit.c), &mut columns[..l]);
     let u = &rows[..n];
     let v = &columns[..l];
-    index_matrix_into(p, u, v, ea, rowA, colA, rowcolA, rowcolvalA);
-    index_matrix_into(p, u, v, eb, rowB, colB, rowcolB, rowcolvalB);
-    index_matrix_into(p, u, v, ec, rowC, colC, rowcolC, rowcolvalC);
+    let Three { a, b, c } = circuit.matrices;
+    index_matrix_into(p, u, v, a, row_a, col_a, rowcol_a, rowcolval_a);
+    index_matrix_into(p, u, v, b, row_b, col_b, rowcol_b, rowcolval_b);
+    index_matrix_into(p, u, v, c, row_c, col_c, rowcol_c, rowcolval_c);
 }

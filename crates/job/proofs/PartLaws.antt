@@ -14,7 +14,7 @@ use Rattle.protocol.specs.Admission.{count_tests}
 use Rattle.protocol.specs.Calls.{ProverInput, entries_of, circuit_of, entry_list_tests}
 use Rattle.protocol.proofs.EntryLists.{length-entries_of}
 use Rattle.circuit.specs.Given.{prover_input}
-use Rattle.report.specs.declared.Challenges.{Challenges}
+use Rattle.circuit.specs.declared.given.Challenges.{Challenges}
 use Rattle.report.specs.Stages.{job_drawn}
 use Rattle.job.specs.declared.parts.Places.{Places}
 use Rattle.job.specs.JobText.{head_refusal, placeα, job_length, job_of}

@@ -5,7 +5,7 @@ use Rattle.domain.specs.BabyBear.{baby_bear}
 use Rattle.protocol.specs.Calls.{ProverInput}
 use Rattle.circuit.specs.Given.{prover_input}
 use Rattle.job.specs.declared.parts.Places.{Places}
-use Rattle.report.specs.declared.Challenges.{Challenges}
+use Rattle.circuit.specs.declared.given.Challenges.{Challenges}
 use Rattle.report.specs.ProofText.{unless_refused, outcome_text}
 use Rattle.job.specs.JobText.{too_long, too_short, head_refusal, placeB, placeC, placeZ, placeR, placeM, placeα, job_length, job_of}
 

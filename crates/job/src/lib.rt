@@ -3,7 +3,7 @@
 
 ghost use Rattle.std.specs.Prelude.{◌≡◌, ◌/◌, ◌≤◌, length};
 ghost use Rattle.domain.specs.BabyBear.{baby_bear};
-ghost use Rattle.shared.specs.Meanings.{fault_refusal};
+ghost use Rattle.shared.specs.Meanings.{refusal_in};
 ghost use Rattle.protocol.specs.Record.{words_in};
 ghost use Rattle.text.specs.Buffer.{put};
 ghost use Rattle.text.specs.Written.{Written};
@@ -16,7 +16,7 @@ mod parts;
 use circuit::checks::{check_counts, check_sizes};
 use record::word_at;
 use report::lines::put_refused;
-use shared::{Fault, is_fine};
+use shared::Refusal;
 use text::put_bytes;
 
 // The most bytes of a job, and of its sizes and counts.
@@ -50,22 +50,17 @@ fn words_into(bytes: &[u8], words: &mut [u32])
     requires { length words.old ≡ length bytes.now / 4 }
     ensures { words.new ≡ words_in bytes.now }
 {
-    let mut i = 0;
-    while i < words.len() {
-        words[i] = word_at(bytes, i);
-        i += 1;
+    for (i, word) in words.iter_mut().enumerate() {
+        *word = word_at(bytes, i);
     }
 }
 
 // 4 and 5.
-fn judge_head(words: &[u32]) -> Fault
+fn judge_head(words: &[u32]) -> Result<(), Refusal>
     requires { 6 ≤ length words.now }
-    ensures { fault_refusal result ≡ head_refusal words.now }
+    ensures { refusal_in result ≡ head_refusal words.now }
 {
-    let fault = check_sizes(words[0], words[1], words[2]);
-    if !is_fine(fault) {
-        return fault;
-    }
+    check_sizes(words[0], words[1], words[2])?;
     check_counts(words[3], words[4], words[5])
 }
 
@@ -76,10 +71,9 @@ fn put_words_text(count: usize, words: &[u32], out: &mut [u8]) -> usize
     requires most_proof_in_bounds { most_proof ≤ length out.old }
     ensures { Written out.old 0 (words_text count words.now) result out.new }
 {
-    let head = judge_head(words);
-    match head {
-        Fault::Refused(number, position) => put_refused(number, position, out, 0),
-        Fault::Fine => {
+    match judge_head(words) {
+        Err(refusal) => put_refused(refusal, out, 0),
+        Ok(()) => {
             let due = WORD_BYTES * parts::job_length(words);
             if due < count {
                 return put_too_long(out);
@@ -102,10 +96,10 @@ fn put_text(bytes: &[u8], out: &mut [u8]) -> usize
     if bytes.len() < HEAD_BYTES {
         return put_too_short(out);
     }
-    let n = bytes.len() / WORD_BYTES;
-    let mut words = [0u32; MAX_WORDS];
-    words_into(bytes, &mut words[..n]);
-    put_words_text(bytes.len(), &words[..n], out)
+    let mut room = [0; MAX_WORDS];
+    let words = &mut room[..bytes.len() / WORD_BYTES];
+    words_into(bytes, words);
+    put_words_text(bytes.len(), words, out)
 }
 
 // The text of a job: its length, and the text itself from the start of `out` on; what stands after it stays.

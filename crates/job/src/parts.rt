@@ -10,10 +10,9 @@ ghost use Rattle.report.specs.Stages.{job_drawn, most_proof};
 ghost use Rattle.job.specs.JobText.{head_refusal, job_length, job_of};
 ghost use Rattle.job.specs.Parts.{Placed, challenges_of, input_at};
 
+use circuit::given::{Challenges, CircuitWords, ProverInput};
 use outcome_text::whole::put_job;
-use report::Challenges;
-use report::lines::wide;
-use shared::Triple;
+use shared::{Three, Triple};
 
 // The words before the entries: three sizes and three counts.
 const HEAD_WORDS: usize = 6;
@@ -38,10 +37,10 @@ fn places_of(ws: &[u32]) -> Places
     ensures placed { Placed ws.now result }
     ensures challenges_bound { result.challenges < 2 ^ 36 }
 {
-    let columns = wide(ws[1]);
-    let b = HEAD_WORDS + 3 * wide(ws[3]);
-    let c = b + 3 * wide(ws[4]);
-    let z = c + 3 * wide(ws[5]);
+    let columns = ws[1] as usize;
+    let b = HEAD_WORDS + 3 * ws[3] as usize;
+    let c = b + 3 * ws[4] as usize;
+    let z = c + 3 * ws[5] as usize;
     let mask = z + columns;
     let m = mask + 1;
     Places {
@@ -85,37 +84,30 @@ fn challenges_in(ws: &[u32]) -> Challenges
 }
 
 // The parts from place to place, with the challenges.
-fn put_parts(
-    ws: &[u32],
-    b: usize,
-    c: usize,
-    z: usize,
-    mask: usize,
-    m: usize,
-    end: usize,
-    drawn: Challenges,
-    out: &mut [u8],
-) -> usize
-    requires le_b { (6 ≤ b) × (b ≤ c) × (c ≤ z) × (z ≤ mask) × (mask < m) × (m ≤ end) × (end ≤ length ws.now) }
-    requires end_value { entry_list_tests (input_at ws.now b c z mask m end).circuit
-        ≡ count_tests (circuit_of (input_at ws.now b c z mask m end).circuit) }
+fn put_parts(ws: &[u32], p: Places, drawn: Challenges, out: &mut [u8]) -> usize
+    requires le_b { (6 ≤ p.b) × (p.b ≤ p.c) × (p.c ≤ p.z) × (p.z ≤ p.mask) × (p.mask < p.m) × (p.m ≤ p.challenges) × (p.challenges ≤ length ws.now) }
+    requires end_value { entry_list_tests (input_at ws.now p.b p.c p.z p.mask p.m p.challenges).circuit
+        ≡ count_tests (circuit_of (input_at ws.now p.b p.c p.z p.mask p.m p.challenges).circuit) }
     requires most_proof_in_bounds { most_proof ≤ length out.old }
     ensures { Written out.old 0
-        (outcome_text baby_bear (job_drawn (input_at ws.now b c z mask m end) drawn)) result out.new }
+        (outcome_text baby_bear (job_drawn (input_at ws.now p.b p.c p.z p.mask p.m p.challenges) drawn)) result out.new }
 {
-    put_job(
-        ws[0],
-        ws[1],
-        ws[2],
-        &ws[HEAD_WORDS..b],
-        &ws[b..c],
-        &ws[c..z],
-        &ws[z..mask],
-        ws[mask],
-        &ws[m..end],
-        drawn,
-        out,
-    )
+    let input = ProverInput {
+        circuit: CircuitWords {
+            r: ws[0],
+            c: ws[1],
+            x: ws[2],
+            matrices: Three {
+                a: &ws[HEAD_WORDS..p.b],
+                b: &ws[p.b..p.c],
+                c: &ws[p.c..p.z],
+            },
+        },
+        z: &ws[p.z..p.mask],
+        mask: ws[p.mask],
+        m: &ws[p.m..p.challenges],
+    };
+    put_job(&input, drawn, out)
 }
 
 // A whole job, taken apart.
@@ -126,7 +118,5 @@ pub fn put_whole(ws: &[u32], out: &mut [u8]) -> usize
     ensures { Written out.old 0 (outcome_text baby_bear (job_of ws.now)) result out.new }
 {
     let p = places_of(ws);
-    let end = p.challenges;
-    let drawn = challenges_in(&ws[end..]);
-    put_parts(ws, p.b, p.c, p.z, p.mask, p.m, end, drawn, out)
+    put_parts(ws, p, challenges_in(&ws[p.challenges..]), out)
 }

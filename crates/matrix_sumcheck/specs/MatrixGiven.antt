@@ -15,6 +15,7 @@ use Rattle.protocol.specs.Calls.{entries_of}
 use Rattle.protocol.specs.Messages.{values, matrix_remainder}
 use Rattle.protocol.proofs.AdmissionLaws.{WellFormed}
 use Rattle.circuit.specs.Given.{EntryWords, Within}
+use Rattle.circuit.specs.declared.given.CircuitWords as declared
 
 -- a circuit k with r rows and c columns whose matrix M has the given entries, for a prime that the code knows by its value p
 pub record Given (q : Prime) (p r c : ℕ) (entries : List ℕ) (k : Circuit) (M : MatrixName) : Type 0 where
@@ -34,6 +35,10 @@ pub record Challenged (q : Prime) (p : ℕ) (k : Circuit) (alpha beta : ℕ) : T
 abbrev pub lists : List ℕ → List ℕ → List ℕ → Three (List ℕ)
 lists ea eb ec = record { a = ea; b = eb; c = ec }
 
+-- those of the circuit that a call is given
+abbrev pub word_lists : declared.CircuitWords → Three (List ℕ)
+word_lists k = lists k.matrices.a.now k.matrices.b.now k.matrices.c.now
+
 -- whole entries, not over 1,024, within a matrix that has a row and a column
 pub record EntriesWithin (r c : ℕ) (entries : List ℕ) : Type 0 where
   pub words : EntryWords entries
@@ -46,6 +51,9 @@ pub record ThreeWithin (r c : ℕ) (ea eb ec : List ℕ) : Type 0 where
   pub in_a : EntriesWithin r c ea
   pub in_b : EntriesWithin r c eb
   pub in_c : EntriesWithin r c ec
+
+abbrev pub CircuitWithin : ℕ → ℕ → declared.CircuitWords → Type 0
+CircuitWithin r c k = ThreeWithin r c k.matrices.a.now k.matrices.b.now k.matrices.c.now
 
 -- |K_M| of a list of entries
 abbrev pub size_of : List ℕ → ℕ

@@ -13,6 +13,8 @@ use Rattle.protocol.specs.Index.{Index, index, list_index}
 use Rattle.shared.specs.Meanings.{three}
 use Rattle.protocol.specs.Calls.{ProverInput, circuit_of}
 use Rattle.circuit.specs.Given.{given}
+use Rattle.circuit.specs.declared.given.CircuitWords as declared
+use Rattle.circuit.specs.declared.given.Challenges as declared-challenges
 use Rattle.prover.specs.CallGiven.{circuit_in, z_in}
 use Rattle.openings.specs.declared.IndexOpened.{IndexOpened}
 use Rattle.openings.specs.declared.AllOpened.{AllOpened}
@@ -36,10 +38,15 @@ index_list i = list_index (index_meaning i)
 
 -- all openings in order
 abbrev pub opened_list : AllOpened → List ℕ
-opened_list o = message_list o.messages ++ (index_list o.a ++ (index_list o.b ++ index_list o.c))
+opened_list o = message_list o.messages ++ (index_list o.index.a ++ (index_list o.index.b ++ index_list o.index.c))
 
 -- α is outside R, β outside C and γ outside K
 pub record PointsOutside (p r c x : ℕ) (ea eb ec : List ℕ) (alpha beta gamma : ℕ) : Type 0 where
   pub α-outside : OutsideDomain p r alpha
   pub β-outside : OutsideDomain p c beta
   pub γ-outside : OutsideDomain p (largest (sizes_of (circuit_of (given r c x ea eb ec))).|K|) gamma
+
+-- those of the circuit and of the challenges that a call is given
+abbrev pub ChallengesOutside : ℕ → declared.CircuitWords → declared-challenges.Challenges → Type 0
+ChallengesOutside p k h =
+    PointsOutside p k.r k.c k.x k.matrices.a.now k.matrices.b.now k.matrices.c.now h.alpha h.beta h.gamma

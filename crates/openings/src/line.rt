@@ -14,6 +14,7 @@ ghost use Rattle.matrix_sumcheck.specs.MatrixGiven.{lagrange_values};
 ghost use Rattle.openings.specs.LineGiven.{assignment_of, Assigned, Weighed, LineIs};
 
 use crate::values;
+use circuit::given::ProverInput;
 use prover::witness;
 
 // m, g1 and h1 at one point.
@@ -25,33 +26,38 @@ pub struct LineOpened {
 }
 
 // ẑ(β) = z(β) + mask·v_C(β)
-pub fn assignment_at(p: u32, c: u32, columns: &[u32], z: &[u32], mask: u32, beta: u32) -> u32
+pub fn assignment_at(p: u32, input: &ProverInput, columns: &[u32], beta: u32) -> u32
     requires lt_p { 1 < p }
-    requires c_value { is_size c ≡ true }
-    requires columns_len { (length columns.now ≡ c) × (length z.now ≡ c) }
-    ensures { (q : Prime) → Known q p → columns.now ≡ words (lagrange_values c (of {q = q} beta))
-        → (k : Circuit) → WellFormed p k → k.|C| ≡ c
-        → result ≡ (eval (assignment_of k (map of z.now) (of mask)) (of {q = q} beta)).word }
+    requires c_value { is_size input.now.circuit.c ≡ true }
+    requires columns_len { (length columns.now ≡ input.now.circuit.c) × (length input.now.z.now ≡ input.now.circuit.c) }
+    ensures { (q : Prime) → Known q p → columns.now ≡ words (lagrange_values input.now.circuit.c (of {q = q} beta))
+        → (k : Circuit) → WellFormed p k → k.|C| ≡ input.now.circuit.c
+        → result ≡ (eval (assignment_of k (map of input.now.z.now) (of input.now.mask)) (of {q = q} beta)).word }
 {
-    let value = domain::interpolated_at(p, columns, z);
-    field::multiply_add(p, mask, domain::vanishing_value(p, c, beta), value)
+    let value = domain::interpolated_at(p, columns, input.z);
+    let vanishing = domain::vanishing_value(p, input.circuit.c, beta);
+    field::multiply_add(p, input.mask, vanishing, value)
 }
 
 // ŵ(β), from ẑ(β).
-pub fn witness_at(p: u32, c: u32, x: u32, z: &[u32], assignment: u32, beta: u32) -> u32
+pub fn witness_at(p: u32, input: &ProverInput, assignment: u32, beta: u32) -> u32
     requires lt_p { 1 < p }
-    requires c_value { (is_size c ≡ true) × (is_size x ≡ true) × (x ≤ c) }
-    requires z_len { length z.now ≡ c }
-    requires outside_domain { OutsideDomain p x beta }
-    ensures { (q : Prime) → Known q p → (k : Circuit) → WellFormed p k → k.|C| ≡ c → k.|X| ≡ x → (r : Elem q)
-        → assignment ≡ (eval (assignment_of k (map of z.now) r) (of beta)).word
-        → result ≡ (eval (witnessPoly k (map of z.now) r) (of beta)).word }
+    requires c_value { (is_size input.now.circuit.c ≡ true) × (is_size input.now.circuit.x ≡ true)
+        × (input.now.circuit.x ≤ input.now.circuit.c) }
+    requires z_len { length input.now.z.now ≡ input.now.circuit.c }
+    requires outside_domain { OutsideDomain p input.now.circuit.x beta }
+    ensures { (q : Prime) → Known q p → (k : Circuit) → WellFormed p k
+        → k.|C| ≡ input.now.circuit.c → k.|X| ≡ input.now.circuit.x → (r : Elem q)
+        → assignment ≡ (eval (assignment_of k (map of input.now.z.now) r) (of beta)).word
+        → result ≡ (eval (witnessPoly k (map of input.now.z.now) r) (of beta)).word }
 {
+    let c = input.circuit.c;
+    let x = input.circuit.x;
     let n = x as usize;
     let mut lagrange = [0u32; 1024];
     domain::lagrange_values_into(p, beta, &mut lagrange[..n]);
     let mut public = [0u32; 1024];
-    witness::public_words_into((c / x) as usize, z, &mut public[..n]);
+    witness::public_words_into((c / x) as usize, input.z, &mut public[..n]);
     let known = domain::interpolated_at(p, &lagrange[..n], &public[..n]);
     values::over_vanishing(p, x, beta, field::subtract(p, assignment, known))
 }
@@ -84,28 +90,28 @@ fn rest_into(p: u32, weights: &[u32], z: &[u32], m: &[u32], out: &mut [u32])
 // m(β), g1(β) and h1(β), for every ẑ whose values on C are z, from ẑ(β).
 pub fn line_at(
     p: u32,
-    c: u32,
+    input: &ProverInput,
     columns: &[u32],
     weights: &[u32],
-    z: &[u32],
-    m: &[u32],
     assignment: u32,
     beta: u32,
 ) -> LineOpened
     requires lt_p { 1 < p }
-    requires c_value { (is_size c ≡ true) × OutsideDomain p c beta }
-    requires columns_len { (length columns.now ≡ c) × (length weights.now ≡ c) × (length z.now ≡ c) }
-    ensures { (q : Prime) → Known q p → columns.now ≡ words (lagrange_values c (of {q = q} beta))
-        → (k : Circuit) → WellFormed p k → k.|C| ≡ c → (α : Elem q) (η : Three (Elem q))
+    requires c_value { (is_size input.now.circuit.c ≡ true) × OutsideDomain p input.now.circuit.c beta }
+    requires columns_len { (length columns.now ≡ input.now.circuit.c) × (length weights.now ≡ input.now.circuit.c)
+        × (length input.now.z.now ≡ input.now.circuit.c) }
+    ensures { (q : Prime) → Known q p → columns.now ≡ words (lagrange_values input.now.circuit.c (of {q = q} beta))
+        → (k : Circuit) → WellFormed p k → k.|C| ≡ input.now.circuit.c → (α : Elem q) (η : Three (Elem q))
         → Weighed k α η weights.now
-        → (ẑ : Poly q) → Assigned k ẑ (of beta) z.now assignment
-        → LineIs k (map of m.now) ẑ α η (of beta) result }
+        → (ẑ : Poly q) → Assigned k ẑ (of beta) input.now.z.now assignment
+        → LineIs k (map of input.now.m.now) ẑ α η (of beta) result }
 {
+    let c = input.circuit.c;
     let n = c as usize;
     let mut rest = [0u32; 1024];
-    rest_into(p, weights, z, m, &mut rest[..n]);
+    rest_into(p, weights, input.z, input.m, &mut rest[..n]);
     let parts = values::parted_at(p, &rest[..n], beta);
-    let mask = poly::evaluate(p, m, beta);
+    let mask = poly::evaluate(p, input.m, beta);
     let line = field::multiply_add(
         p,
         domain::interpolated_at(p, columns, weights),
@@ -113,7 +119,7 @@ pub fn line_at(
         mask,
     );
     LineOpened {
-        mask: mask,
+        mask,
         remainder: parts.rest,
         quotient: values::over_vanishing(p, c, beta, field::subtract(p, line, parts.whole)),
     }

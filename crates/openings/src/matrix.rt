@@ -13,14 +13,16 @@ ghost use Rattle.protocol.specs.Index.{index as index_of, index_at, list_index, 
 ghost use Rattle.protocol.specs.Messages.{matrix_quotient, joined_quotient};
 ghost use Rattle.shared.specs.Meanings.{three};
 ghost use Rattle.protocol.specs.Calls.{entries_of};
-ghost use Rattle.circuit.specs.Given.{EntryWords, entry_lists};
+ghost use Rattle.circuit.specs.Given.{EntryWords, lists_in};
 ghost use Rattle.matrix_sumcheck.specs.MatrixGiven.{Given, Challenged, EntriesWithin, lagrange_values, LagrangeLists};
 ghost use Rattle.openings.specs.OpeningsGiven.{index_list, index_meaning};
 ghost use Rattle.openings.specs.MatrixValues.{MatrixIs};
 
 use crate::{IndexOpened, values};
+use circuit::given::{Challenges, CircuitWords};
 use circuit::matrices;
-use shared::Triple;
+use matrix_sumcheck::matrix::{Factors, ratio_into};
+use shared::{Three, Triple};
 
 // The index polynomials of one matrix, g_M and h_M at one point.
 #[derive(Clone, Copy)]
@@ -65,76 +67,73 @@ fn index_at(p: u32, r: u32, c: u32, entries: &[u32], places: &[u32]) -> IndexOpe
 }
 
 // b_M = |R||C|(αβ - α col_M - β row_M + rowcol_M), from the index polynomials' values.
-fn denominator_at(p: u32, r: u32, c: u32, alpha: u32, beta: u32, i: IndexOpened) -> u32
+fn denominator_at(p: u32, circuit: &CircuitWords, challenges: &Challenges, i: IndexOpened) -> u32
     requires { 1 < p }
-    ensures { (q : Prime) → q.p ≡ p → (s : Sizes) → s.|R| ≡ r → s.|C| ≡ c
-        → result ≡ (denominator_value s (of {q = q} alpha) (of beta) (map_index of (index_meaning i))).word }
+    ensures { (q : Prime) → q.p ≡ p → (s : Sizes) → s.|R| ≡ circuit.now.r → s.|C| ≡ circuit.now.c
+        → result
+        ≡ (denominator_value s (of {q = q} challenges.now.alpha) (of challenges.now.beta) (map_index of (index_meaning i))).word }
 {
-    let corner = field::multiply(p, alpha, beta);
-    let first = field::subtract(p, corner, field::multiply(p, alpha, i.col));
-    let second = field::subtract(p, first, field::multiply(p, beta, i.row));
+    let corner = field::multiply(p, challenges.alpha, challenges.beta);
+    let first = field::subtract(p, corner, field::multiply(p, challenges.alpha, i.col));
+    let second = field::subtract(p, first, field::multiply(p, challenges.beta, i.row));
     let both = field::add(p, second, i.rowcol);
-    field::multiply(p, field::multiply(p, r, c), both)
+    field::multiply(p, field::multiply(p, circuit.r, circuit.c), both)
 }
 
 // a_M - b_M·ratio, where a_M = scale·rowcolval_M and the scale is v_R(α) v_C(β).
 fn difference_at(
     p: u32,
-    r: u32,
-    c: u32,
-    alpha: u32,
-    beta: u32,
+    circuit: &CircuitWords,
+    challenges: &Challenges,
     scale: u32,
     i: IndexOpened,
     ratio: u32,
 ) -> u32
     requires { 1 < p }
-    ensures { (q : Prime) → q.p ≡ p → (s : Sizes) → s.|R| ≡ r → s.|C| ≡ c
-        → scale ≡ (vanishing r (of {q = q} alpha) ⊗ vanishing c (of beta)).word
+    ensures { (q : Prime) → q.p ≡ p → (s : Sizes) → s.|R| ≡ circuit.now.r → s.|C| ≡ circuit.now.c
+        → scale ≡ (vanishing circuit.now.r (of {q = q} challenges.now.alpha) ⊗ vanishing circuit.now.c (of challenges.now.beta)).word
         → of {q = q} result
-        ≡ numerator_value s (of alpha) (of beta) (map_index of (index_meaning i))
-        ⊖ denominator_value s (of alpha) (of beta) (map_index of (index_meaning i)) ⊗ of ratio }
+        ≡ numerator_value s (of challenges.now.alpha) (of challenges.now.beta) (map_index of (index_meaning i))
+        ⊖ denominator_value s (of challenges.now.alpha) (of challenges.now.beta) (map_index of (index_meaning i)) ⊗ of ratio }
 {
     let numerator = field::multiply(p, scale, i.rowcolval);
-    let denominator = denominator_at(p, r, c, alpha, beta, i);
+    let denominator = denominator_at(p, circuit, challenges, i);
     field::subtract(p, numerator, field::multiply(p, denominator, ratio))
 }
 
 // The index polynomials, g_M and h_M at γ. Rows and columns have their Lagrange values at α and β, and the scale is v_R(α) v_C(β).
 pub fn matrix_at(
     p: u32,
-    r: u32,
-    c: u32,
-    entries: &[u32],
-    rows: &[u32],
-    columns: &[u32],
-    alpha: u32,
-    beta: u32,
+    circuit: &CircuitWords,
+    challenges: &Challenges,
+    lagrange: &Factors,
     scale: u32,
-    gamma: u32,
+    entries: &[u32],
 ) -> MatrixOpened
     requires lt_p { 1 < p }
-    requires r_value { (is_size r ≡ true) × (is_size c ≡ true) }
-    requires entries_within { EntriesWithin (length rows.now) (length columns.now) entries.now }
-    requires outside_domain { OutsideDomain p (size_for (length (entries_of entries.now))) gamma }
-    ensures { (q : Prime) (k : Circuit) (M : MatrixName) → Given q p r c entries.now k M → Challenged q p k alpha beta
-        → LagrangeLists q r c alpha beta rows.now columns.now
-        → scale ≡ (vanishing r (of {q = q} alpha) ⊗ vanishing c (of beta)).word
-        → MatrixIs {q = q} k (of alpha) (of beta) M (of gamma) result }
+    requires r_value { (is_size circuit.now.r ≡ true) × (is_size circuit.now.c ≡ true) }
+    requires entries_within { EntriesWithin (length lagrange.now.rows.now) (length lagrange.now.columns.now) entries.now }
+    requires outside_domain { OutsideDomain p (size_for (length (entries_of entries.now))) challenges.now.gamma }
+    ensures { (q : Prime) (k : Circuit) (M : MatrixName) → Given q p circuit.now.r circuit.now.c entries.now k M
+        → Challenged q p k challenges.now.alpha challenges.now.beta
+        → LagrangeLists q circuit.now.r circuit.now.c challenges.now.alpha challenges.now.beta
+        lagrange.now.rows.now lagrange.now.columns.now
+        → scale ≡ (vanishing circuit.now.r (of {q = q} challenges.now.alpha) ⊗ vanishing circuit.now.c (of challenges.now.beta)).word
+        → MatrixIs {q = q} k (of challenges.now.alpha) (of challenges.now.beta) M (of challenges.now.gamma) result }
 {
     let size = matrices::size_of(entries);
     let n = size as usize;
     let mut places = [0u32; 1024];
-    domain::lagrange_values_into(p, gamma, &mut places[..n]);
-    let opened = index_at(p, r, c, entries, &places[..n]);
+    domain::lagrange_values_into(p, challenges.gamma, &mut places[..n]);
+    let opened = index_at(p, circuit.r, circuit.c, entries, &places[..n]);
     let mut ratio = [0u32; 1024];
-    matrix_sumcheck::matrix::ratio_into(p, rows, columns, entries, &mut ratio[..n]);
-    let parts = values::parted_at(p, &ratio[..n], gamma);
-    let difference = difference_at(p, r, c, alpha, beta, scale, opened, parts.whole);
+    ratio_into(p, lagrange, entries, &mut ratio[..n]);
+    let parts = values::parted_at(p, &ratio[..n], challenges.gamma);
+    let difference = difference_at(p, circuit, challenges, scale, opened, parts.whole);
     MatrixOpened {
         index: opened,
         remainder: parts.rest,
-        quotient: values::over_vanishing(p, size, gamma, difference),
+        quotient: values::over_vanishing(p, size, challenges.gamma, difference),
     }
 }
 
@@ -152,27 +151,18 @@ fn share_of(p: u32, delta: u32, entries: &[u32], quotient: u32) -> u32
 }
 
 // h2(γ) = Σ δ_M (|K_M|/|K|) h_M(γ)
-pub fn joined_at(
-    p: u32,
-    ea: &[u32],
-    eb: &[u32],
-    ec: &[u32],
-    delta: Triple,
-    quotients: Triple,
-) -> u32
+pub fn joined_at(p: u32, circuit: &CircuitWords, delta: Triple, quotients: Triple) -> u32
     requires { 1 < p }
     ensures { (q : Prime) → Known q p → (k : Circuit)
-        → k.matrices ≡ entry_lists ea.now eb.now ec.now → (α β γ : Elem q)
+        → k.matrices ≡ lists_in circuit.now → (α β γ : Elem q)
         → ((M : MatrixName) → at (three quotients) M ≡ (eval (matrix_quotient k α β M) γ).word)
         → result ≡ (eval (joined_quotient k α β (map_three of (three delta))) γ).word }
 {
-    let a = share_of(p, delta.a, ea, quotients.a);
-    let b = share_of(p, delta.b, eb, quotients.b);
-    let c = share_of(p, delta.c, ec, quotients.c);
-    let all = field::add(p, field::add(p, a, b), c);
-    field::multiply(
-        p,
-        all,
-        domain::size_inverse(p, matrices::largest_size(ea, eb, ec)),
-    )
+    let Three { a, b, c } = circuit.matrices;
+    let of_a = share_of(p, delta.a, a, quotients.a);
+    let of_b = share_of(p, delta.b, b, quotients.b);
+    let of_c = share_of(p, delta.c, c, quotients.c);
+    let all = field::add(p, field::add(p, of_a, of_b), of_c);
+    let inverse = domain::size_inverse(p, matrices::largest_size(circuit));
+    field::multiply(p, all, inverse)
 }

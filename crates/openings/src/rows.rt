@@ -16,6 +16,7 @@ ghost use Rattle.circuit.specs.Given.{Within};
 ghost use Rattle.matrix_sumcheck.specs.MatrixGiven.{lagrange_values};
 
 use crate::values;
+use circuit::given::ProverInput;
 use circuit::matrices;
 
 // (f g - h)/v_D at y, where f and g have the values left and right on D, and h the products of these.
@@ -44,28 +45,22 @@ fn product_quotient_at(p: u32, n: u32, y: u32, lagrange: &[u32], left: &[u32], r
 }
 
 // h0(α), for every ẑ whose values on C are z. The rows have their Lagrange values at α.
-pub fn row_quotient_at(
-    p: u32,
-    r: u32,
-    rows: &[u32],
-    ea: &[u32],
-    eb: &[u32],
-    z: &[u32],
-    alpha: u32,
-) -> u32
+pub fn row_quotient_at(p: u32, input: &ProverInput, rows: &[u32], alpha: u32) -> u32
     requires lt_p { 1 < p }
-    requires r_value { (is_size r ≡ true) × OutsideDomain p r alpha }
-    requires rows_len { length rows.now ≡ r }
-    requires all { All (Within r (length z.now)) (entries_of ea.now) × All (Within r (length z.now)) (entries_of eb.now) }
-    ensures { (q : Prime) → Known q p → rows.now ≡ words (lagrange_values r (of {q = q} alpha))
-        → (k : Circuit) → WellFormed p k → k.|R| ≡ r
-        → k.matrices.a ≡ entries_of ea.now → k.matrices.b ≡ entries_of eb.now
-        → (ẑ : Poly q) → values_on k.|C| ẑ ≡ map of z.now → result ≡ (eval (row_quotient k ẑ) (of alpha)).word }
+    requires r_value { (is_size input.now.circuit.r ≡ true) × OutsideDomain p input.now.circuit.r alpha }
+    requires rows_len { length rows.now ≡ input.now.circuit.r }
+    requires all { All (Within input.now.circuit.r (length input.now.z.now)) (entries_of input.now.circuit.matrices.a.now)
+        × All (Within input.now.circuit.r (length input.now.z.now)) (entries_of input.now.circuit.matrices.b.now) }
+    ensures { (q : Prime) → Known q p → rows.now ≡ words (lagrange_values input.now.circuit.r (of {q = q} alpha))
+        → (k : Circuit) → WellFormed p k → k.|R| ≡ input.now.circuit.r
+        → k.matrices.a ≡ entries_of input.now.circuit.matrices.a.now → k.matrices.b ≡ entries_of input.now.circuit.matrices.b.now
+        → (ẑ : Poly q) → values_on k.|C| ẑ ≡ map of input.now.z.now → result ≡ (eval (row_quotient k ẑ) (of alpha)).word }
 {
+    let r = input.circuit.r;
     let n = r as usize;
     let mut left = [0u32; 1024];
-    matrices::row_sums(p, ea, z, &mut left[..n]);
+    matrices::row_sums(p, input.circuit.matrices.a, input.z, &mut left[..n]);
     let mut right = [0u32; 1024];
-    matrices::row_sums(p, eb, z, &mut right[..n]);
+    matrices::row_sums(p, input.circuit.matrices.b, input.z, &mut right[..n]);
     product_quotient_at(p, r, alpha, rows, &left[..n], &right[..n])
 }

@@ -33,6 +33,6 @@ pub fn parted_at(p: u32, f: &[u32], y: u32) -> Parted
     let rest = poly::evaluate(p, &f[1..], y);
     Parted {
         whole: field::multiply_add(p, y, rest, f[0]),
-        rest: rest,
+        rest,
     }
 }

@@ -29,11 +29,12 @@ use Rattle.shared.specs.declared.Opened.{Opened}
 use Rattle.protocol.proofs.AdmissionLaws.{job-fits}
 use Rattle.protocol.proofs.CallsProve.{openings-listed}
 use Rattle.protocol.proofs.ProofRecords.{lengths-due}
-use Rattle.varuna.specs.declared.answers.IndexesOpened.{IndexesOpened}
+use Rattle.shared.specs.declared.Three as declared
+use Rattle.openings.specs.declared.IndexOpened.{IndexOpened}
 use Rattle.openings.specs.OpeningsGiven.{message_list}
 use Rattle.varuna.specs.Answers.{indexes_list}
 use Rattle.prover.proofs.WitnessLaws.{public_words_lem}
-use Rattle.report.specs.declared.Challenges.{Challenges}
+use Rattle.circuit.specs.declared.given.Challenges.{Challenges}
 use Rattle.report.specs.ProofText.{lines, answer_text, proof_text, outcome_text, unless_refused, refused_text}
 use Rattle.report.specs.Stages.{section, job_drawn, FreeJob, public_of, last_answer, after_sums, after_values, answer_after, opened_meaning}
 use Rattle.report.specs.Stages.{first_text, first_lines, sum_words, third_text, third_lines, value_words, remainder_words}
@@ -105,7 +106,7 @@ module _ (i : ProverInput) (d : Challenges) where
         last_answer (sizes_of c) (lengths-due baby_bear baby_bear-qualifies j free t) (public_same t) d (sum_words i j.α) (value_words i j.α j.β) (sym e t)
 
     -- all stages
-    stages_same : (o : Opened) (x : IndexesOpened) → message_list o ++ indexes_list x ≡ words (list_openings (true_openings baby_bear j sent))
+    stages_same : (o : Opened) (x : declared.Three IndexOpened) → message_list o ++ indexes_list x ≡ words (list_openings (true_openings baby_bear j sent))
         → stages_text i d (opened_meaning o x) ≡ proof_text baby_bear j
     unfolding stages_text first_text first_lines sum_words third_text third_lines value_words remainder_words fourth_text fourth_lines fifth_text rest_text
         proof_text lines sections proof messages
@@ -134,7 +135,7 @@ module _ (i : ProverInput) (d : Challenges) where
     pub refused_text_lem : {r : Refusal} → round_refusal baby_bear i [] [] (challenge_words j) (challenge_points j) ≡ some r → refused_text r ≡ outcome_text baby_bear j
     refused_text_lem {r} h = sym (ap (λ o. unless_refused o (proof_text baby_bear j)) (job-refusal e ∙ h))
 
-    pub free_text : (o : Opened) (x : IndexesOpened) → FreeJob i d
+    pub free_text : (o : Opened) (x : declared.Three IndexOpened) → FreeJob i d
         → message_list o ++ indexes_list x ≡ words (list_openings (true_openings baby_bear j (proof baby_bear j)))
         → stages_text i d (opened_meaning o x) ≡ outcome_text baby_bear j
     free_text o x free h =

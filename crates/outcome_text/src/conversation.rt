@@ -7,10 +7,10 @@ ghost use Rattle.shared.specs.Meanings as meanings;
 ghost use Rattle.verifier.specs.Session.{session_meaning, openings_answer_meaning};
 ghost use Rattle.report.specs.Stages.{after_sums, after_values, answer_after, last_answer};
 
-use report::Challenges;
+use circuit::given::Challenges;
 use shared::lengths::message_lengths;
-use shared::{Opened, Sizes, Triple};
-use varuna::session::{OpeningsAnswer, Session};
+use shared::{Opened, Refusal, Sizes, Triple, Verdict};
+use varuna::session::Session;
 
 // The session after the σ and η.
 fn after_sums(s: Sizes, x: &[u32], alpha: u32, sums: Triple, eta: Triple) -> Session
@@ -55,7 +55,7 @@ fn answer_after(
     gamma: u32,
     o: Opened,
     index: [[u32; 4]; 3],
-) -> OpeningsAnswer
+) -> Result<Verdict, Refusal>
     ensures { openings_answer_meaning result ≡ answer_after (session_meaning before) (lengths (sizes s)) gamma (meanings.openings o index) }
 {
     let due = message_lengths(s);
@@ -73,7 +73,7 @@ pub fn last_answer(
     values: Triple,
     o: Opened,
     index: [[u32; 4]; 3],
-) -> OpeningsAnswer
+) -> Result<Verdict, Refusal>
     requires { s.c ≤ max_size }
     ensures { openings_answer_meaning result
         ≡ last_answer (sizes s) (lengths (sizes s)) x.now drawn (three sums) (three values) (meanings.openings o index) }

@@ -1,11 +1,8 @@
 -- The coefficients of sums, multiples, quotients and remainders of polynomials; an entry past the end is 0.
 -- Assumes nothing.
-use mathlib.Core.Path.{◌≡◌, refl, sym, ap, ap₂, ◌∙◌}
-use mathlib.Core.List.{List, [], ◌∷◌}
-use Prim.Native.Nat.{ℕ, zero, suc, ◌+◌, ◌≤◌, ◌<◌}
-use native.Mathlib.Omega.{arith}
-use lib.ListN.{length, get_or, take, drop, length-drop, get_or-replicate, get_or-eq_default}
-use lib.Seq.{take-nil, drop-nil, get_or-take, get_or-drop, drop-drop}
+use Rattle.std.proofs.Common.{◌≡◌, refl, sym, ap, ap₂, ◌∙◌, List, [], ◌∷◌, ℕ, zero, suc, ◌+◌, ◌≤◌, ◌<◌, arith, length, get_or, take, drop, length-drop, get_or-take, get_or-drop, drop-drop}
+use lib.ListN.{get_or-replicate, get_or-eq_default}
+use lib.Seq.{take-nil, drop-nil}
 use Rattle.algebra.specs.Ring.{CommRing}
 use Rattle.algebra.specs.Polynomial.{add, scale, quotient_in, remainder_in, quotient, remainder}
 use Rattle.algebra.proofs.Division.{length-quotient}
@@ -29,10 +26,6 @@ module _ {A : Type 0} (R : CommRing A) where
   coefficient_scale k [] i = sym (mul-zero R k)
   coefficient_scale k (a ∷ f) zero = refl
   coefficient_scale k (a ∷ f) (suc i) = coefficient_scale k f i
-
-  -- the sum of each n-th coefficient from the j-th on
-  unfoldable pub folds : ℕ → List A → ℕ → A
-  folds n f j = get_or (remainder_in R (length f) n (drop j f)) 0 𝟘
 
   module _ (n : ℕ) (positive : 0 < n) where
     drop_swap : (m : ℕ) (f : List A) → drop n (drop m f) ≡ drop m (drop n f)
@@ -78,17 +71,6 @@ module _ {A : Type 0} (R : CommRing A) where
         (ap (λ (g : List A). get_or (quotient_in R k n g) i 𝟘) (drop_swap m f) ∙ quotient-drop k m (drop n f) i)
         ∙ sym (coefficient_add (drop n f) (quotient_in R k n (drop n f)) (m + i))
 
-    remainder-drop : (k : ℕ) (f : List A) (i : ℕ) → i < n → get_or (remainder_in R k n f) i 𝟘 ≡ get_or (remainder_in R k n (drop i f)) 0 𝟘
-    remainder-drop zero f i below = get_or-replicate n i 𝟘 𝟘 below ∙ sym (get_or-replicate n 0 𝟘 𝟘 positive)
-    remainder-drop (suc k) f i below =
-        let e : i ≡ i + 0 = omega arith in
-        coefficient_add (take n f) (remainder_in R k n (drop n f)) i
-        ∙ ap₂ ◌⊕◌
-        (get_or-take n f i 𝟘 below ∙ ap (λ (j : ℕ). get_or f j 𝟘) e ∙ sym (get_or-drop i f 0 𝟘)
-        ∙ sym (get_or-take n (drop i f) 0 𝟘 positive))
-        (remainder-drop k (drop n f) i below ∙ ap (λ (g : List A). get_or (remainder_in R k n g) 0 𝟘) (sym (drop_swap i f)))
-        ∙ sym (coefficient_add (take n (drop i f)) (remainder_in R k n (drop n (drop i f))) 0)
-
     -- q_i = f_(i+n) + q_(i+n)
     pub coefficient_quotient : (f : List A) (i : ℕ) → get_or (quotient R n f) i 𝟘 ≡ get_or f (i + n) 𝟘 ⊕ get_or (quotient R n f) (i + n) 𝟘
     coefficient_quotient f i =
@@ -98,27 +80,17 @@ module _ {A : Type 0} (R : CommRing A) where
         ∙ ap₂ ◌⊕◌ (get_or-drop n f i 𝟘 ∙ ap (λ (j : ℕ). get_or f j 𝟘) e)
         (quotient-drop (length f) n f i ∙ ap (λ (j : ℕ). get_or (quotient R n f) j 𝟘) e)
 
-    pub coefficient_remainder : (f : List A) (i : ℕ) → i < n → get_or (remainder R n f) i 𝟘 ≡ folds n f i
-    unfolding folds
-    coefficient_remainder f i below = remainder-drop (length f) f i below
+    -- the first n coefficients, and the remainder of the others
+    pub remainder_turn : (f : List A) (i : ℕ) → get_or (remainder R n f) i 𝟘 ≡ get_or (take n f) i 𝟘 ⊕ get_or (remainder R n (drop n f)) i 𝟘
+    remainder_turn f i =
+        ap (λ (g : List A). get_or g i 𝟘) (remainder_turns (length f) (suc (length f)) f (omega arith) (omega arith))
+        ∙ coefficient_add (take n f) (remainder_in R (length f) n (drop n f)) i
+        ∙ ap (λ (g : List A). get_or (take n f) i 𝟘 ⊕ get_or g i 𝟘)
+        (remainder_turns (length f) (length (drop n f)) (drop n f) (omega (arith, length-drop n f)) (omega arith))
 
-    pub folds_turn : (f : List A) (j : ℕ) → folds n f j ≡ get_or f j 𝟘 ⊕ folds n f (j + n)
-    unfolding folds
-    folds_turn f j =
-        let e : j ≡ j + 0 = omega arith in
-        ap (λ (g : List A). get_or g 0 𝟘)
-        (remainder_turns (length f) (suc (length f)) (drop j f) (omega (arith, length-drop j f)) (omega (arith, length-drop j f)))
-        ∙ coefficient_add (take n (drop j f)) (remainder_in R (length f) n (drop n (drop j f))) 0
-        ∙ ap₂ ◌⊕◌
-        (get_or-take n (drop j f) 0 𝟘 positive ∙ get_or-drop j f 0 𝟘 ∙ ap (λ (k : ℕ). get_or f k 𝟘) (sym e))
-        (ap (λ (g : List A). get_or (remainder_in R (length f) n g) 0 𝟘) (drop-drop n j f))
-
-    pub folds_past : (f : List A) (j : ℕ) → length f ≤ j → folds n f j ≡ 𝟘
-    unfolding folds
-    folds_past f j past =
-        ap (λ (g : List A). get_or g 0 𝟘)
-        (remainder_turns (length f) 0 (drop j f) (omega (arith, length-drop j f)) (omega (arith, length-drop j f)))
-        ∙ get_or-replicate n 0 𝟘 𝟘 positive
+    pub remainder_none : (f : List A) (i : ℕ) → length f ≡ 0 → i < n → get_or (remainder R n f) i 𝟘 ≡ 𝟘
+    remainder_none f i empty below =
+        ap (λ (g : List A). get_or g i 𝟘) (remainder_turns (length f) 0 f (omega arith) (omega arith)) ∙ get_or-replicate n i 𝟘 𝟘 below
 
     -- the quotient has nothing from where f ends
     quotient_past : (f : List A) (i : ℕ) → length f ≤ i + n → get_or (quotient R n f) i 𝟘 ≡ 𝟘
@@ -133,13 +105,15 @@ module _ {A : Type 0} (R : CommRing A) where
         (quotient_past f (i + n) (omega arith))
         ∙ add-zero (get_or f (i + n) 𝟘) ∙ ap (λ (j : ℕ). get_or f j 𝟘) e
 
-    pub short-remainder-at : (f : List A) → length f ≤ n + n → (i : ℕ) → i < n → get_or (remainder R n f) i 𝟘 ≡ get_or f i 𝟘 ⊕ get_or f (n + i) 𝟘
+    pub short-remainder-at : (f : List A) → length f ≤ n + n → (i : ℕ) → i < n
+        → get_or (remainder R n f) i 𝟘 ≡ get_or f i 𝟘 ⊕ get_or f (n + i) 𝟘
     short-remainder-at f short i below =
-        let e : i + n ≡ n + i = omega arith in
-        coefficient_remainder f i below ∙ folds_turn f i
-        ∙ ap (λ x. get_or f i 𝟘 ⊕ x)
-        (folds_turn f (i + n) ∙ ap (λ x. get_or f (i + n) 𝟘 ⊕ x) (folds_past f (i + n + n) (omega arith)) ∙ add-zero (get_or f (i + n) 𝟘)
-        ∙ ap (λ (j : ℕ). get_or f j 𝟘) e)
+        let twice : length (drop n (drop n f)) ≡ 0 = omega (arith, length-drop n f, length-drop n (drop n f)) in
+        remainder_turn f i
+        ∙ ap₂ ◌⊕◌ (get_or-take n f i 𝟘 below)
+        (remainder_turn (drop n f) i
+        ∙ ap₂ ◌⊕◌ (get_or-take n (drop n f) i 𝟘 below ∙ get_or-drop n f i 𝟘) (remainder_none (drop n (drop n f)) i twice below)
+        ∙ add-zero (get_or f (n + i) 𝟘))
 
     -- the quotient of f + k·g is k times that of g, where f is not longer than n
     module _ (k : A) (f g : List A) (short : length f ≤ n) where

@@ -1,12 +1,6 @@
 -- A list whose first entries have been replaced by those of another, as a loop that stores into a slice leaves it: `joined l m i` has
 -- its first i entries from l and the others from m. Upwards l is the target; downwards m is. Assumes nothing.
-use mathlib.Core.Path.{◌≡◌, refl, sym, ap, ap₂, ◌∙◌}
-use mathlib.Core.List.{List, [], ◌∷◌, ◌++◌}
-use Prim.Native.Nat.{ℕ, zero, suc, ◌+◌, ◌-◌, ◌≤◌, ◌<◌}
-use native.Mathlib.Omega.{arith}
-use native.Mathlib.Numerals.{add-one}
-use lib.ListN.{length, take, drop, set, get_or, drop_of_length-le}
-use lib.Seq.{take_all}
+use Rattle.std.proofs.Common.{◌≡◌, refl, sym, ap, ap₂, ◌∙◌, List, [], ◌∷◌, ◌++◌, ℕ, zero, suc, ◌+◌, ◌-◌, ◌≤◌, ◌<◌, arith, add-one, length, take, drop, set, get_or, drop_of_length-le, take_all}
 
 unfoldable pub joined : {A : Type 0} → List A → List A → ℕ → List A
 joined l m i = take i l ++ drop i m

@@ -1,9 +1,8 @@
 -- Lists of words and the polynomials that they stand for, entry by entry: what a loop of the code computes at an entry is the
 -- coefficient that its contract names. Assumes nothing.
-use mathlib.Core.Path.{◌≡◌, refl, sym, ap, ◌∙◌}
-use mathlib.Core.List.{List, [], ◌∷◌, ◌++◌, map, tail}
-use Prim.Native.Nat.{ℕ, zero, suc}
-use lib.ListN.{get_or, replicate, get_or-map}
+use Rattle.std.proofs.Common.{◌≡◌, refl, sym, ap, ◌∙◌, List, [], ◌∷◌, ◌++◌, map, ℕ, zero, suc, get_or, replicate}
+use mathlib.Core.List.{tail}
+use lib.ListN.{get_or-map}
 use Rattle.field.specs.Prime.{Prime}
 use Rattle.field.specs.Element.{Elem, of, 𝟘, words}
 use Rattle.field.proofs.Words.{of-result}

@@ -26,16 +26,11 @@ pub fn evaluate_part(p: u32, running: Running, x: u32, part: &[u32]) -> Running
 {
     let mut sum = running.sum;
     let mut power = running.power;
-    let mut i = 0;
-    while i < part.len() {
-        sum = field::multiply_add(p, power, part[i], sum);
+    for coefficient in part {
+        sum = field::multiply_add(p, power, *coefficient, sum);
         power = field::multiply(p, power, x);
-        i += 1;
     }
-    Running {
-        sum: sum,
-        power: power,
-    }
+    Running { sum, power }
 }
 
 // f(x): evaluation begun with 0 and 1.
@@ -52,18 +47,14 @@ pub fn evaluate(p: u32, f: &[u32], x: u32) -> u32
 pub fn word_or_zero(s: &[u32], i: usize) -> u32
     ensures { result ≡ get_or s.now i 0 }
 {
-    if i < s.len() { s[i] } else { 0 }
+    s.get(i).copied().unwrap_or(0)
 }
 
 // Zeros into the slice.
 pub fn clear(out: &mut [u32])
     ensures { out.new ≡ replicate (length out.old) 0 }
 {
-    let mut i = 0;
-    while i < out.len() {
-        out[i] = 0;
-        i += 1;
-    }
+    out.fill(0);
 }
 
 // f + k·g into f, where g is not longer.
@@ -73,10 +64,8 @@ pub fn add_scaled(p: u32, f: &mut [u32], k: u32, g: &[u32])
     ensures { (q : Prime) → q.p ≡ p
         → f.new ≡ words (map of f.old ⊞ of {q = q} k · map of g.now) }
 {
-    let mut i = 0;
-    while i < f.len() {
-        f[i] = field::multiply_add(p, k, word_or_zero(g, i), f[i]);
-        i += 1;
+    for (i, word) in f.iter_mut().enumerate() {
+        *word = field::multiply_add(p, k, word_or_zero(g, i), *word);
     }
 }
 
@@ -87,9 +76,7 @@ pub fn quotient_into(p: u32, n: usize, f: &[u32], out: &mut [u32])
     requires out_len { length out.old ≡ length f.now - n }
     ensures { (q : Prime) → q.p ≡ p → out.new ≡ words (quotient n (map (of {q = q}) f.now)) }
 {
-    let mut i = out.len();
-    while 0 < i {
-        i -= 1;
+    for i in (0..out.len()).rev() {
         let carried = word_or_zero(out, i + n);
         out[i] = field::add(p, f[i + n], carried);
     }
@@ -102,10 +89,8 @@ fn folded(p: u32, n: usize, f: &[u32], at: usize) -> u32
     ensures { (q : Prime) → q.p ≡ p → result ≡ (get_or (remainder n (map of f.now)) at (𝟘 {q = q})).word }
 {
     let mut sum: u32 = 0;
-    let mut i = at;
-    while i < f.len() {
-        sum = field::add(p, sum, f[i]);
-        i += n;
+    for part in f.chunks(n) {
+        sum = field::add(p, sum, word_or_zero(part, at));
     }
     sum
 }
@@ -118,10 +103,8 @@ pub fn remainder_into(p: u32, f: &[u32], out: &mut [u32])
         → out.new ≡ words (remainder (length out.old) (map (of {q = q}) f.now)) }
 {
     let n = out.len();
-    let mut i = 0;
-    while i < n {
-        out[i] = folded(p, n, f, i);
-        i += 1;
+    for (i, word) in out.iter_mut().enumerate() {
+        *word = folded(p, n, f, i);
     }
 }
 
@@ -130,11 +113,7 @@ pub fn copy_tail(words: &[u32], out: &mut [u32])
     requires { length words.now ≡ length out.old + 1 }
     ensures { out.new ≡ tail words.now }
 {
-    let mut i = 0;
-    while i < out.len() {
-        out[i] = words[i + 1];
-        i += 1;
-    }
+    out.copy_from_slice(&words[1..]);
 }
 
 // The words over the front of the slice; what stands after them stays.
@@ -142,9 +121,5 @@ pub fn copy_front(words: &[u32], out: &mut [u32])
     requires { length words.now ≤ length out.old }
     ensures { out.new ≡ words.now ++ drop (length words.now) out.old }
 {
-    let mut i = 0;
-    while i < words.len() {
-        out[i] = words[i];
-        i += 1;
-    }
+    out[..words.len()].copy_from_slice(words);
 }

@@ -11,6 +11,8 @@ fn main(rt: HostRuntime) -> io::Result<()> {
     let mut bytes = [0u8; READ_BYTES];
     let mut out = [0u8; TEXT_BYTES];
     let mut n = 0;
+    // A read may give fewer bytes than there is room for; it gives none at the end. A call that reads to the end would fill a Vec, which is
+    // on the heap.
     while n < READ_BYTES {
         let got = rt.stdin().read(&mut bytes[n..])?;
         if got == 0 {

@@ -163,6 +163,3 @@ module _ (q : Prime) (k : Circuit) {r : ℕ} (c : ℕ) (eR : k.|R| ≡ r) (α : 
 pub each_within : {r c r' c' : ℕ} {ea eb ec : List ℕ} → r ≡ r' → c ≡ c' → EachWithin r c ea eb ec → EachWithin r' c' ea eb ec
 each_within {c = c} {r'} {ea = ea} {eb} {ec} e d h =
     subst (λ (n : ℕ). EachWithin r' n ea eb ec) d (subst (λ (n : ℕ). EachWithin n c ea eb ec) e h)
-
-pub columns-within : (r : ℕ) {c c' : ℕ} (es : List Entry) → c' ≡ c → All (Within r c) es → All (Within r c') es
-columns-within r es e = subst (λ (n : ℕ). All (Within r n) es) (sym e)

@@ -13,28 +13,30 @@ ghost use Rattle.protocol.specs.Calls.{entries_of};
 ghost use Rattle.protocol.specs.Messages.{row_quotient, sums};
 ghost use Rattle.protocol.proofs.AdmissionLaws.{WellFormed};
 ghost use Rattle.shared.specs.Meanings.{three};
-ghost use Rattle.circuit.specs.Given.{Within, EachWithin, entry_lists};
+ghost use Rattle.circuit.specs.Given.{Within, ListsWithin, lists_in};
 ghost use Rattle.prover.specs.EntrySums.{entry_total};
 
+use circuit::given::ProverInput;
 use circuit::matrices;
-use shared::Triple;
+use shared::{Three, Triple};
 use transform::product;
 
 // h0, of length |R| - 1, for every ẑ whose values on C are z: the quotient of ẑ_A·ẑ_B by v_R, which ẑ_C, of length |R|, does not change.
-pub fn row_quotient_into(p: u32, r: u32, ea: &[u32], eb: &[u32], z: &[u32], out: &mut [u32])
+pub fn row_quotient_into(p: u32, input: &ProverInput, out: &mut [u32])
     requires modulus { Modulus p }
-    requires r_value { is_size r ≡ true }
-    requires out_len { length out.old ≡ r - 1 }
-    requires all { All (Within r (length z.now)) (entries_of ea.now) × All (Within r (length z.now)) (entries_of eb.now) }
-    ensures { (q : Prime) → Known q p → Qualifies q → (k : Circuit) → WellFormed p k → k.|R| ≡ r
-        → k.matrices.a ≡ entries_of ea.now → k.matrices.b ≡ entries_of eb.now
-        → (ẑ : Poly q) → values_on k.|C| ẑ ≡ map of z.now → out.new ≡ words (row_quotient k ẑ) }
+    requires r_value { is_size input.now.circuit.r ≡ true }
+    requires out_len { length out.old ≡ input.now.circuit.r - 1 }
+    requires all { All (Within input.now.circuit.r (length input.now.z.now)) (entries_of input.now.circuit.matrices.a.now)
+        × All (Within input.now.circuit.r (length input.now.z.now)) (entries_of input.now.circuit.matrices.b.now) }
+    ensures { (q : Prime) → Known q p → Qualifies q → (k : Circuit) → WellFormed p k → k.|R| ≡ input.now.circuit.r
+        → k.matrices.a ≡ entries_of input.now.circuit.matrices.a.now → k.matrices.b ≡ entries_of input.now.circuit.matrices.b.now
+        → (ẑ : Poly q) → values_on k.|C| ẑ ≡ map of input.now.z.now → out.new ≡ words (row_quotient k ẑ) }
 {
-    let n = r as usize;
+    let n = input.circuit.r as usize;
     let mut left = [0u32; 1024];
-    matrices::row_sums(p, ea, z, &mut left[..n]);
+    matrices::row_sums(p, input.circuit.matrices.a, input.z, &mut left[..n]);
     let mut right = [0u32; 1024];
-    matrices::row_sums(p, eb, z, &mut right[..n]);
+    matrices::row_sums(p, input.circuit.matrices.b, input.z, &mut right[..n]);
     let mut factor = [0u32; 1024];
     let mut rest = [0u32; 1024];
     product::divide_product_into(
@@ -54,34 +56,33 @@ fn entries_sum(p: u32, entries: &[u32], rows: &[u32], z: &[u32]) -> u32
     ensures { (q : Prime) → q.p ≡ p
         → result ≡ (entry_total (map (of {q = q}) rows.now) (map of z.now) (entries_of entries.now)).word }
 {
-    let count = entries.len() / 3;
     let mut sum: u32 = 0;
-    let mut i = 0;
-    while i < count {
+    for i in 0..entries.len() / 3 {
         let row = entries[3 * i] as usize;
         let column = entries[3 * i + 1] as usize;
         let product = field::multiply(p, entries[3 * i + 2], rows[row]);
         sum = field::multiply_add(p, product, z[column], sum);
-        i += 1;
     }
     sum
 }
 
 // The three σ_M = ẑ_M(α), for every ẑ whose values on C are z: L of each row at α is computed once.
-pub fn sums_at(p: u32, r: u32, ea: &[u32], eb: &[u32], ec: &[u32], z: &[u32], alpha: u32) -> Triple
+pub fn sums_at(p: u32, input: &ProverInput, alpha: u32) -> Triple
     requires lt_p { 1 < p }
-    requires r_value { is_size r ≡ true }
-    requires each_within { EachWithin r (length z.now) ea.now eb.now ec.now }
-    ensures { (q : Prime) → Known q p → Qualifies q → (k : Circuit) → WellFormed p k → k.|R| ≡ r
-        → k.matrices ≡ entry_lists ea.now eb.now ec.now
-        → (ẑ : Poly q) → values_on k.|C| ẑ ≡ map of z.now → three result ≡ map_three word_of (sums k ẑ (of alpha)) }
+    requires r_value { is_size input.now.circuit.r ≡ true }
+    requires each_within { ListsWithin input.now.circuit.r (length input.now.z.now) input.now.circuit }
+    ensures { (q : Prime) → Known q p → Qualifies q → (k : Circuit) → WellFormed p k → k.|R| ≡ input.now.circuit.r
+        → k.matrices ≡ lists_in input.now.circuit
+        → (ẑ : Poly q) → values_on k.|C| ẑ ≡ map of input.now.z.now
+        → three result ≡ map_three word_of (sums k ẑ (of alpha)) }
 {
-    let n = r as usize;
+    let n = input.circuit.r as usize;
     let mut rows = [0u32; 1024];
     domain::lagrange_values_into(p, alpha, &mut rows[..n]);
+    let Three { a, b, c } = input.circuit.matrices;
     Triple {
-        a: entries_sum(p, ea, &rows[..n], z),
-        b: entries_sum(p, eb, &rows[..n], z),
-        c: entries_sum(p, ec, &rows[..n], z),
+        a: entries_sum(p, a, &rows[..n], input.z),
+        b: entries_sum(p, b, &rows[..n], input.z),
+        c: entries_sum(p, c, &rows[..n], input.z),
     }
 }

@@ -10,6 +10,8 @@ ghost use Rattle.domain.specs.Known.{Known};
 ghost use Rattle.protocol.specs.Circuit.{Circuit};
 ghost use Rattle.protocol.specs.Messages.{witness as witnessPoly};
 
+use circuit::given::ProverInput;
+
 // Coefficient i of Y^n - 1.
 fn vanishing_coefficient(p: u32, n: usize, i: usize) -> u32
     requires p_nonzero { 0 < p }
@@ -29,10 +31,8 @@ fn fill_vanishing(p: u32, out: &mut [u32])
     ensures { (q : Prime) → q.p ≡ p → out.new ≡ words (vanishing_poly {q = q} (length out.old - 1)) }
 {
     let n = out.len() - 1;
-    let mut i = 0;
-    while i < out.len() {
-        out[i] = vanishing_coefficient(p, n, i);
-        i += 1;
+    for (i, word) in out.iter_mut().enumerate() {
+        *word = vanishing_coefficient(p, n, i);
     }
 }
 
@@ -41,10 +41,8 @@ pub fn public_words_into(step: usize, z: &[u32], out: &mut [u32])
     requires { (0 < step) × (length out.old * step ≤ length z.now) }
     ensures { out.new ≡ tabulate (length out.old) (λ i. get_or z.now (i * step) 0) }
 {
-    let mut i = 0;
-    while i < out.len() {
-        out[i] = z[i * step];
-        i += 1;
+    for (i, word) in out.iter_mut().enumerate() {
+        *word = z[i * step];
     }
 }
 
@@ -77,19 +75,23 @@ fn vanishing_ratio_into(p: u32, c: u32, x: u32, out: &mut [u32])
 }
 
 // ŵ, of length |C| - |X| + 1.
-pub fn witness_into(p: u32, c: u32, x: u32, z: &[u32], mask: u32, out: &mut [u32])
+pub fn witness_into(p: u32, input: &ProverInput, out: &mut [u32])
     requires lt_p { 1 < p }
-    requires c_value { (is_size c ≡ true) × (is_size x ≡ true) × (x ≤ c) }
-    requires z_len { (length z.now ≡ c) × (length out.old ≡ c - x + 1) }
-    ensures { (q : Prime) → Known q p → (k : Circuit) → k.|C| ≡ c → k.|X| ≡ x
-        → out.new ≡ words (witnessPoly k (map (of {q = q}) z.now) (of mask)) }
+    requires c_value { (is_size input.now.circuit.c ≡ true) × (is_size input.now.circuit.x ≡ true)
+        × (input.now.circuit.x ≤ input.now.circuit.c) }
+    requires z_len { (length input.now.z.now ≡ input.now.circuit.c)
+        × (length out.old ≡ input.now.circuit.c - input.now.circuit.x + 1) }
+    ensures { (q : Prime) → Known q p → (k : Circuit) → k.|C| ≡ input.now.circuit.c → k.|X| ≡ input.now.circuit.x
+        → out.new ≡ words (witnessPoly k (map (of {q = q}) input.now.z.now) (of input.now.mask)) }
 {
+    let c = input.circuit.c;
+    let x = input.circuit.x;
     let n = (c - x) as usize;
-    private_quotient_into(p, c, x, z, &mut out[..n]);
+    private_quotient_into(p, c, x, input.z, &mut out[..n]);
     // It is one shorter than the masking term: its last coefficient is 0.
     out[n] = 0;
     let l = n + 1;
     let mut ratio = [0u32; 1024];
     vanishing_ratio_into(p, c, x, &mut ratio[..l]);
-    poly::add_scaled(p, out, mask, &ratio[..l]);
+    poly::add_scaled(p, out, input.mask, &ratio[..l]);
 }

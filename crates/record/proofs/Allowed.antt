@@ -1,9 +1,5 @@
 -- Sizes that are allowed are at most 1,024, and the sections that they give have at most 2,048 words each. Assumes nothing.
-use mathlib.Core.List.{List, [], ◌∷◌}
-use Prim.Native.Nat.{ℕ, zero, suc, ◌*◌, ◌≤◌}
-use native.Mathlib.Omega.{arith}
-use lib.Dec.{leb}
-use lib.ListN.{get_or, take}
+use Rattle.std.proofs.Common.{List, [], ◌∷◌, ℕ, zero, suc, ◌*◌, ◌≤◌, arith, leb, get_or, take}
 use Rattle.algebra.specs.Counting.{All}
 use Rattle.algebra.proofs.Counting.{all_map}
 use Rattle.domain.specs.Size.{is_size}

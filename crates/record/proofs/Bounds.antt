@@ -1,13 +1,7 @@
 -- Where sections of given lengths begin and end: the starts one after the other, and each part of the bytes by its start and its
 -- length. Assumes nothing.
-use mathlib.Core.Path.{◌≡◌, refl, sym, ap, ap₂, ◌∙◌}
-use mathlib.Core.List.{List, [], ◌∷◌, ◌++◌}
-use Prim.Native.Nat.{ℕ, zero, suc, ◌+◌, ◌-◌, ◌*◌, ◌<◌, ◌≤◌}
-use native.Mathlib.Omega.{arith}
-use native.Mathlib.Numerals.{add-one}
-use lib.Dec.{eqb}
-use lib.ListN.{length, get_or, take, drop, set, length-append, get_or-append}
-use lib.Seq.{take-suc, take-suc-set, drop-drop}
+use Rattle.std.proofs.Common.{◌≡◌, refl, sym, ap, ap₂, ◌∙◌, List, [], ◌∷◌, ◌++◌, ℕ, zero, suc, ◌+◌, ◌-◌, ◌*◌, ◌<◌, ◌≤◌, arith, add-one, eqb, length, get_or, take, drop, set, length-append, take-suc, take-suc-set, drop-drop}
+use lib.ListN.{get_or-append}
 use Rattle.protocol.specs.Refusals.{pairs}
 use Rattle.protocol.specs.Record.{starts_from, parts_of}
 use Rattle.record.specs.Layout.{byte_count, bounds}

@@ -1,14 +1,8 @@
 -- Where a section stands: the finder's rows one after the other, and the section as the part of the bytes at the place that they
 -- let through. Assumes nothing.
-use mathlib.Core.Path.{◌≡◌, refl, sym, ap, ◌∙◌}
-use mathlib.Core.Bool.{Bool, true, false}
-use mathlib.Core.List.{List, [], ◌∷◌}
-use mathlib.Core.Option.{Option, none, some}
-use Prim.Native.Nat.{ℕ, suc, ◌*◌, ◌≤◌, ◌<◌}
-use native.Mathlib.Omega.{arith}
-use lib.Dec.{ltb}
-use lib.ListN.{length, get_or, drop, get_or-eq_default}
-use borrow.Author.Tests.{ltb-true, ltb-false, lt-ltb, le-ltb}
+use Rattle.std.proofs.Common.{◌≡◌, refl, sym, ap, ◌∙◌, Bool, true, false, List, [], ◌∷◌, ℕ, suc, ◌*◌, ◌≤◌, ◌<◌, arith, ltb, length, get_or, drop, ltb-true, ltb-false, lt-ltb, le-ltb}
+use Rattle.std.proofs.Math.Option.{none, some, Option}
+use lib.ListN.{get_or-eq_default}
 use Rattle.field.specs.Prime.{Prime}
 use Rattle.protocol.specs.Refusals.{Refusal, Done, Refused, judged, first, refuse}
 use Rattle.protocol.specs.Record.{section_lengths, starts_from, parts_of, sizes_read, end_row, trailer_row, word_row, record_refusal, read_record}

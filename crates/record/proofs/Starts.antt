@@ -1,11 +1,5 @@
 -- The starts and the total length that a trailer has, as rows against the bounds that its sizes give. Assumes nothing.
-use mathlib.Core.Path.{◌≡◌, refl, sym, ap, ap₂, ◌∙◌}
-use mathlib.Core.List.{List, [], ◌∷◌}
-use Prim.Native.Nat.{ℕ, ◌-◌}
-use native.Mathlib.Omega.{arith}
-use lib.Dec.{eqb}
-use lib.ListN.{length, get_or}
-use lib.Seq.{take_all}
+use Rattle.std.proofs.Common.{◌≡◌, refl, sym, ap, ap₂, ◌∙◌, List, [], ◌∷◌, ℕ, ◌-◌, arith, eqb, length, get_or, take_all}
 use Rattle.algebra.specs.Lists.{tabulate}
 use Rattle.algebra.proofs.PolynomialLaws.{length-tabulate}
 use Rattle.protocol.specs.Circuit.{Sizes}

@@ -1,12 +1,6 @@
 -- The words of the first bytes are words of all bytes, and so are their tests. Assumes nothing.
-use mathlib.Core.Path.{◌≡◌, ap, ◌∙◌}
-use mathlib.Core.Bool.{Bool}
-use mathlib.Core.List.{List, map}
-use Prim.Native.Nat.{ℕ, ◌+◌, ◌*◌, ◌/◌, ◌<◌, ◌≤◌}
-use native.Mathlib.Omega.{arith}
-use lib.Dec.{ltb}
-use lib.ListN.{length, get_or, take, length-map}
-use lib.Seq.{length-take-le, get_or-take}
+use Rattle.std.proofs.Common.{◌≡◌, ap, ◌∙◌, Bool, List, map, ℕ, ◌+◌, ◌*◌, ◌/◌, ◌<◌, ◌≤◌, arith, ltb, length, get_or, take, length-take-le, get_or-take}
+use lib.ListN.{length-map}
 use Rattle.algebra.proofs.PolynomialLaws.{length-tabulate, get_d_tabulate}
 use Rattle.protocol.specs.Record.{word_at, words_in}
 use Rattle.protocol.proofs.Rows.{map_at}

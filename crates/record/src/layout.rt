@@ -13,10 +13,7 @@ pub const SECTIONS: usize = 11;
 
 pub const TRAILER_WORDS: usize = 18;
 
-pub const TRAILER_BYTES: usize = 72;
-
-// The row of the table of refusals for lists.
-pub const BAD_LIST: u32 = 5;
+pub const TRAILER_BYTES: usize = WORD_BYTES * TRAILER_WORDS;
 
 // The sums and the values have a word for each matrix.
 const MATRICES: usize = 3;
@@ -50,11 +47,9 @@ pub fn section_bounds(s: Sizes) -> [u32; SECTIONS + 1]
     let lengths = section_lengths(s);
     let mut starts = [0u32; SECTIONS + 1];
     let mut at: u32 = 0;
-    let mut k = 0;
-    while k < SECTIONS {
-        at += (WORD_BYTES * lengths[k]) as u32;
-        k += 1;
-        starts[k] = at;
+    for (k, length) in lengths.iter().enumerate() {
+        at += (WORD_BYTES * *length) as u32;
+        starts[k + 1] = at;
     }
     starts
 }

@@ -6,5 +6,5 @@ pub mod layout;
 mod reader;
 mod sections;
 
-pub use reader::{Reading, read, word_at};
+pub use reader::{read, word_at};
 pub use sections::{find_section, section};

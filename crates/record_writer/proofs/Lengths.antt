@@ -1,22 +1,14 @@
 -- The lengths of the sections and of the lent bytes in a call to write a record, as rows against those that the sizes give. What
 -- is known where the sizes and the lengths are not refused, and what the call answers. Assumes nothing.
-use mathlib.Core.Path.{◌≡◌, refl, sym, ap, ap₂, ◌∙◌}
-use mathlib.Core.Bool.{Bool, true, false}
-use mathlib.Core.List.{List, [], ◌∷◌, ◌++◌, map}
-use mathlib.Core.Option.{Option, none}
-use Prim.Native.Nat.{ℕ, ◌+◌, ◌*◌, ◌≤◌}
-use native.Mathlib.Omega.{arith}
-use lib.Dec.{eqb}
-use lib.ListN.{length, get_or}
-use lib.Seq.{take_all}
-use borrow.Author.Tests.{eqb-true}
+use Rattle.std.proofs.Common.{◌≡◌, refl, sym, ap, ap₂, ◌∙◌, Bool, true, List, [], ◌∷◌, ◌++◌, map, ℕ, ◌+◌, ◌*◌, ◌≤◌, arith, eqb, length, get_or, take_all, eqb-true}
+use Rattle.std.specs.Prelude.{Result, IsErrAnd}
+use Rattle.std.proofs.Math.Option.{Option, none, some}
 use Rattle.algebra.specs.Counting.{All}
 use Rattle.algebra.proofs.Counting.{append_all}
 use Rattle.field.specs.Prime.{Prime}
-use Rattle.shared.specs.declared.Fault.{Fault}
-use Rattle.shared.specs.declared.Fault.TheVariants as fault
+use Rattle.shared.specs.declared.Refusal as declared-refusal
 use Rattle.protocol.specs.Circuit.{Sizes}
-use Rattle.shared.specs.Meanings.{fault_refusal, is_fine}
+use Rattle.shared.specs.Meanings.{refusal, refusal_in}
 use Rattle.protocol.specs.Refusals.{Refusal, judged, first, refuse, pairs, six_size_tests, size_refusal, list_refusal, word_refusal, trailer_bytes}
 use Rattle.protocol.specs.Record.{section_lengths, section_bytes, write_record}
 use Rattle.protocol.specs.Calls.{write_call}
@@ -24,9 +16,9 @@ use Rattle.protocol.proofs.RefusalLaws.{first-none, refuse-none}
 use Rattle.protocol.proofs.Rows.{length_pairs, first_before_last, refuse_append}
 use Rattle.record.specs.Layout.{Allowed, byte_count, bounds}
 use Rattle.record.proofs.Allowed.{lengths_bound, byte_count_bound}
-use Rattle.record.proofs.Bounds.{bound_at}
 use Rattle.record.proofs.Starts.{eleven, last_bound}
 use Rattle.shared.specs.Answers.{LentAnswer}
+use Rattle.shared.proofs.LentAnswers.{lent_exits, lent-fills}
 use Rattle.record_writer.specs.Sections.{joined, length_refusals, shape_refusal}
 
 pub length-due : (s : Sizes) {due : List ℕ} → due ≡ section_lengths s → length due ≡ 11
@@ -41,7 +33,8 @@ unfolding length_refusals list_refusal section_bytes
 length-rows s found due given lent whole lengths bounded =
     let last : List Bool = eqb lent (get_or given 11 0 + trailer_bytes) ∷ [] in
     let place : 0 + length (pairs eqb found due) ≡ 11 = omega (arith, length_pairs eqb found due, length-due s lengths) in
-    let total : section_bytes s ≡ get_or given 11 0 = sym (ap (λ l. get_or l 11 0) bounded ∙ last_bound (section_lengths s) 11 (eleven s)) in
+    let total : section_bytes s ≡ get_or given 11 0 =
+    sym (ap (λ l. get_or l 11 0) bounded ∙ last_bound (section_lengths s) 11 (eleven s)) in
     ap₂ (λ l n. refuse 5 0 (pairs eqb found l ++ (eqb lent (n + trailer_bytes) ∷ []))) (sym lengths) total
     ∙ refuse_append 5 0 (pairs eqb found due) last
     ∙ ap (λ n. first (refuse 5 0 (pairs eqb found due) ∷ refuse 5 n last ∷ [])) place
@@ -72,15 +65,6 @@ shaped s found lent whole free =
       room = eqb-true lent (section_bytes s + trailer_bytes) all.1.0;
     }
 
--- all sections of allowed sizes have few bytes
-pub total_bound : (s : Sizes) → Allowed s → (given : List ℕ) → given ≡ bounds (section_lengths s) → get_or given 11 0 ≤ 8192 * 11
-total_bound s allowed given same =
-    omega (
-      arith,
-      ap (λ l. get_or l 11 0) same ∙ bound_at (section_lengths s) 11 (omega (arith, eleven s)),
-      byte_count_bound (section_lengths s) 11 (lengths_bound s allowed),
-    )
-
 module _ (s : Sizes) (found : List ℕ) (lent : ℕ) (shape : Shaped s found lent) where
   pub few_bytes : byte_count found ≤ 8192 * 11
   few_bytes =
@@ -106,11 +90,13 @@ module _ (q : Prime) (s : Sizes) (parts : List (List ℕ)) (lent : ℕ) where
       ap (λ o. judged o (write_record s parts))
       (first_before_last (size_refusal (six_size_tests s) ∷ length_refusals s (map length parts) lent ∷ []) (word_refusal q (joined parts)))
 
-  pub write_refused : (f : Fault) (before : List ℕ) → is_fine f ≡ false → fault_refusal f ≡ first (shape ∷ word_refusal q (joined parts) ∷ [])
-      → LentAnswer (write_call q s parts lent) (fault_refusal f) before before
-  write_refused fault.Fine before stop e = let z : ◌≡◌ {A = ℕ} 0 1 = cc in absurd (omega arith)
-  write_refused (fault.Refused number position) before stop e = rw (write_rows_lem, sym e) (record { answer = refl; lent = refl })
+  abbrev refused : Option Refusal
+  refused = first (shape ∷ word_refusal q (joined parts) ∷ [])
 
-  pub write_done : (before after : List ℕ) → shape ≡ none → word_refusal q (joined parts) ≡ none → after ≡ write_record s parts
+  pub write_refused : {T : Type 0} (before : List ℕ) (r : Result T declared-refusal.Refusal) (e : declared-refusal.Refusal)
+      → IsErrAnd r (λ y. y ≡ e) → some (refusal e) ≡ refused → LentAnswer (write_call q s parts lent) (refusal_in r) before before
+  write_refused before r e exit says = rw write_rows_lem (lent_exits (write_record s parts) before r e exit says)
+
+  pub write_done : (before : List ℕ) {after : List ℕ} → none ≡ refused → after ≡ write_record s parts
       → LentAnswer (write_call q s parts lent) none before after
-  write_done before after shape_free words_free e = rw (write_rows_lem, shape_free, words_free) (record { answer = refl; lent = e })
+  write_done before free e = rw write_rows_lem (lent-fills (write_record s parts) before free e)

@@ -1,3 +1,3 @@
-pub mod Scanned
+pub mod Lists
 pub mod Writing
 pub mod Lengths

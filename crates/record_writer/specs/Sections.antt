@@ -1,8 +1,9 @@
 -- The sections of a call to write a record, one after the other, and what refuses the call, as the code goes by it: its sizes and
 -- its lengths, then its words. Assumes nothing.
-use mathlib.Core.List.{List, [], ◌∷◌, ◌++◌, map, foldr}
+use mathlib.Core.List.{foldr}
+use Rattle.std.specs.Prelude.{List, [], ◌∷◌, ◌++◌, map, ℕ, ◌+◌, eqb, ltb}
+use Rattle.std.specs.Borrow.{Bor}
 use Rattle.std.proofs.Math.Option.{Option}
-use Rattle.std.specs.Prelude.{ℕ, ◌+◌, eqb, ltb}
 use Rattle.protocol.specs.Circuit.{Sizes}
 use Rattle.protocol.specs.Refusals.{Refusal, first, refuse, pairs, trailer_bytes, six_size_tests, size_refusal, list_refusal}
 use Rattle.protocol.specs.Record.{section_lengths, section_bytes}
@@ -10,6 +11,10 @@ use Rattle.protocol.specs.Record.{section_lengths, section_bytes}
 -- the eleven sections w, m, h0, s, g1, h1, o, ga, gb, gc, h2 of a call to write a record
 abbrev pub each_section : List ℕ → List ℕ → List ℕ → List ℕ → List ℕ → List ℕ → List ℕ → List ℕ → List ℕ → List ℕ → List ℕ → List (List ℕ)
 each_section w m h0 s g1 h1 o ga gb gc h2 = w ∷ m ∷ h0 ∷ s ∷ g1 ∷ h1 ∷ o ∷ ga ∷ gb ∷ gc ∷ h2 ∷ []
+
+-- the lists that references lead to
+abbrev pub lists : List (Bor (List ℕ)) → List (List ℕ)
+lists refs = map (λ r. r.now) refs
 
 -- lists one after the other
 abbrev pub joined : List (List ℕ) → List ℕ

@@ -6,7 +6,7 @@ use native.Mathlib.Omega.{arith}
 use native.Mathlib.Numerals.{add-one}
 use lib.Dec.{lit<}
 use lib.ListN.{length, take, get_or, length-append}
-use lib.Seq.{take-suc, take_all}
+use lib.Seq.{take-suc}
 use Rattle.text.specs.Decimal.{decimal}
 use Rattle.text.specs.Written.{Written}
 use Rattle.text.proofs.WrittenLaws.{written_none, written_then, written-length, written_as}
@@ -66,25 +66,19 @@ printed_length p = written-length p.written
 pub printed_as : {b c s t : List ℕ} {at place m : ℕ} → s ≡ t → Printed b at s m place c → Printed b at t m place c
 printed_as e p = rw e at p
 
--- no word yet, one more, and all
+-- no word yet, and one more
 pub numbers-none : (b : List ℕ) (at : ℕ) → at ≤ length b → Printed b at (numbers []) (11 * 0) at b
 unfolding numbers
 numbers-none b at h = record { written = written_none b at h; short = omega arith }
 
-pub number_added : {b c d : List ℕ} {at place end : ℕ} (ws : List ℕ) (i w : ℕ) → i < length ws → Printed b at (numbers (take i ws)) (11 * i) place c
-    → w ≡ get_or ws i 0 → w < 2 ^ 32 → Written c place (number w) end d → Printed b at (numbers (take (i + 1) ws)) (11 * (i + 1)) end d
-number_added {b} {c} {d} {at} {place} {end} ws i w h before same low added =
-    let more : numbers (take i ws) ++ number w ≡ numbers (take (i + 1) ws) = ap (λ n. numbers (take i ws) ++ number n) same ∙ numbers_more ws i h in
-    let long = ap length more in
+pub number_added : {b c d : List ℕ} {at place end : ℕ} (ws : List ℕ) (i : ℕ) → i < length ws → Printed b at (numbers (take i ws)) (11 * i) place c
+    → get_or ws i 0 < 2 ^ 32 → Written c place (number (get_or ws i 0)) end d → Printed b at (numbers (take (i + 1) ws)) (11 * (i + 1)) end d
+number_added {b} {c} {d} {at} {place} {end} ws i h before low added =
+    let more = numbers_more ws i h in
     record {
       written = written_as more (written_then before.written added);
-      short = omega (arith, long, length-append (numbers (take i ws)) (number w), before.short, word-digits w low);
+      short = omega (arith, ap length more, length-append (numbers (take i ws)) (number (get_or ws i 0)), before.short, word-digits (get_or ws i 0) low);
     }
-
-pub printed_all : {b c : List ℕ} {at place : ℕ} (ws : List ℕ) (i : ℕ) → i ≡ length ws → Printed b at (numbers (take i ws)) (11 * i) place c
-    → Printed b at (numbers ws) (11 * length ws) place c
-printed_all ws i all p =
-    printed_within (printed_as (ap numbers (take_all i ws (omega arith))) p) (omega arith)
 
 -- a line from its name, its words and its end
 pub line_printed : {b c : List ℕ} {at place most : ℕ} (name ws : List ℕ) → length (numbers ws) ≤ most

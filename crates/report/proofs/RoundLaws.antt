@@ -18,7 +18,7 @@ use Rattle.protocol.specs.Admission.{entry_values, circuit_refusals, refusals_af
 use Rattle.protocol.specs.Calls.{ProverInput, circuit_of, entry_list_tests, round_refusal}
 use Rattle.shared.specs.Meanings.{three}
 use Rattle.protocol.proofs.RefusalLaws.{first-none, none_first, refuse-none, none-refuse, word_refusal-none, none-word_refusal}
-use Rattle.report.specs.declared.Challenges.{Challenges}
+use Rattle.circuit.specs.declared.given.Challenges.{Challenges}
 use Rattle.report.specs.Stages.{Free, FreeJob}
 
 abbrev Passes : List Bool → Type 0

@@ -16,10 +16,11 @@ use Rattle.protocol.specs.Job.{Job, challenge_words, challenge_points}
 use Rattle.protocol.specs.Demand2.{input_job}
 use Rattle.shared.specs.Meanings.{three, openings}
 use Rattle.shared.specs.declared.Opened.{Opened}
-use Rattle.varuna.specs.declared.answers.IndexesOpened.{IndexesOpened}
+use Rattle.shared.specs.declared.Three as declared
+use Rattle.openings.specs.declared.IndexOpened.{IndexOpened}
 use Rattle.varuna.specs.Answers.{index_arrays}
 use Rattle.prover.specs.CallGiven.{circuit_in, witness_in, assignment_in, line_in}
-use Rattle.report.specs.declared.Challenges.{Challenges}
+use Rattle.circuit.specs.declared.given.Challenges.{Challenges}
 use Rattle.report.specs.ProofText.{line, section_names, answer_text}
 
 -- the line of section k
@@ -121,7 +122,7 @@ abbrev pub public_of : Sizes → List ℕ → List ℕ
 public_of s z = tabulate s.|X| (λ i. get_or z (i * (s.|C| / s.|X|)) 0)
 
 -- the openings as the session hears them
-abbrev pub opened_meaning : Opened → IndexesOpened → Openings ℕ
+abbrev pub opened_meaning : Opened → declared.Three IndexOpened → Openings ℕ
 opened_meaning o i = openings o (index_arrays i)
 
 -- the last line, by the sizes, z, the challenges, the σ, the ω and the openings

@@ -2,11 +2,12 @@
 ghost use Rattle.std.specs.Prelude.{[], ◌∷◌, ◌+◌, ◌*◌, ◌≤◌, length};
 ghost use Rattle.protocol.specs.Three.{listed};
 ghost use Rattle.shared.specs.Meanings.{three};
-ghost use Rattle.circuit.specs.Given.{prover_input};
+ghost use Rattle.circuit.specs.Given.{input_words};
 ghost use Rattle.report.specs.Printed.{Printed};
 ghost use Rattle.report.specs.Stages.{Free, first_lines, first_text, third_lines, third_text, most_line};
 
 use crate::lines::put_line;
+use circuit::given::ProverInput;
 use circuit::matrices::lengths_of;
 use shared::Triple;
 use varuna::rounds;
@@ -24,44 +25,21 @@ fn put_first_lines(witness: &[u32], m: &[u32], quotient: &[u32], out: &mut [u8],
 }
 
 // Round 1.
-pub fn put_first(
-    r: u32,
-    c: u32,
-    x: u32,
-    ea: &[u32],
-    eb: &[u32],
-    ec: &[u32],
-    z: &[u32],
-    mask: u32,
-    m: &[u32],
-    out: &mut [u8],
-    at: usize,
-) -> usize
-    requires free { Free (prover_input r c x ea.now eb.now ec.now z.now mask m.now) [] [] }
+pub fn put_first(input: &ProverInput, out: &mut [u8], at: usize) -> usize
+    requires free { Free (input_words input.now) [] [] }
     requires most_line_in_bounds { at + 4 * most_line ≤ length out.old }
     ensures { Printed out.old at
-        (first_text (prover_input r c x ea.now eb.now ec.now z.now mask m.now))
+        (first_text (input_words input.now))
         (4 * most_line) result out.new }
 {
-    let due = lengths_of(r, c, x, ea, eb, ec);
-    let n = due.witness;
-    let k = due.row_quotient;
-    let mut witness = [0u32; 1024];
-    let mut quotient = [0u32; 1024];
-    rounds::first_round(
-        r,
-        c,
-        x,
-        ea,
-        eb,
-        ec,
-        z,
-        mask,
-        m,
-        &mut witness[..n],
-        &mut quotient[..k],
-    );
-    put_first_lines(&witness[..n], m, &quotient[..k], out, at)
+    let due = lengths_of(&input.circuit);
+    let mut witness_words = [0; 1024];
+    let mut quotient_words = [0; 1024];
+    let witness = &mut witness_words[..due.witness];
+    let quotient = &mut quotient_words[..due.row_quotient];
+    // Never refused: see `free`.
+    let _ = rounds::first_round(input, witness, quotient);
+    put_first_lines(witness, input.m, quotient, out, at)
 }
 
 // g1, h1.
@@ -76,47 +54,20 @@ fn put_third_lines(remainder: &[u32], quotient: &[u32], out: &mut [u8], at: usiz
 }
 
 // Round 3.
-pub fn put_third(
-    r: u32,
-    c: u32,
-    x: u32,
-    ea: &[u32],
-    eb: &[u32],
-    ec: &[u32],
-    z: &[u32],
-    mask: u32,
-    m: &[u32],
-    alpha: u32,
-    eta: Triple,
-    out: &mut [u8],
-    at: usize,
-) -> usize
-    requires free { Free (prover_input r c x ea.now eb.now ec.now z.now mask m.now) (alpha ∷ listed (three eta)) (alpha ∷ []) }
+pub fn put_third(input: &ProverInput, alpha: u32, eta: Triple, out: &mut [u8], at: usize) -> usize
+    requires free { Free (input_words input.now) (alpha ∷ listed (three eta)) (alpha ∷ []) }
     requires most_line_in_bounds { at + 2 * most_line ≤ length out.old }
     ensures { Printed out.old at
-        (third_text (prover_input r c x ea.now eb.now ec.now z.now mask m.now)
+        (third_text (input_words input.now)
         alpha (three eta))
         (2 * most_line) result out.new }
 {
-    let due = lengths_of(r, c, x, ea, eb, ec);
-    let n = due.line_remainder;
-    let k = due.line_quotient;
-    let mut remainder = [0u32; 1024];
-    let mut quotient = [0u32; 1024];
-    rounds::third_round(
-        r,
-        c,
-        x,
-        ea,
-        eb,
-        ec,
-        z,
-        mask,
-        m,
-        alpha,
-        eta,
-        &mut remainder[..n],
-        &mut quotient[..k],
-    );
-    put_third_lines(&remainder[..n], &quotient[..k], out, at)
+    let due = lengths_of(&input.circuit);
+    let mut remainder_words = [0; 1024];
+    let mut quotient_words = [0; 1024];
+    let remainder = &mut remainder_words[..due.line_remainder];
+    let quotient = &mut quotient_words[..due.line_quotient];
+    // Never refused: see `free`.
+    let _ = rounds::third_round(input, alpha, eta, remainder, quotient);
+    put_third_lines(remainder, quotient, out, at)
 }

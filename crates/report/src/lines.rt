@@ -1,8 +1,8 @@
 // Lines of text: a name, then words in decimal, each after a space. Each function puts its text from a place on and gives the place
 // after it.
-ghost use Rattle.std.specs.Prelude.{◌≡◌, ◌+◌, ◌*◌, ◌^◌, ◌≤◌, ◌<◌, length};
+ghost use Rattle.std.specs.Prelude.{◌≡◌, ◌+◌, ◌*◌, ◌≤◌, length};
 ghost use Rattle.protocol.specs.Three.{listed};
-ghost use Rattle.shared.specs.Meanings.{three, verdict_meaning};
+ghost use Rattle.shared.specs.Meanings.{three, refusal as refusalMeaning, verdict_meaning};
 ghost use Rattle.protocol.specs.Session.{Judged};
 ghost use Rattle.verifier.specs.Session.{openings_answer_meaning};
 ghost use Rattle.text.specs.Written.{Written};
@@ -10,15 +10,8 @@ ghost use Rattle.text.specs.Decimal.{decimal};
 ghost use Rattle.report.specs.ProofText.{line, refused_text, answer_text};
 ghost use Rattle.report.specs.Printed.{Printed, number as numberText, numbers};
 
-use shared::{Check, Triple, Verdict};
+use shared::{Check, Refusal, Triple, Verdict};
 use text::{put_byte, put_bytes, put_decimal};
-use varuna::session::OpeningsAnswer;
-
-pub fn wide(w: u32) -> usize
-    ensures { (result ≡ w) × (result < 2 ^ 32) }
-{
-    w as usize
-}
 
 // A space, then the number.
 fn put_number(n: usize, out: &mut [u8], at: usize) -> usize
@@ -35,10 +28,8 @@ fn put_numbers(words: &[u32], out: &mut [u8], at: usize) -> usize
     ensures { Printed out.old at (numbers words.now) (11 * length words.now) result out.new }
 {
     let mut next = at;
-    let mut i = 0;
-    while i < words.len() {
-        next = put_number(wide(words[i]), out, next);
-        i += 1;
+    for word in words {
+        next = put_number(*word as usize, out, next);
     }
     next
 }
@@ -63,13 +54,14 @@ pub fn put_three(name: &[u8], t: Triple, out: &mut [u8], at: usize) -> usize
     put_line(name, &words, out, at)
 }
 
-pub fn put_refused(number: u32, position: usize, out: &mut [u8], at: usize) -> usize
+pub fn put_refused(refusal: Refusal, out: &mut [u8], at: usize) -> usize
     requires { at + 40 ≤ length out.old }
-    ensures { Printed out.old at (refused_text (record { number = number; position = position })) 40 result
+    ensures { Printed out.old at (refused_text (refusalMeaning refusal)) 40 result
         out.new }
 {
+    let Refusal(row, position) = refusal;
     let named = put_bytes(b"refused", out, at);
-    let numbered = put_number(wide(number), out, named);
+    let numbered = put_number(row.number() as usize, out, named);
     let placed = put_number(position, out, numbered);
     put_byte(b'\n', out, placed)
 }
@@ -89,12 +81,12 @@ fn put_verdict(verdict: Verdict, out: &mut [u8], at: usize) -> usize
 }
 
 // The last line: the verdict, or the refusal of the openings.
-pub fn put_answer(answer: OpeningsAnswer, out: &mut [u8], at: usize) -> usize
+pub fn put_answer(answer: Result<Verdict, Refusal>, out: &mut [u8], at: usize) -> usize
     requires { at + 40 ≤ length out.old }
     ensures { Printed out.old at (answer_text (openings_answer_meaning answer)) 40 result out.new }
 {
     match answer {
-        OpeningsAnswer::Judged(verdict) => put_verdict(verdict, out, at),
-        OpeningsAnswer::Refused(number, position) => put_refused(number, position, out, at),
+        Ok(verdict) => put_verdict(verdict, out, at),
+        Err(refusal) => put_refused(refusal, out, at),
     }
 }

@@ -2,13 +2,14 @@
 ghost use Rattle.std.specs.Prelude.{◌≡◌, [], ◌∷◌, ◌++◌, ◌+◌, ◌≤◌, length};
 ghost use Rattle.protocol.specs.Three.{listed};
 ghost use Rattle.shared.specs.Meanings.{three};
-ghost use Rattle.circuit.specs.Given.{prover_input};
+ghost use Rattle.circuit.specs.Given.{input_words};
 ghost use Rattle.varuna.specs.Inputs.{three_of};
 ghost use Rattle.report.specs.Printed.{Printed};
 ghost use Rattle.report.specs.Stages.{Free, value_words, fourth_lines, fourth_text, fifth_text, most_line, most_fourth};
 
 use crate::lines::{put_line, put_three};
 use crate::messages::words_or_zeros;
+use circuit::given::ProverInput;
 use circuit::matrices::lengths_of;
 use shared::Triple;
 use varuna::rounds;
@@ -42,72 +43,40 @@ pub struct FourthRound {
 
 // Round 4.
 pub fn put_fourth(
-    r: u32,
-    c: u32,
-    x: u32,
-    ea: &[u32],
-    eb: &[u32],
-    ec: &[u32],
-    z: &[u32],
-    mask: u32,
-    m: &[u32],
+    input: &ProverInput,
     alpha: u32,
     eta: Triple,
     beta: u32,
     out: &mut [u8],
     at: usize,
 ) -> FourthRound
-    requires free { Free (prover_input r c x ea.now eb.now ec.now z.now mask m.now)
+    requires free { Free (input_words input.now)
         (alpha ∷ (listed (three eta) ++ (beta ∷ []))) (alpha ∷ beta ∷ []) }
     requires most_fourth_in_bounds { at + most_fourth ≤ length out.old }
     ensures values_value { three result.values
-        ≡ value_words (prover_input r c x ea.now eb.now ec.now z.now mask m.now)
+        ≡ value_words (input_words input.now)
         alpha beta }
     ensures printed { Printed out.old at
-        (fourth_text (prover_input r c x ea.now eb.now ec.now z.now mask m.now)
+        (fourth_text (input_words input.now)
         alpha beta)
         most_fourth result.place out.new }
 {
-    let due = lengths_of(r, c, x, ea, eb, ec).matrix_remainders;
-    let na = due.a;
-    let nb = due.b;
-    let nc = due.c;
-    let mut ga = [0u32; 1024];
-    let mut gb = [0u32; 1024];
-    let mut gc = [0u32; 1024];
-    let answer = rounds::fourth_round(
-        r,
-        c,
-        x,
-        ea,
-        eb,
-        ec,
-        z,
-        mask,
-        m,
-        alpha,
-        eta,
-        beta,
-        &mut ga[..na],
-        &mut gb[..nb],
-        &mut gc[..nc],
-    );
+    let due = lengths_of(&input.circuit).matrix_remainders;
+    let mut words_a = [0; 1024];
+    let mut words_b = [0; 1024];
+    let mut words_c = [0; 1024];
+    let ga = &mut words_a[..due.a];
+    let gb = &mut words_b[..due.b];
+    let gc = &mut words_c[..due.c];
+    let answer = rounds::fourth_round(input, alpha, eta, beta, ga, gb, gc);
     let values = words_or_zeros(answer);
-    let place = put_fourth_lines(values, &ga[..na], &gb[..nb], &gc[..nc], out, at);
+    let place = put_fourth_lines(values, ga, gb, gc, out, at);
     FourthRound { values, place }
 }
 
 // Round 5: h2.
 pub fn put_fifth(
-    r: u32,
-    c: u32,
-    x: u32,
-    ea: &[u32],
-    eb: &[u32],
-    ec: &[u32],
-    z: &[u32],
-    mask: u32,
-    m: &[u32],
+    input: &ProverInput,
     alpha: u32,
     eta: Triple,
     beta: u32,
@@ -115,31 +84,18 @@ pub fn put_fifth(
     out: &mut [u8],
     at: usize,
 ) -> usize
-    requires free { Free (prover_input r c x ea.now eb.now ec.now z.now mask m.now)
+    requires free { Free (input_words input.now)
         (alpha ∷ (listed (three eta) ++ (beta ∷ listed (three delta)))) (alpha ∷ beta ∷ []) }
     requires most_line_in_bounds { at + most_line ≤ length out.old }
     ensures { Printed out.old at
-        (fifth_text (prover_input r c x ea.now eb.now ec.now z.now mask m.now)
+        (fifth_text (input_words input.now)
         alpha beta (three delta))
         most_line result out.new }
 {
-    let n = lengths_of(r, c, x, ea, eb, ec).joined_quotient;
-    let mut quotient = [0u32; 1024];
-    rounds::fifth_round(
-        r,
-        c,
-        x,
-        ea,
-        eb,
-        ec,
-        z,
-        mask,
-        m,
-        alpha,
-        eta,
-        beta,
-        delta,
-        &mut quotient[..n],
-    );
-    put_line(b"h2", &quotient[..n], out, at)
+    let due = lengths_of(&input.circuit).joined_quotient;
+    let mut words = [0; 1024];
+    let quotient = &mut words[..due];
+    // Never refused: see `free`.
+    let _ = rounds::fifth_round(input, alpha, eta, beta, delta, quotient);
+    put_line(b"h2", quotient, out, at)
 }

@@ -3,12 +3,10 @@ use Rattle.std.specs.Prelude.{◌≡◌, List, [], ℕ, ◌+◌, ◌≤◌, take
 use Rattle.std.proofs.Math.Option.{Option, none, some}
 use Rattle.protocol.specs.Refusals.{Refusal, Outcome, Done, Refused}
 use Rattle.shared.specs.declared.Place.{Place}
-use Rattle.shared.specs.declared.Place.TheVariants as place
 
--- the start and the length of a part, or the refusal
-abbrev pub place_meaning : Place → Outcome (ℕ × ℕ)
-place_meaning (place.At start len) = Done (start, len)
-place_meaning (place.Refused number position) = Refused (record { number = number; position = position })
+-- the start and the length of a part
+abbrev pub place : Place → ℕ × ℕ
+place p = (p.start, p.length)
 
 -- a place that is found lies within so much memory
 abbrev pub Within : ℕ → Outcome (ℕ × ℕ) → Type 0

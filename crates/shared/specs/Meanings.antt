@@ -1,9 +1,10 @@
 -- What the values of the declared types mean, in document 01's numbers and values. Assumes nothing.
-use Rattle.std.specs.Prelude.{Bool, true, false, List, [], ℕ, get_or}
+use Rattle.std.specs.Prelude.{List, [], ℕ, get_or, Result, Ok, Err}
 use Rattle.std.proofs.Math.Option.{Option, none, some}
-use Rattle.shared.specs.declared.Fault.{Fault}
-use Rattle.shared.specs.declared.Fault.TheVariants as fault
-use Rattle.shared.specs.declared.Triple.{Triple}
+use Rattle.shared.specs.declared.Row as declared-row
+use Rattle.shared.specs.declared.Row.TheVariants as row
+use Rattle.shared.specs.declared.Refusal as declared-refusal
+use Rattle.shared.specs.declared.Three as declared-three
 use Rattle.shared.specs.declared.Sizes as declared-sizes
 use Rattle.shared.specs.declared.Transcript as declared-transcript
 use Rattle.shared.specs.declared.Opened.{Opened}
@@ -17,18 +18,41 @@ use Rattle.protocol.specs.Circuit.{Sizes}
 use Rattle.protocol.specs.Index.{Index}
 use Rattle.protocol.specs.Checks.{Transcript, Openings, Check, Row, Line, Matrix, Verdict, Accept, Fails}
 use Rattle.protocol.specs.Messages.{MessageLengths}
-use Rattle.protocol.specs.Refusals.{Refusal}
+use Rattle.protocol.specs.Refusals.{Refusal, Outcome, Done, Refused}
 
-abbrev pub fault_refusal : Fault → Option Refusal
-fault_refusal fault.Fine = none
-fault_refusal (fault.Refused number position) = some (record { number = number; position = position })
+-- the number of a row in the table of refusals
+abbrev pub row_number : declared-row.Row → ℕ
+row_number row.Turn = 1
+row_number row.RecordEnd = 2
+row_number row.RecordTrailer = 3
+row_number row.Size = 4
+row_number row.List = 5
+row_number row.Word = 6
+row_number row.Entry = 7
+row_number row.Mask = 8
+row_number row.Assignment = 9
+row_number row.Challenge = 10
+row_number row.Length = 11
+row_number row.Inverse = 12
+row_number row.Constant = 13
+row_number row.Taken = 14
+row_number row.Blinding = 15
 
--- nothing is refused
-abbrev pub is_fine : Fault → Bool
-is_fine fault.Fine = true
-is_fine (fault.Refused number position) = false
+abbrev pub refusal : declared-refusal.Refusal → Refusal
+refusal r = record { number = row_number r.0; position = r.1 }
 
-abbrev pub three : Triple → Three ℕ
+-- the refusal in an answer, if it refuses
+abbrev pub refusal_in : {T : Type 0} → Result T declared-refusal.Refusal → Option Refusal
+refusal_in (Ok result) = none
+refusal_in (Err r) = some (refusal r)
+
+-- what an answer means, from what its result means
+abbrev pub outcome : {S T : Type 0} → (S → T) → Result S declared-refusal.Refusal → Outcome T
+outcome meaning (Ok result) = Done (meaning result)
+outcome meaning (Err r) = Refused (refusal r)
+
+-- what there is for each matrix
+abbrev pub three : declared-three.Three ℕ → Three ℕ
 three t = record { a = t.a; b = t.b; c = t.c }
 
 abbrev pub sizes : declared-sizes.Sizes → Sizes
@@ -55,7 +79,7 @@ message_lengths l =
       row_quotient = l.row_quotient;
       line_remainder = l.line_remainder;
       line_quotient = l.line_quotient;
-      matrix_remainders = record { a = l.matrix_remainders.a; b = l.matrix_remainders.b; c = l.matrix_remainders.c };
+      matrix_remainders = three l.matrix_remainders;
       joined_quotient = l.joined_quotient;
     }
 

@@ -3,44 +3,80 @@
 #![tactic(auto)]
 
 ghost use Rattle.std.specs.Prelude.{◌≡◌};
-ghost use Rattle.shared.specs.Meanings.{is_fine};
+ghost use Rattle.shared.specs.Meanings.{row_number};
 
 pub mod constant;
 pub mod lengths;
 pub mod scans;
 pub mod six_sizes;
 
-// Nothing to refuse, or a refusal: its number in document 01's table and its position.
-#[derive(Clone, Copy)]
-pub enum Fault {
-    Fine,
-    Refused(u32, usize),
+// The rows of document 01's table of refusals, with those that document 02 adds.
+#[derive(Clone, Copy, PartialEq, Eq)]
+pub enum Row {
+    Turn,
+    RecordEnd,
+    RecordTrailer,
+    Size,
+    List,
+    Word,
+    Entry,
+    Mask,
+    Assignment,
+    Challenge,
+    Length,
+    Inverse,
+    Constant,
+    Taken,
+    Blinding,
 }
 
-// Where a part of the caller's memory stands, its start and its length, or a refusal's number and position.
-#[derive(Clone, Copy)]
-pub enum Place {
-    At(usize, usize),
-    Refused(u32, usize),
-}
-
-// Nothing is refused. A function that judges returns at the first answer that is not fine.
-pub fn is_fine(fault: Fault) -> bool
-    ensures { result ≡ is_fine fault }
-{
-    match fault {
-        Fault::Fine => true,
-        Fault::Refused(_, _) => false,
+impl Row {
+    // The row's number in the table.
+    pub fn number(self) -> u32
+        ensures { result ≡ row_number self }
+    {
+        match self {
+            Row::Turn => 1,
+            Row::RecordEnd => 2,
+            Row::RecordTrailer => 3,
+            Row::Size => 4,
+            Row::List => 5,
+            Row::Word => 6,
+            Row::Entry => 7,
+            Row::Mask => 8,
+            Row::Assignment => 9,
+            Row::Challenge => 10,
+            Row::Length => 11,
+            Row::Inverse => 12,
+            Row::Constant => 13,
+            Row::Taken => 14,
+            Row::Blinding => 15,
+        }
     }
 }
 
-// One word for each of the matrices A, B, C.
+// The error of a call: the row of the table that refuses it, and the position. A function that judges answers `Ok` where nothing is
+// refused.
+#[derive(Clone, Copy, PartialEq, Eq)]
+pub struct Refusal(pub Row, pub usize);
+
+// A part of the caller's memory: where it begins, and its length.
 #[derive(Clone, Copy)]
-pub struct Triple {
-    pub a: u32,
-    pub b: u32,
-    pub c: u32,
+pub struct Place {
+    pub start: usize,
+    pub length: usize,
 }
+
+// One value for each of the matrices A, B, C.
+#[derive(Clone, Copy)]
+pub struct Three<T> {
+    pub a: T,
+    pub b: T,
+    pub c: T,
+}
+
+// One word for each of the matrices A, B, C.
+pub type Triple = Three<u32>;
 
 // |R|, |C|, |X| and the three |K_M|.
 #[derive(Clone, Copy)]

@@ -3,10 +3,10 @@ ghost use Rattle.std.specs.Prelude.{◌≡◌, ◌&&◌, ◌<◌, ◌^◌, max, 
 ghost use Rattle.domain.specs.Size.{is_size};
 ghost use Rattle.protocol.specs.Circuit as circuit;
 ghost use Rattle.protocol.specs.Refusals.{refuse, six_size_tests};
-ghost use Rattle.shared.specs.Meanings.{fault_refusal, three, sizes};
+ghost use Rattle.shared.specs.Meanings.{row_number, refusal_in, three, sizes};
 
 use crate::scans::first_failed;
-use crate::{Fault, Sizes, Triple};
+use crate::{Refusal, Row, Sizes, Triple};
 
 pub fn larger(m: u32, n: u32) -> u32
     ensures { result ≡ max m n }
@@ -29,9 +29,9 @@ pub fn is_public_size(x: u32, c: u32) -> bool
 }
 
 // A size not allowed, or |X| above |C|: by the given row of the table, with its position counted from the one given.
-pub fn judge_sizes(number: u32, position: usize, s: Sizes) -> Fault
+pub fn judge_sizes(row: Row, position: usize, s: Sizes) -> Result<(), Refusal>
     requires { position < 2 ^ 32 }
-    ensures { fault_refusal result ≡ refuse number position (six_size_tests (sizes s)) }
+    ensures { refusal_in result ≡ refuse (row_number row) position (six_size_tests (sizes s)) }
 {
     let k = s.k;
     let tests = [
@@ -42,5 +42,5 @@ pub fn judge_sizes(number: u32, position: usize, s: Sizes) -> Fault
         domain::is_size(k.b),
         domain::is_size(k.c),
     ];
-    first_failed(number, position, &tests)
+    first_failed(row, position, &tests)
 }

@@ -1,42 +1,42 @@
--- What the code's values mean: where a line ends, what was found on it, and the circuits kept in an array. Assumes nothing.
-use Rattle.std.specs.Prelude.{◌≡◌, Bool, true, false, List, [], ◌∷◌, map, ℕ, ◌+◌, ◌-◌, ◌≤◌, min, length, take, drop}
-use Rattle.shared.specs.Meanings.{three}
+-- What the code's values mean: what was found on a line, the first wrong line, and the circuits kept in an array. Assumes nothing.
+use Rattle.std.specs.Prelude.{◌≡◌, List, map, ℕ, ◌<◌, ◌≤◌, length, take, Option, Some, None, Result, Ok, Err}
+use Rattle.std.proofs.Math.Option as math
+use Rattle.std.proofs.Math.Option.{none, some}
+use Rattle.shared.specs.Meanings.{refusal, three}
 use Rattle.sheet_lines.specs.declared.numbers.Request.{Request}
-use Rattle.sheet_lines.specs.declared.circuits.Found.{Found}
-use Rattle.sheet_lines.specs.declared.circuits.Found.TheVariants as found
-use Rattle.sheet_lines.specs.Lines.{Given, Line, Blank, Circuit, Wrong, not_six, lines_of, refused_text}
+use Rattle.sheet_lines.specs.declared.numbers.Wrong as declared-wrong
+use Rattle.sheet_lines.specs.declared.numbers.Wrong.TheVariants.{NotSix, Refused}
+use Rattle.sheet_lines.specs.declared.circuits.WrongLine.{WrongLine}
+use Rattle.sheet_lines.specs.declared.circuits.Circuits.{Circuits}
+use Rattle.sheet_lines.specs.Lines.{Given, Line, Blank, Circuit, Wrong, not_six, refused_text, wrong_text}
 
 -- the circuit of a request
 abbrev pub given : Request → Given
 given r = record { |R| = r.r; |C| = r.c; |X| = r.x; entries = three r.entries }
 
--- the first line of the text from a place on ends at another place, and the other lines stand after it
-pub record LineEnd (text : List ℕ) (start end : ℕ) : Type 0 where
-  pub after : start ≤ end
-  pub within : end ≤ length text
-  pub lines : lines_of (drop start text) ≡ take (end - start) (drop start text) ∷ lines_of (drop (end + 1) text)
+-- the message for what is wrong with a line
+abbrev pub message_of : declared-wrong.Wrong → List ℕ
+message_of NotSix = not_six
+message_of (Refused r) = refused_text (refusal r)
 
 -- what was found on a line
-abbrev pub found_line : Found → Line
-found_line found.Nothing = Blank
-found_line (found.Circuit r) = Circuit (given r)
-found_line found.NotSix = Wrong not_six
-found_line (found.Refused number position) = Wrong (refused_text (record { number = number; position = position }))
+abbrev pub found_line : Result (Option Request) declared-wrong.Wrong → Line
+found_line (Ok None) = Blank
+found_line (Ok (Some r)) = Circuit (given r)
+found_line (Err w) = Wrong (message_of w)
 
--- the message that is due for a line
-abbrev pub message_of : Line → List ℕ
-message_of Blank = []
-message_of (Circuit g) = []
-message_of (Wrong message) = message
+-- the message that is due for the first wrong line, if there is one
+abbrev pub message_due : Option WrongLine → math.Option (List ℕ)
+message_due None = none
+message_due (Some w) = some (wrong_text w.line (message_of w.wrong))
 
-abbrev pub is_wrong : Found → Bool
-is_wrong found.Nothing = false
-is_wrong (found.Circuit r) = false
-is_wrong found.NotSix = true
-is_wrong (found.Refused number position) = true
-
--- the circuits kept in an array of 16: their count, 17 for more, and the array's front
+-- the circuits kept in the front of an array of 16
 pub record Kept (gs : List Given) (array : List Request) (count : ℕ) : Type 0 where
   pub long : length array ≡ 16
-  pub counts : count ≡ min (length gs) 17
-  pub front : count ≤ 16 → map given (take count array) ≡ gs
+  pub few : count ≤ 16
+  pub front : map given (take count array) ≡ gs
+
+-- the circuits are kept, unless there are more than 16
+abbrev pub KeptAll : List Given → Option Circuits → Type 0
+KeptAll gs None = 16 < length gs
+KeptAll gs (Some c) = Kept gs c.array c.count

@@ -2,5 +2,4 @@
 #![tactic(auto)]
 
 pub mod circuits;
-pub mod lines;
 pub mod numbers;

@@ -1,9 +1,10 @@
 // Six numbers read from a line: digits, and blanks between the numbers.
 ghost use Rattle.std.specs.Prelude.{◌≡◌, true, ◌-◌};
+ghost use Rattle.sheet_lines.specs.declared.numbers.Wrong.TheVariants.{Refused};
 ghost use Rattle.sheet_lines.specs.Numbers.{is_digit, is_blank, extend as extended, numbers_in};
-ghost use Rattle.sheet_lines.specs.Scanning.{number_read, pushed, counted, number_ended, stepped, scanned, reading_of};
+ghost use Rattle.sheet_lines.specs.Scanning.{number_read, pushed, number_ended, stepped, scanned, reading_of};
 
-use shared::Triple;
+use shared::{Refusal, Three, Triple};
 
 // What the planner gives of a circuit: |R|, |C|, |X| and the entry counts of A, B, C.
 #[derive(Clone, Copy)]
@@ -14,177 +15,136 @@ pub struct Request {
     pub entries: Triple,
 }
 
+// What is wrong with a line: it holds something other than six numbers, or its circuit is refused.
 #[derive(Clone, Copy)]
-pub enum Reading {
-    Empty,
-    Six(Request),
-    Other,
+pub enum Wrong {
+    NotSix,
+    Refused(Refusal),
 }
 
-// What is known after some bytes: whether all of them were digits and blanks, the number whose digits are being read, how many
-// numbers have ended (7 for more than six), and the last six of them.
+impl From<Refusal> for Wrong {
+    ghost from_gives = { λ refusal wrong. wrong ≡ Refused refusal };
+
+    fn from(refusal: Refusal) -> Wrong {
+        Wrong::Refused(refusal)
+    }
+}
+
+// What is known after some bytes, all of them digits and blanks: the number whose digits are being read, how many numbers have ended
+// (7 for more than six), and the last six of them.
 #[derive(Clone, Copy)]
 pub struct Scan {
-    pub fine: bool,
-    pub within: bool,
-    pub number: u32,
+    pub number: Option<u32>,
     pub count: u32,
     pub six: Request,
 }
 
-const LARGEST_READ: u64 = 65535;
+// A request of zeros, before any number is read.
+pub const ZEROS: Request = Request {
+    r: 0,
+    c: 0,
+    x: 0,
+    entries: Three { a: 0, b: 0, c: 0 },
+};
+
+const LARGEST_READ: u32 = 65535;
 
 const WANTED: u32 = 6;
 
 fn is_digit(b: u8) -> bool
     ensures { result ≡ is_digit b }
 {
-    if b'0' <= b { b <= b'9' } else { false }
+    b.is_ascii_digit()
 }
 
 fn is_blank(b: u8) -> bool
     ensures { result ≡ is_blank b }
 {
-    if b == b' ' {
-        return true;
-    }
-    if b == b'\t' {
-        return true;
-    }
-    if b == b'\n' {
-        return true;
-    }
-    b == b'\r'
-}
-
-fn digit_value(b: u8) -> u32
-    requires { is_digit b ≡ true }
-    ensures { result ≡ b - 48 }
-{
-    (b - b'0') as u32
+    matches!(b, b' ' | b'\t' | b'\n' | b'\r')
 }
 
 // A number with one more digit.
-fn extend(within: bool, number: u32, b: u8) -> u32
+fn extend(number: Option<u32>, b: u8) -> u32
     requires { is_digit b ≡ true }
-    ensures { result ≡ extended (number_read within number) b }
+    ensures { result ≡ extended (number_read number) b }
 {
-    let digit = digit_value(b);
-    if !within {
-        return digit;
-    }
-    let next = 10 * field::wide(number) + field::wide(digit);
-    if next <= LARGEST_READ {
-        next as u32
-    } else {
-        LARGEST_READ as u32
+    let digit = u32::from(b - b'0');
+    match number {
+        None => digit,
+        Some(n) => n.saturating_mul(10).saturating_add(digit).min(LARGEST_READ),
     }
 }
 
 fn push(six: Request, number: u32) -> Request
     ensures { result ≡ pushed six number }
 {
-    let k = six.entries;
+    let Three { a, b, c } = six.entries;
     Request {
         r: six.c,
         c: six.x,
-        x: k.a,
-        entries: Triple {
-            a: k.b,
-            b: k.c,
+        x: a,
+        entries: Three {
+            a: b,
+            b: c,
             c: number,
         },
     }
-}
-
-fn count_one(n: u32) -> u32
-    ensures { result ≡ counted n }
-{
-    if n <= WANTED { n + 1 } else { WANTED + 1 }
 }
 
 // A number that was being read ends.
 fn end_number(s: Scan) -> Scan
     ensures { result ≡ number_ended s }
 {
-    if !s.within {
-        return s;
-    }
-    let six = push(s.six, s.number);
-    Scan {
-        fine: s.fine,
-        within: false,
-        number: 0,
-        count: count_one(s.count),
-        six,
+    match s.number {
+        None => s,
+        Some(n) => Scan {
+            number: None,
+            count: s.count.saturating_add(1).min(WANTED + 1),
+            six: push(s.six, n),
+        },
     }
 }
 
-// One more byte.
-fn step(s: Scan, b: u8) -> Scan
+// One more byte, unless it is neither a digit nor a blank.
+fn step(s: Scan, b: u8) -> Option<Scan>
     ensures { result ≡ stepped s b }
 {
-    let six = s.six;
     if is_digit(b) {
-        return Scan {
-            fine: s.fine,
-            within: true,
-            number: extend(s.within, s.number, b),
-            count: s.count,
-            six,
-        };
-    }
-    if is_blank(b) {
-        return end_number(s);
-    }
-    Scan {
-        fine: false,
-        within: s.within,
-        number: s.number,
-        count: s.count,
-        six,
+        Some(Scan {
+            number: Some(extend(s.number, b)),
+            ..s
+        })
+    } else if is_blank(b) {
+        Some(end_number(s))
+    } else {
+        None
     }
 }
 
-fn scan_all(text: &[u8]) -> Scan
+fn scan_all(text: &[u8]) -> Option<Scan>
     ensures { result ≡ scanned text.now }
 {
-    let zeros = Request {
-        r: 0,
-        c: 0,
-        x: 0,
-        entries: Triple { a: 0, b: 0, c: 0 },
-    };
     let mut s = Scan {
-        fine: true,
-        within: false,
-        number: 0,
+        number: None,
         count: 0,
-        six: zeros,
+        six: ZEROS,
     };
-    let mut i = 0;
-    while i < text.len() {
-        s = step(s, text[i]);
-        i += 1;
+    for b in text {
+        s = step(s, *b)?;
     }
-    end_number(s)
+    Some(end_number(s))
 }
 
-// The numbers, where the line has six of them and nothing else.
-pub fn read(line: &[u8]) -> Reading
+// The numbers: none on a blank line, six, or something else.
+pub fn read(line: &[u8]) -> Result<Option<Request>, Wrong>
     ensures { result ≡ reading_of (numbers_in line.now) }
 {
-    let s = scan_all(line);
-    if !s.fine {
-        return Reading::Other;
-    }
-    if s.count == 0 {
-        return Reading::Empty;
-    }
-    if s.count == WANTED {
-        let six = s.six;
-        Reading::Six(six)
-    } else {
-        Reading::Other
+    let Some(s) = scan_all(line) else {
+        return Err(Wrong::NotSix);
+    };
+    match s.count {
+        0 => Ok(None),
+        WANTED => Ok(Some(s.six)),
+        _ => Err(Wrong::NotSix),
     }
 }

@@ -9,7 +9,7 @@ ghost use Rattle.protocol.specs.Checks.{list_openings};
 ghost use Rattle.protocol.specs.Refusals.{refuse, turn_refusal, word_refusal, length_refusal};
 ghost use Rattle.protocol.proofs.AllowedSizes.{Allowed};
 ghost use Rattle.protocol.specs.Session.{in_turn, open_refusal, alpha_refusal, eta_refusal, beta_refusal, delta_refusal, gamma_refusal, openings_refusal};
-ghost use Rattle.shared.specs.Meanings.{fault_refusal, three, sizes, transcript, index_words, openings};
+ghost use Rattle.shared.specs.Meanings.{refusal_in, three, sizes, transcript, index_words, openings};
 ghost use Rattle.step_refusals.specs.ChallengeStep.{challenge_step};
 
 use crate::holdings::left_by_steps;
@@ -17,42 +17,37 @@ use shared::constant::judge_constant;
 use shared::lengths::message_lengths;
 use shared::scans::judge_words;
 use shared::six_sizes::{judge_sizes, largest};
-use shared::{Fault, Opened, Sizes, Transcript, Triple, is_fine};
+use shared::{Opened, Refusal, Row, Sizes, Transcript, Triple};
 
 // The step after the first n is in turn.
 fn in_turn(n: u32, stage: u32, s: Sizes) -> bool
     ensures { result ≡ in_turn n stage (sizes s) }
 {
-    if stage != n {
-        return false;
-    }
-    is_fine(judge_sizes(4, 0, s))
+    stage == n && judge_sizes(Row::Size, 0, s).is_ok()
 }
 
 // 1: the step after the first n is out of turn.
-fn judge_turn(n: u32, stage: u32, s: Sizes) -> Fault
-    ensures { fault_refusal result ≡ turn_refusal (in_turn n stage (sizes s)) }
+fn judge_turn(n: u32, stage: u32, s: Sizes) -> Result<(), Refusal>
+    ensures { refusal_in result ≡ turn_refusal (in_turn n stage (sizes s)) }
 {
     if in_turn(n, stage, s) {
-        Fault::Fine
+        Ok(())
     } else {
-        Fault::Refused(1, 0)
+        Err(Refusal(Row::Turn, 0))
     }
 }
 
 // 11: a declared length is above the table's.
-fn judge_lengths(declared: &[u32], most: &[usize]) -> Fault
+fn judge_lengths(declared: &[u32], most: &[usize]) -> Result<(), Refusal>
     requires { length most.now ≡ length declared.now }
-    ensures { fault_refusal result ≡ length_refusal declared.now most.now }
+    ensures { refusal_in result ≡ length_refusal declared.now most.now }
 {
-    let mut i = 0;
-    while i < declared.len() {
-        if most[i] < declared[i] as usize {
-            return Fault::Refused(11, i);
+    for (i, length) in declared.iter().enumerate() {
+        if most[i] < *length as usize {
+            return Err(Refusal(Row::Length, i));
         }
-        i += 1;
     }
-    Fault::Fine
+    Ok(())
 }
 
 // 1, 6, 10 and 11 of a step with a challenge, the one after the first `taken`: it is out of turn; y is no field word, or lies in the domain
@@ -67,40 +62,31 @@ fn judge_challenge(
     y: u32,
     declared: &[u32],
     most: &[usize],
-) -> Fault
+) -> Result<(), Refusal>
     requires lt_p { 1 < p }
     requires n_value { Allowed (sizes s) → is_size n ≡ true }
     requires most_len { length most.now ≡ length declared.now }
     ensures { (q : Prime) → Qualifies q → q.p ≡ p
-        → fault_refusal result ≡ challenge_step q taken stage (sizes s) position n y declared.now most.now }
+        → refusal_in result ≡ challenge_step q taken stage (sizes s) position n y declared.now most.now }
 {
-    let turn = judge_turn(taken, stage, s);
-    if !is_fine(turn) {
-        return turn;
-    }
+    judge_turn(taken, stage, s)?;
     if p <= y {
-        return Fault::Refused(6, 0);
+        return Err(Refusal(Row::Word, 0));
     }
     if domain::is_inside(p, n, y) {
-        return Fault::Refused(10, position);
+        return Err(Refusal(Row::Challenge, position));
     }
     judge_lengths(declared, most)
 }
 
-pub fn judge_open(p: u32, s: Sizes, x: &[u32]) -> Fault
-    ensures { (q : Prime) → q.p ≡ p → fault_refusal result ≡ open_refusal q (sizes s) x.now }
+pub fn judge_open(p: u32, s: Sizes, x: &[u32]) -> Result<(), Refusal>
+    ensures { (q : Prime) → q.p ≡ p → refusal_in result ≡ open_refusal q (sizes s) x.now }
 {
-    let size = judge_sizes(4, 0, s);
-    if !is_fine(size) {
-        return size;
-    }
+    judge_sizes(Row::Size, 0, s)?;
     if x.len() != s.x as usize {
-        return Fault::Refused(5, 0);
+        return Err(Refusal(Row::List, 0));
     }
-    let in_words = judge_words(p, 0, x);
-    if !is_fine(in_words) {
-        return in_words;
-    }
+    judge_words(p, 0, x)?;
     judge_constant(x)
 }
 
@@ -112,9 +98,9 @@ pub fn judge_alpha(
     mask: u32,
     quotient: u32,
     alpha: u32,
-) -> Fault
+) -> Result<(), Refusal>
     requires { 1 < p }
-    ensures { (q : Prime) → Qualifies q → q.p ≡ p → fault_refusal result ≡ alpha_refusal q stage (sizes s) witness mask quotient alpha }
+    ensures { (q : Prime) → Qualifies q → q.p ≡ p → refusal_in result ≡ alpha_refusal q stage (sizes s) witness mask quotient alpha }
 {
     let table = message_lengths(s);
     let declared = [witness, mask, quotient];
@@ -122,20 +108,24 @@ pub fn judge_alpha(
     judge_challenge(p, 1, stage, s, 0, s.r, alpha, &declared, &most)
 }
 
-pub fn judge_eta(p: u32, stage: u32, s: Sizes, sums: Triple, eta: Triple) -> Fault
-    ensures { (q : Prime) → q.p ≡ p → fault_refusal result ≡ eta_refusal q stage (sizes s) (three sums) (three eta) }
+pub fn judge_eta(p: u32, stage: u32, s: Sizes, sums: Triple, eta: Triple) -> Result<(), Refusal>
+    ensures { (q : Prime) → q.p ≡ p → refusal_in result ≡ eta_refusal q stage (sizes s) (three sums) (three eta) }
 {
-    let turn = judge_turn(2, stage, s);
-    if !is_fine(turn) {
-        return turn;
-    }
+    judge_turn(2, stage, s)?;
     let words = [sums.a, sums.b, sums.c, eta.a, eta.b, eta.c];
     judge_words(p, 0, &words)
 }
 
-pub fn judge_beta(p: u32, stage: u32, s: Sizes, remainder: u32, quotient: u32, beta: u32) -> Fault
+pub fn judge_beta(
+    p: u32,
+    stage: u32,
+    s: Sizes,
+    remainder: u32,
+    quotient: u32,
+    beta: u32,
+) -> Result<(), Refusal>
     requires { 1 < p }
-    ensures { (q : Prime) → Qualifies q → q.p ≡ p → fault_refusal result ≡ beta_refusal q stage (sizes s) remainder quotient beta }
+    ensures { (q : Prime) → Qualifies q → q.p ≡ p → refusal_in result ≡ beta_refusal q stage (sizes s) remainder quotient beta }
 {
     let table = message_lengths(s);
     let declared = [remainder, quotient];
@@ -150,27 +140,21 @@ pub fn judge_delta(
     values: Triple,
     remainders: Triple,
     delta: Triple,
-) -> Fault
-    ensures { (q : Prime) → q.p ≡ p → fault_refusal result ≡ delta_refusal q stage (sizes s) (three values) (three remainders) (three delta) }
+) -> Result<(), Refusal>
+    ensures { (q : Prime) → q.p ≡ p → refusal_in result ≡ delta_refusal q stage (sizes s) (three values) (three remainders) (three delta) }
 {
-    let turn = judge_turn(4, stage, s);
-    if !is_fine(turn) {
-        return turn;
-    }
+    judge_turn(4, stage, s)?;
     let words = [values.a, values.b, values.c, delta.a, delta.b, delta.c];
-    let word = judge_words(p, 0, &words);
-    if !is_fine(word) {
-        return word;
-    }
+    judge_words(p, 0, &words)?;
     let table = message_lengths(s).matrix_remainders;
     let declared = [remainders.a, remainders.b, remainders.c];
     let most = [table.a, table.b, table.c];
     judge_lengths(&declared, &most)
 }
 
-pub fn judge_gamma(p: u32, stage: u32, s: Sizes, quotient: u32, gamma: u32) -> Fault
+pub fn judge_gamma(p: u32, stage: u32, s: Sizes, quotient: u32, gamma: u32) -> Result<(), Refusal>
     requires { 1 < p }
-    ensures { (q : Prime) → Qualifies q → q.p ≡ p → fault_refusal result ≡ gamma_refusal q stage (sizes s) quotient gamma }
+    ensures { (q : Prime) → Qualifies q → q.p ≡ p → refusal_in result ≡ gamma_refusal q stage (sizes s) quotient gamma }
 {
     let declared = [quotient];
     let most = [message_lengths(s).joined_quotient];
@@ -178,17 +162,16 @@ pub fn judge_gamma(p: u32, stage: u32, s: Sizes, quotient: u32, gamma: u32) -> F
 }
 
 // 6, for the four openings of one matrix's index polynomials.
-fn judge_index(p: u32, position: usize, index: [u32; 4]) -> Fault
+fn judge_index(p: u32, position: usize, index: [u32; 4]) -> Result<(), Refusal>
     requires { position < 32 }
-    ensures { fault_refusal result ≡ refuse 6 position (map (λ w. ltb w p) (list_index (index_words index))) }
+    ensures { refusal_in result ≡ refuse 6 position (map (λ w. ltb w p) (list_index (index_words index))) }
 {
-    let words = [index[0], index[1], index[2], index[3]];
-    judge_words(p, position, &words)
+    judge_words(p, position, &index)
 }
 
 // 6, for the 21 openings.
-fn judge_opened(p: u32, o: Opened, index: [[u32; 4]; 3]) -> Fault
-    ensures { (q : Prime) → q.p ≡ p → fault_refusal result ≡ word_refusal q (list_openings (openings o index)) }
+fn judge_opened(p: u32, o: Opened, index: [[u32; 4]; 3]) -> Result<(), Refusal>
+    ensures { (q : Prime) → q.p ≡ p → refusal_in result ≡ word_refusal q (list_openings (openings o index)) }
 {
     let g = o.matrix_remainders;
     let words = [
@@ -202,18 +185,9 @@ fn judge_opened(p: u32, o: Opened, index: [[u32; 4]; 3]) -> Fault
         g.b,
         g.c,
     ];
-    let messages = judge_words(p, 0, &words);
-    if !is_fine(messages) {
-        return messages;
-    }
-    let a = judge_index(p, 9, index[0]);
-    if !is_fine(a) {
-        return a;
-    }
-    let b = judge_index(p, 13, index[1]);
-    if !is_fine(b) {
-        return b;
-    }
+    judge_words(p, 0, &words)?;
+    judge_index(p, 9, index[0])?;
+    judge_index(p, 13, index[1])?;
     judge_index(p, 17, index[2])
 }
 
@@ -226,18 +200,16 @@ pub fn judge_openings(
     t: Transcript,
     o: Opened,
     index: [[u32; 4]; 3],
-) -> Fault
+) -> Result<(), Refusal>
     requires lt_p { 1 < p }
     requires x_len { length x.now ≡ max_size }
     ensures { (q : Prime) → Qualifies q → q.p ≡ p
-        → fault_refusal result
+        → refusal_in result
         ≡ openings_refusal q (record { stage = stage; sizes = sizes s; x = x.now; transcript = transcript t }) (openings o index) }
 {
-    if !in_turn(6, stage, s) {
-        return Fault::Refused(1, 0);
-    }
+    judge_turn(6, stage, s)?;
     if !left_by_steps(p, s, x, t) {
-        return Fault::Refused(1, 0);
+        return Err(Refusal(Row::Turn, 0));
     }
     judge_opened(p, o, index)
 }

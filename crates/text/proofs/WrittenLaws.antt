@@ -3,9 +3,8 @@ use mathlib.Core.Path.{◌≡◌, sym, ap, ap₂, ◌∙◌}
 use mathlib.Core.List.{List, [], ◌∷◌, ◌++◌, append_assoc}
 use Prim.Native.Nat.{ℕ, suc, ◌+◌, ◌<◌, ◌≤◌}
 use native.Mathlib.Omega.{arith}
-use native.Mathlib.Numerals.{add-one}
-use lib.ListN.{length, take, drop, get_or, set, length-append, length-drop, take-append-drop}
-use lib.Seq.{length-take-le, take_at, drop_at, drop-drop, set_split, take-suc}
+use lib.ListN.{length, take, drop, set, length-append, length-drop, take-append-drop}
+use lib.Seq.{length-take-le, take_at, drop_at, drop-drop, set_split}
 use Rattle.text.specs.Buffer.{put}
 use Rattle.text.specs.Written.{Written}
 
@@ -83,12 +82,3 @@ written-length {b} {c} {s} {at} w = ap length w.result ∙ length-put b at s w.r
 -- the same text by another name
 pub written_as : {b c s t : List ℕ} {at place : ℕ} → s ≡ t → Written b at s place c → Written b at t place c
 written_as {b} {c} {s} {t} {at} {place} e w = rw e at w
-
--- one byte more of a text
-pub written_more : {b c : List ℕ} (t : List ℕ) (at i : ℕ) → i < length t → Written b at (take i t) (at + i) c → at + i < length c
-    → Written b at (take (i + 1) t) (at + (i + 1)) (set c (at + i) (get_or t i 0))
-written_more {b} {c} t at i h before room =
-    let more : take i t ++ (get_or t i 0 ∷ []) ≡ take (i + 1) t = sym (ap (λ n. take n t) (add-one i) ∙ take-suc t i 0 h) in
-    let w = written_then before (written_byte c (at + i) (get_or t i 0) room) in
-    let e : at + i + 1 ≡ at + (i + 1) = omega arith in
-    written_as more (rw e at w)

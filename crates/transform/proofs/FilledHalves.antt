@@ -1,11 +1,8 @@
 -- Two lists of one length, one after the other, as a loop that fills both from the front leaves them: `halves i` has the first i
 -- entries of each from the target of that half. Assumes nothing.
-use mathlib.Core.Path.{◌≡◌, refl, sym, ap, ap₂, ◌∙◌}
-use mathlib.Core.List.{List, ◌++◌}
-use Prim.Native.Nat.{ℕ, ◌+◌, ◌≤◌, ◌<◌}
-use native.Mathlib.Omega.{arith}
-use lib.ListN.{length, take, drop, set, get_or, length-append, length-take, length-drop, get_or-append}
-use lib.Seq.{set-append_left, get_or-append-add}
+use Rattle.std.proofs.Common.{◌≡◌, refl, sym, ap, ap₂, ◌∙◌, List, ◌++◌, ℕ, ◌+◌, ◌≤◌, ◌<◌, arith, length, take, drop, set, get_or, length-append, length-take, length-drop, get_or-append-add}
+use lib.ListN.{get_or-append}
+use lib.Seq.{set-append_left}
 use Rattle.algebra.proofs.ListLaws.{set_append_add}
 use Rattle.poly.proofs.Stores.{joined, joined-none, joined-all, joined-second, store_up}
 

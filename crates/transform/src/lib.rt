@@ -1,7 +1,8 @@
 // The transform by halves between the coefficients of a polynomial and its values on a domain, on words: it calls itself on half sizes, the
 // size falling, down to one element. The modulus p and the root g are parameters; input words of p or more stand for their remainders.
 // Results are field words. The powers that halves are joined with come in a table by levels: the h words from place h on are the powers of
-// a root of order 2h. A second table has the quotients that prepare products by them.
+// a root of order 2h. A second table has the quotients that prepare products by them. Working memory is arrays of the largest size, of which
+// a part is used: there is no heap.
 #![tactic(auto)]
 
 ghost use Rattle.std.specs.Prelude.{◌≡◌, true, List, ◌++◌, map, ℕ, ◌+◌, ◌-◌, ◌*◌, ◌/◌, ◌^◌, ◌≤◌, ◌<◌, length};
@@ -22,9 +23,7 @@ pub mod product;
 fn fold_levels(powers: &mut [u32])
     ensures { Folded powers.old powers.new }
 {
-    let mut j = powers.len() / 2;
-    while 1 < j {
-        j -= 1;
+    for j in (1..powers.len() / 2).rev() {
         let twice = j + j;
         powers[j] = powers[twice];
     }
@@ -36,10 +35,8 @@ fn prepare_all(p: u32, powers: &[u32], quotients: &mut [u32])
     requires quotients_len { length quotients.old ≡ length powers.now }
     ensures { Prepared p powers.now quotients.new }
 {
-    let mut i = 0;
-    while i < quotients.len() {
-        quotients[i] = field::prepare(p, powers[i]);
-        i += 1;
+    for (i, quotient) in quotients.iter_mut().enumerate() {
+        *quotient = field::prepare(p, powers[i]);
     }
 }
 
@@ -84,14 +81,12 @@ fn join(p: u32, powers: &[u32], quotients: &[u32], out: &mut [u32])
     let second = out[half];
     out[0] = field::add_reduced(p, first, second);
     out[half] = field::subtract_reduced(p, first, second);
-    let mut i = 1;
-    while i < half {
+    for i in 1..half {
         let j = half + i;
         let even = out[i];
         let odd = field::multiply_prepared(p, powers[j], quotients[j], out[j]);
         out[i] = field::add_reduced(p, even, odd);
         out[j] = field::subtract_reduced(p, even, odd);
-        i += 1;
     }
 }
 
@@ -171,7 +166,8 @@ pub fn interpolate_with(p: u32, powers: &[u32], quotients: &[u32], values: &[u32
     transform(p, share, powers, quotients, values, 0, 1, out);
 }
 
-// The values of the polynomial f of length n on the domain of size n into the slice; g is the root g_n.
+// The values of the polynomial f of length n on the domain of size n into the slice; g is the root g_n. It differs from the call below in
+// which tables it makes and in the factor: one call for both would take these as arguments, and be no plainer.
 pub fn evaluate_into(p: u32, g: u32, f: &[u32], out: &mut [u32])
     requires lt_p { 1 < p }
     requires out_len { (length out.old ≡ length f.now) × (is_size (length f.now) ≡ true) }

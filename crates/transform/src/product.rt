@@ -30,10 +30,8 @@ pub fn products_into(p: u32, left: &[u32], right: &[u32], out: &mut [u32])
         ≡ words (tabulate (length out.old)
         (λ i. of {q = q} (get_or left.now i 0) ⊗ of (get_or right.now i 0))) }
 {
-    let mut i = 0;
-    while i < out.len() {
-        out[i] = field::multiply(p, left[i], right[i]);
-        i += 1;
+    for (i, word) in out.iter_mut().enumerate() {
+        *word = field::multiply(p, left[i], right[i]);
     }
 }
 
@@ -69,11 +67,9 @@ fn twist_into(p: u32, s: u32, f: &[u32], out: &mut [u32])
     ensures { (q : Prime) → q.p ≡ p → out.new ≡ words (twist (prime_ring q) (of s) (map of f.now)) }
 {
     let mut power: u32 = 1;
-    let mut i = 0;
-    while i < out.len() {
-        out[i] = field::multiply(p, power, f[i]);
+    for (i, word) in out.iter_mut().enumerate() {
+        *word = field::multiply(p, power, f[i]);
         power = field::multiply(p, power, s);
-        i += 1;
     }
 }
 
@@ -149,12 +145,10 @@ fn combine_into(p: u32, s: u32, share: u32, plain: &[u32], turned: &[u32], out: 
         (λ i. (pow (prime_ring q) (of s) i ⊗ of (get_or turned.now i 0) ⊖ of (get_or plain.now i 0)) ⊗ of share)) }
 {
     let mut power: u32 = 1;
-    let mut i = 0;
-    while i < out.len() {
+    for (i, word) in out.iter_mut().enumerate() {
         let difference = field::subtract(p, field::multiply(p, power, turned[i]), plain[i]);
-        out[i] = field::multiply(p, difference, share);
+        *word = field::multiply(p, difference, share);
         power = field::multiply(p, power, s);
-        i += 1;
     }
 }
 

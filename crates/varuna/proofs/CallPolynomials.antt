@@ -1,8 +1,8 @@
 -- The judgements of the calls on domains and polynomials, row by row. Assumes nothing.
 use mathlib.Core.Path.{◌≡◌, sym, ap, ◌∙◌}
-use mathlib.Core.Bool.{Bool, true, false}
+use mathlib.Core.Bool.{Bool, true}
 use mathlib.Core.List.{List, [], ◌∷◌, ◌++◌, map}
-use mathlib.Core.Option.{Option, none}
+use mathlib.Core.Option.{Option, none, some}
 use Prim.Native.Nat.{ℕ, ◌+◌, ◌<◌, ◌≤◌}
 use native.Mathlib.Nat.{zero-add}
 use lib.Dec.{eqb, leb, ltb}
@@ -12,8 +12,9 @@ use Rattle.algebra.specs.Counting.{All}
 use Rattle.field.specs.Prime.{Prime}
 use Rattle.domain.specs.Size.{is_size}
 use Rattle.domain.specs.Domain.{root}
-use Rattle.shared.specs.declared.Fault.{Fault}
-use Rattle.shared.specs.Meanings.{fault_refusal, is_fine}
+use Rattle.std.specs.Prelude.{Result, IsErrAnd}
+use Rattle.shared.specs.declared.Refusal as declared
+use Rattle.shared.specs.Meanings.{refusal, refusal_in}
 use Rattle.protocol.specs.Refusals.{Refusal, first, refuse, size_refusal, list_refusal, word_refusal}
 use Rattle.protocol.specs.Calls.{max_words, evaluation_refusal}
 use Rattle.protocol.proofs.FastInterpolation.{LetThrough}
@@ -25,8 +26,8 @@ module _ (q : Prime) where
   abbrev pub below : ℕ → Bool
   below w = ltb w q.p
 
-  -- 5 for n coefficients, then 6 for the words in two scans; r is the answer of the first one
-  module _ (n : ℕ) (front back : List ℕ) (few : n ≤ max_words) (r : Fault) (e : fault_refusal r ≡ refuse 6 0 (map below front)) where
+  -- 5 for n coefficients, then 6 for the words in two scans
+  module _ (n : ℕ) (front back : List ℕ) (few : n ≤ max_words) where
     scans : first (refuse 6 0 (map below front) ∷ refuse 6 (0 + length front) (map below back) ∷ []) ≡ evaluation_refusal q n (front ++ back)
     unfolding list_refusal word_refusal
     scans =
@@ -34,13 +35,16 @@ module _ (q : Prime) where
         (ap (λ (t : Bool). first (refuse 5 0 (t ∷ []) ∷ word_refusal q (front ++ back) ∷ [])) (le-leb n max_words few)
         ∙ first_only (word_refusal q (front ++ back)) ∙ refuse-map_append 6 0 below front back)
 
-    pub evaluation_stops : is_fine r ≡ false → fault_refusal r ≡ evaluation_refusal q n (front ++ back)
-    evaluation_stops stop = stops r e (refuse 6 (0 + length front) (map below back) ∷ []) stop ∙ scans
+    -- the first scan refuses with e
+    pub evaluation_stops : (r : Result (Unit {0}) declared.Refusal) (e : declared.Refusal) → IsErrAnd r (λ y. y ≡ e)
+        → some (refusal e) ≡ refuse 6 0 (map below front) → refusal_in r ≡ evaluation_refusal q n (front ++ back)
+    evaluation_stops r e exit says = stops r e exit says (refuse 6 (0 + length front) (map below back) ∷ []) ∙ scans
 
-    -- then the second scan decides
-    pub evaluation_goes : is_fine r ≡ true → {o : Option Refusal} → o ≡ refuse 6 (length front) (map below back) → o ≡ evaluation_refusal q n (front ++ back)
+    -- the second scan decides
+    pub evaluation_goes : none ≡ refuse 6 0 (map below front) → {o : Option Refusal} → o ≡ refuse 6 (length front) (map below back)
+        → o ≡ evaluation_refusal q n (front ++ back)
     evaluation_goes fine {o} answer =
-        goes_on r e (refuse 6 (0 + length front) (map below back) ∷ []) fine
+        goes_on fine (refuse 6 (0 + length front) (map below back) ∷ [])
         (last_answer_lem (answer ∙ ap (λ (k : ℕ). refuse 6 k (map below back)) (sym (zero-add (length front)))))
         ∙ scans
 

@@ -2,17 +2,15 @@
 ghost use Rattle.std.specs.Prelude.{◌≡◌, length};
 ghost use Rattle.domain.specs.BabyBear.{baby_bear};
 ghost use Rattle.protocol.specs.Calls.{write_call, section_call, place_call};
-ghost use Rattle.shared.specs.Meanings.{sizes as sizesMeaning};
+ghost use Rattle.shared.specs.Meanings.{outcome, sizes as sizesMeaning};
 ghost use Rattle.protocol.specs.Record.{read_record};
-ghost use Rattle.record.specs.Answers.{reading_meaning, sizes_found};
-ghost use Rattle.shared.specs.Answers.{place_meaning};
+ghost use Rattle.record.specs.Answers.{sizes_found};
+ghost use Rattle.shared.specs.Answers.{place};
 ghost use Rattle.record_writer.specs.Sections.{each_section};
 ghost use Rattle.varuna.specs.Answers.{filled_meaning, filling, fills};
 
-use crate::answers::Filled;
 use field::MODULE_PRIME;
-use record::Reading;
-use shared::{Fault, Place, Sizes};
+use shared::{Place, Refusal, Sizes};
 
 // A record of eleven sections into lent bytes. Refusals: 4 for a size, 5 for a section or the lent bytes, 6 for a word.
 pub fn write_record(
@@ -29,14 +27,14 @@ pub fn write_record(
     gc: &[u32],
     h2: &[u32],
     out: &mut [u8],
-) -> Filled
+) -> Result<(), Refusal>
     ensures { filling (filled_meaning result) out.new
         ≡ fills (write_call baby_bear (sizesMeaning sizes)
         (each_section w.now m.now h0.now s.now g1.now
         h1.now o.now ga.now gb.now gc.now h2.now)
         (length out.old)) out.old }
 {
-    let fault = record_writer::write(
+    record_writer::write(
         MODULE_PRIME,
         sizes,
         w,
@@ -51,24 +49,20 @@ pub fn write_record(
         gc,
         h2,
         out,
-    );
-    match fault {
-        Fault::Fine => Filled::Done,
-        Fault::Refused(number, position) => Filled::Refused(number, position),
-    }
+    )
 }
 
 // The six sizes of a record. Refusals: 2 for its end, 3 for its trailer, 6 for a word.
-pub fn read_record(bytes: &[u8]) -> Reading
-    ensures { reading_meaning result ≡ sizes_found (read_record bytes.now baby_bear) }
+pub fn read_record(bytes: &[u8]) -> Result<Sizes, Refusal>
+    ensures { outcome sizesMeaning result ≡ sizes_found (read_record bytes.now baby_bear) }
 {
     record::read(MODULE_PRIME, bytes)
 }
 
 // Where section k of a record stands: its start and its length in bytes. Refusals: 2 for the record's end, 3 for its trailer, 5 for a
 // section number above 10, 6 for a word.
-pub fn find_section(bytes: &[u8], k: usize) -> Place
-    ensures { place_meaning result ≡ place_call baby_bear bytes.now k }
+pub fn find_section(bytes: &[u8], k: usize) -> Result<Place, Refusal>
+    ensures { outcome place result ≡ place_call baby_bear bytes.now k }
 {
     record::find_section(MODULE_PRIME, bytes, k)
 }

@@ -1,4 +1,2 @@
 // The verifier's session, as crate `verifier` has it.
-pub use verifier::session::{
-    Answer, OpeningsAnswer, OpeningsStepped, SESSION_WORDS, Session, Stepped,
-};
+pub use verifier::session::{SESSION_WORDS, Session, Stepped};

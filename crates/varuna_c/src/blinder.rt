@@ -10,6 +10,7 @@ ghost use Rattle.c_numbers.specs.Answers.{told, answered};
 
 use c_numbers::answers::give_filled;
 use c_numbers::inputs::triple;
+use varuna::answers::{self, CircuitWords};
 
 // The blinded entry lists and the blinded z. Refusals 4 to 7, 15, 13.
 #[unsafe(no_mangle)]
@@ -22,32 +23,33 @@ pub extern "C" fn varuna_blind(
     ec: &[u32],
     z: &[u32],
     rho: &[u32; 3],
-    blindedA: &mut [u32],
-    blindedB: &mut [u32],
-    blindedC: &mut [u32],
-    blindedZ: &mut [u32],
+    blinded_a: &mut [u32],
+    blinded_b: &mut [u32],
+    blinded_c: &mut [u32],
+    blinded_z: &mut [u32],
     position: &mut usize,
 ) -> u32
-    ensures { (let before : Three (List ℕ) = three_of blindedA.old blindedB.old blindedC.old in
+    ensures { (let before : Three (List ℕ) = three_of blinded_a.old blinded_b.old blinded_c.old in
         told result position.new
-        (three_of blindedA.new blindedB.new blindedC.new, blindedZ.new)
+        (three_of blinded_a.new blinded_b.new blinded_c.new, blinded_z.new)
         ≡ answered
         (blind_call baby_bear (given r c x ea.now eb.now ec.now) z.now
-        (three_at rho.now 0) (map_three length before) (length blindedZ.old)) (before, blindedZ.old)) }
+        (three_at rho.now 0) (map_three length before) (length blinded_z.old)) (before, blinded_z.old)) }
 {
+    let matrices = answers::Three {
+        a: ea,
+        b: eb,
+        c: ec,
+    };
+    let circuit = CircuitWords { r, c, x, matrices };
     let answer = varuna::blinder::blind(
-        r,
-        c,
-        x,
-        ea,
-        eb,
-        ec,
+        &circuit,
         z,
         triple(rho),
-        blindedA,
-        blindedB,
-        blindedC,
-        blindedZ,
+        blinded_a,
+        blinded_b,
+        blinded_c,
+        blinded_z,
     );
     give_filled(answer, position)
 }

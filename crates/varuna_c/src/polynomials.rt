@@ -49,10 +49,7 @@ pub extern "C" fn varuna_evaluate_part(
     ensures { told result position.new (running nextSum.new nextPower.new)
         ≡ answered (evaluate_part_call baby_bear (running sum power) point part.now) (running nextSum.old nextPower.old) }
 {
-    let so_far = Running {
-        sum: sum,
-        power: power,
-    };
+    let so_far = Running { sum, power };
     give_evaluated(
         varuna::polynomials::evaluate_part(so_far, point, part),
         nextSum,

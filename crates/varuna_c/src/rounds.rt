@@ -9,6 +9,7 @@ ghost use Rattle.c_numbers.specs.Answers.{told, answered, three_listed, three_li
 
 use c_numbers::answers::{give_filled, give_openings, give_three};
 use c_numbers::inputs::triple;
+use varuna::answers::{Challenges, CircuitWords, ProverInput, Three};
 
 // Round 1: ŵ and h0. Refusals 4 to 8, 13, 9.
 #[unsafe(no_mangle)]
@@ -31,19 +32,19 @@ pub extern "C" fn varuna_first_round(
         (prover_input r c x ea.now eb.now ec.now z.now mask m.now)
         (length witness.old) (length row_quotient.old)) (witness.old, row_quotient.old) }
 {
-    let answer = varuna::rounds::first_round(
-        r,
-        c,
-        x,
-        ea,
-        eb,
-        ec,
+    let matrices = Three {
+        a: ea,
+        b: eb,
+        c: ec,
+    };
+    let circuit = CircuitWords { r, c, x, matrices };
+    let input = ProverInput {
+        circuit,
         z,
         mask,
         m,
-        witness,
-        row_quotient,
-    );
+    };
+    let answer = varuna::rounds::first_round(&input, witness, row_quotient);
     give_filled(answer, position)
 }
 
@@ -68,7 +69,19 @@ pub extern "C" fn varuna_second_round(
         (prover_input r c x ea.now eb.now ec.now z.now mask m.now)
         alpha)) sums.old }
 {
-    let answer = varuna::rounds::second_round(r, c, x, ea, eb, ec, z, mask, m, alpha);
+    let matrices = Three {
+        a: ea,
+        b: eb,
+        c: ec,
+    };
+    let circuit = CircuitWords { r, c, x, matrices };
+    let input = ProverInput {
+        circuit,
+        z,
+        mask,
+        m,
+    };
+    let answer = varuna::rounds::second_round(&input, alpha);
     give_three(answer, sums, position)
 }
 
@@ -96,21 +109,19 @@ pub extern "C" fn varuna_third_round(
         alpha (three_at eta.now 0) (length remainder.old) (length quotient.old))
         (remainder.old, quotient.old) }
 {
-    let answer = varuna::rounds::third_round(
-        r,
-        c,
-        x,
-        ea,
-        eb,
-        ec,
+    let matrices = Three {
+        a: ea,
+        b: eb,
+        c: ec,
+    };
+    let circuit = CircuitWords { r, c, x, matrices };
+    let input = ProverInput {
+        circuit,
         z,
         mask,
         m,
-        alpha,
-        triple(eta),
-        remainder,
-        quotient,
-    );
+    };
+    let answer = varuna::rounds::third_round(&input, alpha, triple(eta), remainder, quotient);
     give_filled(answer, position)
 }
 
@@ -143,23 +154,19 @@ pub extern "C" fn varuna_fourth_round(
         (three_of (length ga.old) (length gb.old) (length gc.old))))
         (values.old, three_of ga.old gb.old gc.old) }
 {
-    let answer = varuna::rounds::fourth_round(
-        r,
-        c,
-        x,
-        ea,
-        eb,
-        ec,
+    let matrices = Three {
+        a: ea,
+        b: eb,
+        c: ec,
+    };
+    let circuit = CircuitWords { r, c, x, matrices };
+    let input = ProverInput {
+        circuit,
         z,
         mask,
         m,
-        alpha,
-        triple(eta),
-        beta,
-        ga,
-        gb,
-        gc,
-    );
+    };
+    let answer = varuna::rounds::fourth_round(&input, alpha, triple(eta), beta, ga, gb, gc);
     give_three(answer, values, position)
 }
 
@@ -188,16 +195,20 @@ pub extern "C" fn varuna_fifth_round(
         alpha (three_at eta.now 0) beta (three_at delta.now 0) (length quotient.old))
         quotient.old }
 {
-    let answer = varuna::rounds::fifth_round(
-        r,
-        c,
-        x,
-        ea,
-        eb,
-        ec,
+    let matrices = Three {
+        a: ea,
+        b: eb,
+        c: ec,
+    };
+    let circuit = CircuitWords { r, c, x, matrices };
+    let input = ProverInput {
+        circuit,
         z,
         mask,
         m,
+    };
+    let answer = varuna::rounds::fifth_round(
+        &input,
         alpha,
         triple(eta),
         beta,
@@ -232,21 +243,25 @@ pub extern "C" fn varuna_openings(
         (prover_input r c x ea.now eb.now ec.now z.now mask m.now)
         alpha (three_at eta.now 0) beta (three_at delta.now 0) gamma) openings.old }
 {
-    let answer = varuna::rounds::openings(
-        r,
-        c,
-        x,
-        ea,
-        eb,
-        ec,
+    let matrices = Three {
+        a: ea,
+        b: eb,
+        c: ec,
+    };
+    let circuit = CircuitWords { r, c, x, matrices };
+    let input = ProverInput {
+        circuit,
         z,
         mask,
         m,
+    };
+    let challenges = Challenges {
         alpha,
-        triple(eta),
+        eta: triple(eta),
         beta,
-        triple(delta),
+        delta: triple(delta),
         gamma,
-    );
+    };
+    let answer = varuna::rounds::openings(&input, &challenges);
     give_openings(answer, openings, position)
 }

@@ -57,10 +57,10 @@ fn public_value(p: u32, n: u32, x: &[u32], y: u32) -> u32
     requires x_len { length x.now ≡ n }
     ensures { (q : Prime) → Known q p → Qualifies q → result ≡ (eval (interpolate n (map (of {q = q}) x.now)) (of y)).word }
 {
-    let mut weights = [0u32; MAX_WORDS];
-    let count = n as usize;
-    domain::lagrange_values_into(p, y, &mut weights[..count]);
-    domain::interpolated_at(p, &weights[..count], x)
+    let mut words = [0; MAX_WORDS];
+    let weights = &mut words[..n as usize];
+    domain::lagrange_values_into(p, y, weights);
+    domain::interpolated_at(p, weights, x)
 }
 
 // ẑ(β) = ŵ(β) v_X(β) + x̂(β).

@@ -20,7 +20,8 @@ from_place : (n at : ℕ) (l : List ℕ) → at + n ≤ length l → drop at l �
 from_place zero at l fits = let e : at ≡ at + 0 = omega arith in ap (λ k. drop k l) e
 from_place (suc n) at l fits =
     let e : suc at + n ≡ at + suc n = omega arith in
-    drop-cons l at 0 (omega arith) ∙ ap (λ k. get_or l at 0 ∷ k) (from_place n (suc at) l (omega arith) ∙ ap (λ k. words_from n (suc at) l ++ drop k l) e)
+    drop-cons l at 0 (omega arith)
+    ∙ ap (λ k. get_or l at 0 ∷ k) (from_place n (suc at) l (omega arith) ∙ ap (λ k. words_from n (suc at) l ++ drop k l) e)
 
 -- the words of the session with these words
 pub words-of-session : (l : List ℕ) → length l ≡ 1046 → session_words (session_of l) ≡ l
@@ -61,7 +62,8 @@ session-of-words s size =
     let word : (n : ℕ) → get_or words (1031 + n) 0 ≡ get_or (list_transcript s.transcript) n 0 = λ n.
     sym (get_or-drop 1031 words n 0) ∙ ap (λ l. get_or l n 0) after in
     ap₂ (λ x h. record { stage = s.stage; sizes = s.sizes; x = x; transcript = h })
-    (take_at s.x (list_transcript s.transcript) max_size size) (transcript_same (λ n. get_or words (1031 + n) 0) (λ n. get_or (list_transcript s.transcript) n 0) word)
+    (take_at s.x (list_transcript s.transcript) max_size size)
+    (transcript_same (λ n. get_or words (1031 + n) 0) (λ n. get_or (list_transcript s.transcript) n 0) word)
 
 -- three lists put into a list one after the other
 module _ (a b c out : List ℕ) (whole : length a + length b + length c ≡ length out) where
@@ -69,7 +71,8 @@ module _ (a b c out : List ℕ) (whole : length a + length b + length c ≡ leng
       → second ≡ paste first (length a) b (length b) → third ≡ paste second at c (length c) → third ≡ a ++ (b ++ c)
   three-put {first} {second} {third} at seam put_a put_b put-c =
       let first-size : length first ≡ length out = ap length put_a ∙ length-paste out 0 a (length a) (omega arith) (omega arith) in
-      let second-size : length second ≡ length out = ap length put_b ∙ length-paste first (length a) b (length b) (omega arith) (omega arith) ∙ first-size in
+      let second-size : length second ≡ length out =
+      ap length put_b ∙ length-paste first (length a) b (length b) (omega arith) (omega arith) ∙ first-size in
       let head : take (length a) first ≡ a =
       ap₂ take (sym (zero-add (length a))) put_a ∙ take-paste out 0 a (length a) (omega arith) (omega arith) ∙ take-length a in
       let heads : take at second ≡ a ++ b =

@@ -1,34 +1,32 @@
 -- What the values of the session's declared types mean (protocol's Session), and a session as a list of words. Assumes nothing.
-use Rattle.std.specs.Prelude.{List, ◌∷◌, ◌++◌, ℕ, ◌+◌, take, drop, get_or}
+use Rattle.std.specs.Prelude.{List, ◌∷◌, ◌++◌, ℕ, ◌+◌, take, drop, get_or, Result, Ok, Err}
 use Rattle.domain.specs.Size.{max_size}
 use Rattle.protocol.specs.Three.{Three, listed}
 use Rattle.protocol.specs.Checks.{Transcript, list_transcript}
 use Rattle.protocol.specs.Session as steps
 use Rattle.protocol.specs.Session.{Taken, Judged, Refused}
-use Rattle.shared.specs.Meanings.{sizes, transcript, verdict_meaning}
+use Rattle.shared.specs.Meanings.{refusal, sizes, transcript, verdict_meaning}
+use Rattle.shared.specs.declared.Refusal.{Refusal}
+use Rattle.shared.specs.declared.Verdict.{Verdict}
 use Rattle.verifier.specs.declared.session.Session.{Session}
-use Rattle.verifier.specs.declared.session.Answer as declared-answer
-use Rattle.verifier.specs.declared.session.Answer.TheVariants as answer
-use Rattle.verifier.specs.declared.session.OpeningsAnswer.{OpeningsAnswer}
-use Rattle.verifier.specs.declared.session.OpeningsAnswer.TheVariants as openings-answer
 use Rattle.verifier.specs.declared.session.Stepped.{Stepped}
-use Rattle.verifier.specs.declared.session.OpeningsStepped.{OpeningsStepped}
 
 abbrev pub session_meaning : Session → steps.Session
 session_meaning s = record { stage = s.stage; sizes = sizes s.sizes; x = s.x; transcript = transcript s.transcript }
 
-abbrev pub answer_meaning : declared-answer.Answer → steps.Answer
-answer_meaning answer.Taken = Taken
-answer_meaning (answer.Refused number position) = Refused (record { number = number; position = position })
+-- what a step before the openings answers, and what openings are answered with
+abbrev pub answer_meaning : Result (Unit {0}) Refusal → steps.Answer
+answer_meaning (Ok nothing) = Taken
+answer_meaning (Err r) = Refused (refusal r)
 
-abbrev pub openings_answer_meaning : OpeningsAnswer → steps.Answer
-openings_answer_meaning (openings-answer.Judged v) = Judged (verdict_meaning v)
-openings_answer_meaning (openings-answer.Refused number position) = Refused (record { number = number; position = position })
+abbrev pub openings_answer_meaning : Result Verdict Refusal → steps.Answer
+openings_answer_meaning (Ok v) = Judged (verdict_meaning v)
+openings_answer_meaning (Err r) = Refused (refusal r)
 
-abbrev pub stepped_meaning : Stepped → steps.Stepped
+abbrev pub stepped_meaning : Stepped (Unit {0}) → steps.Stepped
 stepped_meaning r = record { session = session_meaning r.session; answer = answer_meaning r.answer }
 
-abbrev pub openings_stepped_meaning : OpeningsStepped → steps.Stepped
+abbrev pub openings_stepped_meaning : Stepped Verdict → steps.Stepped
 openings_stepped_meaning r = record { session = session_meaning r.session; answer = openings_answer_meaning r.answer }
 
 -- A session as 1,046 words: the stage and the six sizes, the 1,024 words of x, and the transcript.

@@ -2,21 +2,23 @@
 // refused. The openings may be asked about as often as wished, which leaves the session as it is; committing them closes it, and then
 // every step but opening is out of turn.
 ghost use Rattle.std.specs.Prelude.{◌≡◌, ◌++◌, suc, ◌+◌, ◌-◌, ◌≤◌, length, replicate};
+ghost use Rattle.std.proofs.Math.Option.{none};
 ghost use Rattle.std.proofs.Math.Seq.{paste};
 ghost use Rattle.domain.specs.Size.{max_size};
 ghost use Rattle.domain.specs.BabyBear.{baby_bear};
-ghost use Rattle.protocol.specs.Session.{unopened, blank, onward, open_step, alpha_step, eta_step, beta_step, delta_step, gamma_step, ask_step, commit_step};
+ghost use Rattle.protocol.specs.Session.{unopened, blank, unless, onward, open_step, alpha_step, eta_step, beta_step, delta_step, gamma_step, ask_step, commit_step};
 ghost use Rattle.protocol.specs.Session as steps;
-ghost use Rattle.shared.specs.Meanings.{three, sizes, transcript};
+ghost use Rattle.shared.specs.Meanings.{refusal_in, three, sizes, transcript};
 ghost use Rattle.shared.specs.Meanings as meanings;
 ghost use Rattle.verifier.specs.Session.{session_meaning, stepped_meaning, openings_answer_meaning, openings_stepped_meaning, session_of, session_words, transcript_of, three_at};
 
 use field::MODULE_PRIME;
-use shared::{Fault, Opened, Sizes, Transcript, Triple, Verdict};
+use shared::{Opened, Refusal, Sizes, Transcript, Triple, Verdict};
 use step_refusals::holdings::transcript_words;
 use step_refusals::refusals;
 
-// The steps taken, the sizes, the public words with zeros after them, and the transcript.
+// The steps taken, the sizes, the public words with zeros after them, and the transcript. The stage is a number and no enum: the
+// definition of a session counts steps, and a session read from words keeps any word that stands in the stage's place.
 #[derive(Clone, Copy)]
 pub struct Session {
     stage: u32,
@@ -25,29 +27,12 @@ pub struct Session {
     transcript: Transcript,
 }
 
+// The next session and the answer to a step. Before the openings a step that is taken answers nothing more; openings, asked about or
+// committed, are answered with the verdict, so that the last step's answer carries the enum of verdicts.
 #[derive(Clone, Copy)]
-pub enum Answer {
-    Taken,
-    Refused(u32, usize),
-}
-
-// The answer to openings, asked about or committed.
-#[derive(Clone, Copy)]
-pub enum OpeningsAnswer {
-    Judged(Verdict),
-    Refused(u32, usize),
-}
-
-#[derive(Clone, Copy)]
-pub struct Stepped {
+pub struct Stepped<T> {
     pub session: Session,
-    pub answer: Answer,
-}
-
-#[derive(Clone, Copy)]
-pub struct OpeningsStepped {
-    pub session: Session,
-    pub answer: OpeningsAnswer,
+    pub answer: Result<T, Refusal>,
 }
 
 // A session as words: the stage, the six sizes, the words of x, and the transcript.
@@ -79,11 +64,7 @@ fn padded(words: &[u32]) -> [u32; 1024]
     ensures { result ≡ words.now ++ replicate (max_size - length words.now) 0 }
 {
     let mut x = [0u32; 1024];
-    let mut i = 0;
-    while i < words.len() {
-        x[i] = words[i];
-        i += 1;
-    }
+    x[..words.len()].copy_from_slice(words);
     x
 }
 
@@ -92,11 +73,7 @@ fn put_words(out: &mut [u32], at: usize, source: &[u32])
     requires { at + length source.now ≤ length out.old }
     ensures { out.new ≡ paste out.old at source.now (length source.now) }
 {
-    let mut i = 0;
-    while i < source.len() {
-        out[at + i] = source[i];
-        i += 1;
-    }
+    out[at..at + source.len()].copy_from_slice(source);
 }
 
 // Three words from a place on.
@@ -131,8 +108,6 @@ impl Session {
     pub fn from_words(words: &[u32; SESSION_WORDS]) -> Session
         ensures { session_meaning result ≡ session_of words.now }
     {
-        let all = &words[..];
-        let x = padded(&all[X_START..TRANSCRIPT_START]);
         Session {
             stage: words[0],
             sizes: Sizes {
@@ -141,7 +116,7 @@ impl Session {
                 x: words[3],
                 k: triple_at(words, 4),
             },
-            x: x,
+            x: padded(&words[X_START..TRANSCRIPT_START]),
             transcript: transcript_in(words),
         }
     }
@@ -152,11 +127,9 @@ impl Session {
     {
         let s = self.sizes;
         let first = [self.stage, s.r, s.c, s.x, s.k.a, s.k.b, s.k.c];
-        let x = self.x;
-        let last = transcript_words(self.transcript);
         put_words(out, 0, &first);
-        put_words(out, X_START, &x);
-        put_words(out, TRANSCRIPT_START, &last);
+        put_words(out, X_START, &self.x);
+        put_words(out, TRANSCRIPT_START, &transcript_words(self.transcript));
     }
 
     // A session before it is opened.
@@ -177,37 +150,44 @@ impl Session {
     }
 
     // The same session, and the refusal.
-    fn refused(self, number: u32, position: usize) -> Stepped
-        ensures { stepped_meaning result
-            ≡ record { session = session_meaning self; answer = steps.Refused (record { number = number; position = position }) } }
+    fn refused(self, refusal: Refusal) -> Stepped<()>
+        ensures { stepped_meaning result ≡ record { session = session_meaning self; answer = steps.Refused (meanings.refusal refusal) } }
     {
         Stepped {
             session: self,
-            answer: Answer::Refused(number, position),
+            answer: Err(refusal),
         }
     }
 
-    // The session one step on, with the transcript t.
-    fn taken(self, stage: u32, t: Transcript) -> Stepped
-        requires { stage ≡ suc self.stage }
-        ensures { stepped_meaning result ≡ onward (session_meaning self) (transcript t) steps.Taken }
+    // A step by its judgement: refused, or the session one step on, with this transcript.
+    fn step(self, judgement: Result<(), Refusal>, stage: u32, transcript: Transcript) -> Stepped<()>
+        requires { refusal_in judgement ≡ none → stage ≡ suc self.stage }
+        ensures { stepped_meaning result
+            ≡ unless (refusal_in judgement) (session_meaning self) (onward (session_meaning self) (meanings.transcript transcript) steps.Taken) }
     {
-        let mut next = self;
-        next.stage = stage;
-        next.transcript = t;
-        Stepped {
-            session: next,
-            answer: Answer::Taken,
+        match judgement {
+            Err(refusal) => self.refused(refusal),
+            Ok(()) => {
+                let next = Session {
+                    stage,
+                    transcript,
+                    ..self
+                };
+                Stepped {
+                    session: next,
+                    answer: Ok(()),
+                }
+            }
         }
     }
 
     // Opening makes a new session, and is never out of turn. Refusals: 4 for a size, 5 for x, 6 for a word, 13 for x's first word.
-    pub fn open(self, s: Sizes, x: &[u32]) -> Stepped
+    pub fn open(self, s: Sizes, x: &[u32]) -> Stepped<()>
         ensures { stepped_meaning result ≡ open_step baby_bear (session_meaning self) (sizes s) x.now }
     {
         match refusals::judge_open(MODULE_PRIME, s, x) {
-            Fault::Refused(number, position) => self.refused(number, position),
-            Fault::Fine => {
+            Err(refusal) => self.refused(refusal),
+            Ok(()) => {
                 let opened = Session {
                     stage: 1,
                     sizes: s,
@@ -216,17 +196,17 @@ impl Session {
                 };
                 Stepped {
                     session: opened,
-                    answer: Answer::Taken,
+                    answer: Ok(()),
                 }
             }
         }
     }
 
     // Declared lengths of ŵ, m, h0, then α.
-    pub fn alpha(self, witness: u32, mask: u32, quotient: u32, alpha: u32) -> Stepped
+    pub fn alpha(self, witness: u32, mask: u32, quotient: u32, alpha: u32) -> Stepped<()>
         ensures { stepped_meaning result ≡ alpha_step baby_bear (session_meaning self) witness mask quotient alpha }
     {
-        match refusals::judge_alpha(
+        let judgement = refusals::judge_alpha(
             MODULE_PRIME,
             self.stage,
             self.sizes,
@@ -234,149 +214,138 @@ impl Session {
             mask,
             quotient,
             alpha,
-        ) {
-            Fault::Refused(number, position) => self.refused(number, position),
-            Fault::Fine => {
-                let mut t = self.transcript;
-                t.alpha = alpha;
-                self.taken(2, t)
-            }
-        }
+        );
+        let t = Transcript {
+            alpha,
+            ..self.transcript
+        };
+        self.step(judgement, 2, t)
     }
 
     // The three σ, then the three η.
-    pub fn eta(self, sums: Triple, eta: Triple) -> Stepped
+    pub fn eta(self, sums: Triple, eta: Triple) -> Stepped<()>
         ensures { stepped_meaning result ≡ eta_step baby_bear (session_meaning self) (three sums) (three eta) }
     {
-        match refusals::judge_eta(MODULE_PRIME, self.stage, self.sizes, sums, eta) {
-            Fault::Refused(number, position) => self.refused(number, position),
-            Fault::Fine => {
-                let mut t = self.transcript;
-                t.sums = sums;
-                t.eta = eta;
-                self.taken(3, t)
-            }
-        }
+        let judgement = refusals::judge_eta(MODULE_PRIME, self.stage, self.sizes, sums, eta);
+        let t = Transcript {
+            sums,
+            eta,
+            ..self.transcript
+        };
+        self.step(judgement, 3, t)
     }
 
     // Declared lengths of g1, h1, then β.
-    pub fn beta(self, remainder: u32, quotient: u32, beta: u32) -> Stepped
+    pub fn beta(self, remainder: u32, quotient: u32, beta: u32) -> Stepped<()>
         ensures { stepped_meaning result ≡ beta_step baby_bear (session_meaning self) remainder quotient beta }
     {
-        match refusals::judge_beta(
+        let judgement = refusals::judge_beta(
             MODULE_PRIME,
             self.stage,
             self.sizes,
             remainder,
             quotient,
             beta,
-        ) {
-            Fault::Refused(number, position) => self.refused(number, position),
-            Fault::Fine => {
-                let mut t = self.transcript;
-                t.beta = beta;
-                self.taken(4, t)
-            }
-        }
+        );
+        let t = Transcript {
+            beta,
+            ..self.transcript
+        };
+        self.step(judgement, 4, t)
     }
 
     // The three ω and declared lengths of the g_M, then the three δ.
-    pub fn delta(self, values: Triple, remainders: Triple, delta: Triple) -> Stepped
+    pub fn delta(self, values: Triple, remainders: Triple, delta: Triple) -> Stepped<()>
         ensures { stepped_meaning result ≡ delta_step baby_bear (session_meaning self) (three values) (three remainders) (three delta) }
     {
-        match refusals::judge_delta(
+        let judgement = refusals::judge_delta(
             MODULE_PRIME,
             self.stage,
             self.sizes,
             values,
             remainders,
             delta,
-        ) {
-            Fault::Refused(number, position) => self.refused(number, position),
-            Fault::Fine => {
-                let mut t = self.transcript;
-                t.values = values;
-                t.delta = delta;
-                self.taken(5, t)
-            }
-        }
+        );
+        let t = Transcript {
+            values,
+            delta,
+            ..self.transcript
+        };
+        self.step(judgement, 5, t)
     }
 
     // Declared length of h2, then γ.
-    pub fn gamma(self, quotient: u32, gamma: u32) -> Stepped
+    pub fn gamma(self, quotient: u32, gamma: u32) -> Stepped<()>
         ensures { stepped_meaning result ≡ gamma_step baby_bear (session_meaning self) quotient gamma }
     {
-        match refusals::judge_gamma(MODULE_PRIME, self.stage, self.sizes, quotient, gamma) {
-            Fault::Refused(number, position) => self.refused(number, position),
-            Fault::Fine => {
-                let mut t = self.transcript;
-                t.gamma = gamma;
-                self.taken(6, t)
-            }
-        }
+        let judgement = refusals::judge_gamma(
+            MODULE_PRIME,
+            self.stage,
+            self.sizes,
+            quotient,
+            gamma,
+        );
+        let t = Transcript {
+            gamma,
+            ..self.transcript
+        };
+        self.step(judgement, 6, t)
     }
 
     // The session at a stage, and the answer to openings.
-    fn answered(self, stage: u32, answer: OpeningsAnswer) -> OpeningsStepped
+    fn answered(self, stage: u32, answer: Result<Verdict, Refusal>) -> Stepped<Verdict>
         ensures { openings_stepped_meaning result
             ≡ record {
               session = record { stage = stage; sizes = sizes self.sizes; x = self.x; transcript = transcript self.transcript };
               answer = openings_answer_meaning answer;
             } }
     {
-        let mut after = self;
-        after.stage = stage;
-        OpeningsStepped {
-            session: after,
-            answer: answer,
+        Stepped {
+            session: Session { stage, ..self },
+            answer,
         }
     }
 
     // The answer to the 21 openings.
-    fn judgement(self, o: Opened, index: [[u32; 4]; 3]) -> OpeningsAnswer
+    fn judgement(self, o: Opened, index: [[u32; 4]; 3]) -> Result<Verdict, Refusal>
         ensures { openings_answer_meaning result ≡ (ask_step baby_bear (session_meaning self) (meanings.openings o index)).answer }
     {
-        let x = self.x;
-        match refusals::judge_openings(
+        refusals::judge_openings(
             MODULE_PRIME,
             self.stage,
             self.sizes,
-            &x,
+            &self.x,
             self.transcript,
             o,
             index,
-        ) {
-            Fault::Refused(number, position) => OpeningsAnswer::Refused(number, position),
-            Fault::Fine => {
-                let n = self.sizes.x as usize;
-                let verdict = verdict::verdict(
-                    MODULE_PRIME,
-                    self.sizes,
-                    &x[..n],
-                    self.transcript,
-                    o,
-                    index,
-                );
-                OpeningsAnswer::Judged(verdict)
-            }
-        }
+        )?;
+        let n = self.sizes.x as usize;
+        let verdict = verdict::verdict(
+            MODULE_PRIME,
+            self.sizes,
+            &self.x[..n],
+            self.transcript,
+            o,
+            index,
+        );
+        Ok(verdict)
     }
 
     // Asks for the verdict on the 21 openings. Refusals: 1, then 6.
-    pub fn ask(self, o: Opened, index: [[u32; 4]; 3]) -> OpeningsStepped
+    pub fn ask(self, o: Opened, index: [[u32; 4]; 3]) -> Stepped<Verdict>
         ensures { openings_stepped_meaning result ≡ ask_step baby_bear (session_meaning self) (meanings.openings o index) }
     {
         self.answered(self.stage, self.judgement(o, index))
     }
 
     // Commits the 21 openings: the answer is the one that asking gives for them, and a verdict closes the session. Refusals: 1, then 6.
-    pub fn commit(self, o: Opened, index: [[u32; 4]; 3]) -> OpeningsStepped
+    pub fn commit(self, o: Opened, index: [[u32; 4]; 3]) -> Stepped<Verdict>
         ensures { openings_stepped_meaning result ≡ commit_step baby_bear (session_meaning self) (meanings.openings o index) }
     {
         let answer = self.judgement(o, index);
         match answer {
-            OpeningsAnswer::Judged(_) => self.answered(7, answer),
-            OpeningsAnswer::Refused(_, _) => self.answered(self.stage, answer),
+            Ok(_) => self.answered(7, answer),
+            Err(_) => self.answered(self.stage, answer),
         }
     }
 }

@@ -1,56 +1,37 @@
 -- `call_refusals::judge_circuit` meets its contract: the shape, then the contents, as in an indexer's call that lends nothing.
 -- Assumes nothing.
-use mathlib.Core.Path.{◌≡◌, refl, sym, ◌∙◌}
-use mathlib.Core.Bool.{true}
-use mathlib.Core.List.{List, [], ◌∷◌}
+use Rattle.std.proofs.Common.{refl, sym, ◌∙◌, List, [], ◌∷◌}
 use mathlib.Core.Option.{Option}
 use Rattle.field.specs.Prime.{Prime}
-use Rattle.shared.specs.Meanings.{is_fine}
 use Rattle.protocol.specs.Refusals.{Refusal}
 use Rattle.protocol.specs.Calls.{CircuitWords, circuit_of}
-use Rattle.circuit.specs.Given.{given}
-use Rattle.circuit.specs.Judgement.{index_shape_refusal, index_contents_refusal}
-use Rattle.shared.proofs.EarlyReturns.{stops, goes_on, fine_none, last_answer_lem}
+use Rattle.circuit.specs.Given.{circuit_words}
+use Rattle.circuit.specs.Judgement.{index_contents_refusal}
+use Rattle.shared.proofs.EarlyReturns.{stops, goes_on, last_answer_lem}
 use Rattle.circuit.proofs.Parts.{circuit_in_parts, index_shape_fits}
 use Rattle.call_refusals.proofs.judge_circuit.Goals as goal
-use Rattle.call_refusals.proofs.judge_circuit.Goals.{After-judge_index_shape-shape, Else-not-is_fine}
+use Rattle.call_refusals.proofs.judge_circuit.Goals.{Start}
 
-abbrev circuit : After-judge_index_shape-shape → CircuitWords
-circuit j =
-    let a = j.args in
-    given a.r a.c a.x a.ea.now a.eb.now a.ec.now
+abbrev circuit : Start → CircuitWords
+circuit s = circuit_words s.args.circuit.now
 
-abbrev contents : Prime → After-judge_index_shape-shape → List (Option Refusal)
-contents q j = index_contents_refusal q (circuit_of (circuit j)) ∷ []
+abbrev contents : Prime → Start → List (Option Refusal)
+contents q s = index_contents_refusal q (circuit_of (circuit s)) ∷ []
 
-shape_fine : (c : Else-not-is_fine) → is_fine c.judge_index_shape-shape.result ≡ true
-shape_fine c = sym c.is_fine.ensures ∙ c.if-not-is_fine.false
-
-pub judge_index_shape-shape-requires : goal.judge_index_shape-shape-requires
-judge_index_shape-shape-requires c = tt
-
-pub is_fine-requires : goal.is_fine-requires
-is_fine-requires c = tt
-
-pub returns-then-not-is_fine : goal.returns-then-not-is_fine
-returns-then-not-is_fine c q e =
-    let j = (goal.at.returns-then-not-is_fine c).After-judge_index_shape-shape in
-    stops j.judge_index_shape-shape.result {o = index_shape_refusal (circuit j)} j.judge_index_shape-shape.ensures (contents q j)
-    (sym c.is_fine.ensures ∙ c.if-not-is_fine.true)
-    ∙ sym (circuit_in_parts q (circuit j))
+pub returns-in_err-judge_index_shape : goal.returns-in_err-judge_index_shape
+returns-in_err-judge_index_shape c q e =
+    let s = (goal.at.returns-in_err-judge_index_shape c).Start in
+    stops _ _ c.from_residual.ensures.1 c.in_err-judge_index_shape.ensures (contents q s) ∙ sym (circuit_in_parts q (circuit s))
 
 pub judge_index_contents-requires : goal.judge_index_contents-requires
 judge_index_contents-requires c =
-    let j = (goal.at.judge_index_contents-requires c).After-judge_index_shape-shape in
-    let a = j.args in
-    (index_shape_fits a.r a.c a.x a.ea.now a.eb.now a.ec.now
-    (fine_none j.judge_index_shape-shape.result {o = index_shape_refusal (circuit j)} j.judge_index_shape-shape.ensures (shape_fine c))).lists
+    let k = c.args.circuit.now in
+    (index_shape_fits k.r k.c k.x k.matrices.a.now k.matrices.b.now k.matrices.c.now (sym c.in_ok-judge_index_shape.ensures)).lists
 
 pub returns : goal.returns
 unfolding circuit_of
 returns c q e =
-    let d = (goal.at.returns c).Else-not-is_fine in
-    let j = (goal.at.Else-not-is_fine d).After-judge_index_shape-shape in
-    goes_on j.judge_index_shape-shape.result {o = index_shape_refusal (circuit j)} j.judge_index_shape-shape.ensures (contents q j) (shape_fine d)
-    (last_answer_lem (c.judge_index_contents.ensures q e (circuit_of (circuit j)) refl refl refl))
-    ∙ sym (circuit_in_parts q (circuit j))
+    let s = (goal.at.returns c).Start in
+    goes_on c.in_ok-judge_index_shape.ensures (contents q s)
+    (last_answer_lem (c.judge_index_contents.ensures q e (circuit_of (circuit s)) refl refl refl))
+    ∙ sym (circuit_in_parts q (circuit s))

@@ -57,18 +57,11 @@ lagrange_values_into-requires t c =
       (c.requires.lt_p, ap is_size (half_length d) ∙ size),
     )
 
-pub double_lagrange-requires : goal.double_lagrange-requires
-double_lagrange-requires t c =
+pub double_lagrange-requires-clause-out_value : goal.double_lagrange-requires-clause-out_value
+double_lagrange-requires-clause-out_value t c =
     let d : List ℕ = c.args.out.now in
     let whole = whole_length d c.lagrange_values_into.new.out c.lagrange_values_into.auto.out in
-    record {
-      p_nonzero = omega (arith, c.requires.lt_p);
-      out_value = (ap is_size whole ∙ c.requires.out_value, omega (arith, whole, many d c.requires.out_value c.if-out-eq1.false));
-    }
-
-pub shape_of-out : goal.shape_of-out
-shape_of-out t c =
-    c.double_lagrange.auto.out ∙ whole_length c.args.out.now c.lagrange_values_into.new.out c.lagrange_values_into.auto.out
+    (ap is_size whole ∙ c.requires.out_value, omega (arith, whole, many d c.requires.out_value c.if-out-eq1.false))
 
 pub returns : goal.returns
 returns t c q K =

@@ -1,10 +1,7 @@
--- `domain::interpolated_at` meets its contract: the sum is that of the terms before i. The measure is what is left of the weights.
--- Assumes nothing.
-use borrow.Author.Rules.{rules}
-use mathlib.Core.Path.{◌≡◌, sym, ap, ◌∙◌}
-use mathlib.Core.List.{map}
-use Prim.Native.Nat.{ℕ}
-use native.Mathlib.Omega.{arith}
+-- `domain::interpolated_at` meets its contract. Assumes nothing.
+use Rattle.std.proofs.Common.{ℕ, map, sym, ap, ◌∙◌, arith}
+use Rattle.std.proofs.lemmas.List.{length_push}
+use Rattle.std.proofs.lemmas.Slice.Zip.{zip_turn, zip_end}
 use Rattle.algebra.specs.Sum as sums
 use Rattle.field.specs.Element.{Elem, of}
 use Rattle.field.proofs.ElementLaws.{prime_ring}
@@ -12,22 +9,27 @@ use Rattle.domain.proofs.Membership.{zero_word}
 use Rattle.domain.proofs.LagrangeSums.{term, interpolate-sum, made_length, next_term}
 use Rattle.domain.proofs.interpolated_at.Goals as goal
 
-pub loop-i-init : goal.loop-i-init
-loop-i-init c = (search rules, λ q e n y made. sym (zero_word q))
+pub loop-value-init : goal.loop-value-init
+loop-value-init c q e n y made = sym (zero_word q)
 
-pub loop-i-preserved : goal.loop-i-preserved
-loop-i-preserved c =
-    let l = c.loop-i in
-    let a = c.args in (
-      search rules,
-      λ q e n y made. next_term n y a.values.now a.weights.now made l.i l.sum c.multiply_add-sum.result (omega arith)
-          (c.multiply_add-sum.ensures q e) (l.invariant.1 q e n y made),
-    )
+pub loop-value-preserved : goal.loop-value-preserved
+loop-value-preserved c q e n y made =
+    let l = c.loop-value in
+    let (_, below, value, weight) =
+    zip_turn c.args.values.now c.args.weights.now l.yielded c.into_iter-value-iterator.result _ c.next.new.self _ (cc) (cc)
+    l.yielded_by _ c.in-Some.is c.next.ensures.steps in
+    simp length_push
+    (next_term n y c.args.values.now c.args.weights.now made _ l.sum c.multiply_add-sum.result below
+    (cc (c.multiply_add-sum.ensures q e, value 0, weight 0)) (l.invariant q e n y made))
 
 pub returns : goal.returns
 returns c q Q e n s y made =
-    let l = c.loop-i in
-    let a = c.args in
-    let whole : l.i ≡ n = omega (arith, made_length n y a.values.now a.weights.now made) in
-    l.invariant.1 q e n y made ∙ ap (λ (k : ℕ). (sums.sum (prime_ring q) k (term n (map of a.values.now) y)).word) whole
-    ∙ ap (λ (x : Elem q). x.word) (interpolate-sum Q n s (map of a.values.now) y)
+    let l = c.loop-value in
+    let vs = c.args.values.now in
+    let ended =
+    zip_end vs c.args.weights.now l.yielded c.into_iter-value-iterator.result _ c.next.new.self _ (cc) (cc) l.yielded_by c.in-None.is
+    c.next.ensures.steps in
+    l.invariant q e n y made
+    ∙ ap (λ (k : ℕ). (sums.sum (prime_ring q) k (term n (map of vs) y)).word)
+    (omega (arith, ended, made_length n y vs c.args.weights.now made))
+    ∙ ap (λ (x : Elem q). x.word) (interpolate-sum Q n s (map of vs) y)

@@ -1,5 +1,4 @@
 -- `domain::listed_element` meets its contract. Assumes nothing.
-use borrow.Author.Rules.{scaled_Fits}
 use mathlib.Core.Path.{◌≡◌, sym, ap, ap₂, ◌∙◌}
 use mathlib.Core.Bool.{true}
 use mathlib.Core.List.{List}
@@ -29,12 +28,6 @@ pub returns-then-at-elements : goal.returns-then-at-elements
 returns-then-at-elements c q Q n size e =
     let a = c.args in
     ap (λ (k : ℕ). get_or a.elements.now k 0) (sym (mod-eq_of_lt c.if-at-elements.true)) ∙ listed Q n size a.elements.now a.i e
-
-pub offset_bounds-elements-at-2 : goal.offset_bounds-elements-at-2
-offset_bounds-elements-at-2 c = scaled_Fits _ _ _ (mod-lt _ c.requires) c.well_formed.0.1
-
-pub bounds-elements-at-2 : goal.bounds-elements-at-2
-bounds-elements-at-2 c = mod-lt _ c.requires
 
 pub returns : goal.returns
 returns c q Q n size e =

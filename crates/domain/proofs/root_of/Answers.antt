@@ -2,7 +2,6 @@
 -- Assumes nothing.
 use mathlib.Core.Path.{sym, ap, ◌∙◌}
 use Prim.Native.Nat.{ℕ}
-use native.Mathlib.Omega.{arith}
 use lib.Count.{count_trailing_zeros}
 use Rattle.field.specs.Prime.{Prime}
 use Rattle.domain.specs.Domain.{root}
@@ -11,12 +10,6 @@ use Rattle.domain.specs.GeneratorTable.{generator_table}
 use Rattle.domain.proofs.SizeDigits.{size_trailing}
 use Rattle.domain.proofs.GeneratorLaws.{generator-is-root}
 use Rattle.domain.proofs.root_of.Goals as goal
-
-pub overflow_cast-result : goal.overflow_cast-result
-overflow_cast-result c = omega (arith, (size_trailing c.args.n c.requires).0)
-
-pub offset_bounds-n : goal.offset_bounds-n
-offset_bounds-n c = omega (arith, (size_trailing c.args.n c.requires).0)
 
 pub bounds-n : goal.bounds-n
 bounds-n c = (size_trailing c.args.n c.requires).0

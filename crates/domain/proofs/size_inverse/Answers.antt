@@ -1,16 +1,11 @@
 -- `domain::size_inverse` meets its contract. Assumes nothing.
 use mathlib.Core.Path.{sym, ap, ◌∙◌}
 use Prim.Native.Nat.{ℕ, ◌-◌, ◌/◌}
-use native.Mathlib.Omega.{arith}
-use native.Mathlib.Nat.{le_trans, div-le_self}
 use Rattle.domain.proofs.SizeLaws.{size_positive, size_inverse}
 use Rattle.domain.proofs.size_inverse.Goals as goal
 
 pub nonzero_div-result : goal.nonzero_div-result
 nonzero_div-result c = size_positive c.args.n c.requires.n_value
-
-pub overflow_sub-result-2 : goal.overflow_sub-result-2
-overflow_sub-result-2 c = le_trans (div-le_self _ c.args.n) (omega arith)
 
 pub returns : goal.returns
 returns c q Q e =

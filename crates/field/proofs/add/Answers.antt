@@ -1,10 +1,7 @@
 -- `field::add` meets its contract. Assumes nothing.
-use Rattle.std.proofs.Common.{ℕ, ◌+◌, ◌%◌, sym, ap, ◌∙◌, ap₂}
+use Rattle.std.proofs.Common.{arith}
 use Rattle.field.proofs.Words.{word-add}
 use Rattle.field.proofs.add.Goals as goal
 
 pub returns : goal.returns
-returns c q e =
-    let a = c.args in
-    c.reduce.ensures ∙ ap₂ (λ (m n : ℕ). (m + n) % a.p) c.wide.ensures.0 c.wide-2.ensures.0
-    ∙ sym (word-add q a.a a.b ∙ ap (λ (n : ℕ). (a.a + a.b) % n) e)
+returns c q e = grind (arith, word-add q c.args.a c.args.b)

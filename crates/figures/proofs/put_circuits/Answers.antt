@@ -1,15 +1,22 @@
 -- `figures::put_circuits` meets its contract. Assumes nothing.
+use Rattle.std.proofs.Common.{◌≡◌, sym, ◌∙◌, arith, length, map}
+use Rattle.std.proofs.lemmas.List.{length-map}
+use borrow.Author.Tests.{eqb-true, eqb-false}
 use Rattle.domain.specs.BabyBear.{baby_bear}
 use Rattle.text.proofs.WrittenLaws.{written_as}
-use Rattle.figures.proofs.SheetLaws.{table_empty, table-full, table-rows}
-use borrow.Author.Rules.{rules}
+use Rattle.sheet_lines.specs.Meanings.{given}
+use Rattle.figures.proofs.SheetLaws.{table_empty, table-rows}
 use Rattle.figures.proofs.put_circuits.Goals as goal
 
-pub returns-then-count-eq0 : goal.returns-then-count-eq0
-returns-then-count-eq0 c = λ gs kept. written_as (table_empty baby_bear gs kept (search rules)) c.put_bytes.ensures
-
-pub returns-then-count-gt-MOST_CIRCUITS : goal.returns-then-count-gt-MOST_CIRCUITS
-returns-then-count-gt-MOST_CIRCUITS c = λ gs kept. written_as (table-full baby_bear gs kept (search rules)) c.put_bytes-then-count-gt-MOST_CIRCUITS.ensures
+pub returns-then-is_empty : goal.returns-then-is_empty
+returns-then-is_empty c =
+    let l = c.args.requests.now in
+    let empty : length (map given l) ≡ 0 = length-map l given ∙ eqb-true (length l) 0 (sym c.if-is_empty.ensures) in
+    written_as (table_empty baby_bear (map given l) empty) c.put_bytes.ensures
 
 pub returns : goal.returns
-returns c = λ gs kept. written_as (table-rows baby_bear gs kept (search rules) (search rules)) c.put_table.ensures
+returns c =
+    let l = c.args.requests.now in
+    let some : length l ≡ 0 → ⊥ = eqb-false (length l) 0 (sym c.if-is_empty.ensures) in
+    written_as (table-rows baby_bear (map given l) (omega (arith, length-map l given)) (omega (arith, length-map l given)))
+    c.put_table.ensures

@@ -1,10 +1,5 @@
--- `index::fill_index_values` meets its contract: the places below i hold their values. The measure is what is left of the slices.
--- Assumes nothing.
-use mathlib.Core.Path.{◌≡◌, ap, ap₂, ◌∙◌}
-use mathlib.Core.List.{List}
-use Prim.Native.Nat.{ℕ, ◌+◌, ◌≤◌, ◌<◌}
-use native.Mathlib.Omega.{arith}
-use lib.ListN.{length, set, length-set}
+-- `index::fill_index_values` meets its contract: the places below i hold their values. Assumes nothing.
+use Rattle.std.proofs.Common.{◌≡◌, ap, ap₂, ◌∙◌, List, ℕ, ◌+◌, ◌≤◌, ◌<◌, arith, length, set}
 use Rattle.field.specs.Prime.{Prime}
 use Rattle.field.specs.Element.{Elem, of, ◌⊗◌, word_of, words}
 use Rattle.field.proofs.Words.{of-result}
@@ -28,15 +23,6 @@ stored l i v =
       col = set l.col i v.col;
       rowcol = set l.rowcol i v.rowcol;
       rowcolval = set l.rowcolval i v.rowcolval;
-    }
-
-stored-lengths : (n : ℕ) (l : Index (List ℕ)) (i : ℕ) (v : Index ℕ) → Lengths n l → Lengths n (stored l i v)
-stored-lengths n l i v h =
-    record {
-      row-length = length-set l.row i v.row ∙ h.row-length;
-      col-length = length-set l.col i v.col ∙ h.col-length;
-      rowcol-length = length-set l.rowcol i v.rowcol ∙ h.rowcol-length;
-      rowcolval-length = length-set l.rowcolval i v.rowcolval ∙ h.rowcolval-length;
     }
 
 module _ {q : Prime} (n : ℕ) (f : ℕ → Index (Elem q)) (l : Index (List ℕ)) where
@@ -74,7 +60,7 @@ made c =
     }
 
 -- they are those of the values
-made_words : (c : After-multiply) (q : Prime) → let a = (c.before.before.before.before.before.before.before.before.before.before.before.before.before.before.before.before).args in
+made_words : (c : After-multiply) (q : Prime) → let a = c.args in
     Qualifies q → q.p ≡ a.p → (k : Circuit) → Listed q k a.rows.now a.columns.now
     → made c ≡ map_index word_of (values q k a.entries.now c.loop-i.i)
 unfolding row_element column_element
@@ -92,29 +78,23 @@ made_words c q Q same k listed =
     λ t. record { row = row t; col = col t; rowcol = rowcol t; rowcolval = rowcolval t }
 
 pub loop-i-init : goal.loop-i-init
-loop-i-init c =
-    (omega arith, c.requires.index_lengths, λ q Q e k listed. made_none _ _ _)
-
-pub loop-i-smaller : goal.loop-i-smaller
-loop-i-smaller c = simp length-set (omega arith)
+loop-i-init c q Q e k listed = made_none _ _ _
 
 pub loop-i-preserved : goal.loop-i-preserved
-loop-i-preserved c =
+loop-i-preserved c q Q e k listed =
     let l = c.loop-i in
-    let a = (c.before.before.before.before.before.before.before.before.before.before.before.before.before.before.before.before).args in
-    let n : ℕ = length a.row.now in
+    let a = c.args in
     let lists : Index (List ℕ) = index_lists l.row l.col l.rowcol l.rowcolval in
-    let kept = stored-lengths n lists l.i (made c) l.invariant.1 in (
-      omega (arith, l, c.loop-i-test),
-      kept,
-      λ q Q e k listed.
-          made_turn n (values q k a.entries.now) lists l.i l.invariant.1 (l.invariant.2 q Q e k listed) (omega arith) (made c)
-          (made_words c q Q e k listed),
-    )
+    let lengths : Lengths (length a.row.now) lists =
+    record { row-length = omega arith; col-length = omega arith; rowcol-length = omega arith; rowcolval-length = omega arith } in
+    made_turn (length a.row.now) (values q k a.entries.now) lists l.i lengths (l.invariant q Q e k listed) (omega arith) (made c)
+    (made_words c q Q e k listed)
 
 pub returns : goal.returns
 returns c q Q e k listed =
     let l = c.loop-i in
     let a = c.args in
     let lists : Index (List ℕ) = index_lists l.row l.col l.rowcol l.rowcolval in
-    made_end (length a.row.now) (values q k a.entries.now) lists l.i l.invariant.1 (l.invariant.2 q Q e k listed) (omega arith)
+    let lengths : Lengths (length a.row.now) lists =
+    record { row-length = omega arith; col-length = omega arith; rowcol-length = omega arith; rowcolval-length = omega arith } in
+    made_end (length a.row.now) (values q k a.entries.now) lists l.i lengths (l.invariant q Q e k listed) (omega arith)

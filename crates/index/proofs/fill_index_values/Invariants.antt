@@ -1,8 +1,5 @@
 -- What the loop of `index::fill_index_values` keeps. Assumes nothing.
-use mathlib.Core.Path.{◌≡◌}
-use mathlib.Core.List.{List}
-use Prim.Native.Nat.{ℕ, ◌-◌, ◌≤◌}
-use lib.ListN.{length}
+use Rattle.std.proofs.Common.{◌≡◌, List, ℕ, length}
 use Rattle.algebra.specs.Lists.{tabulate}
 use Rattle.field.specs.Prime.{Prime}
 use Rattle.field.specs.Element.{Elem, words}
@@ -14,7 +11,6 @@ use Rattle.protocol.proofs.IndexPolynomials.{entry_index}
 use Rattle.circuit.specs.Given.{entry_words}
 use Rattle.circuit.specs.IndexLists.{index_lists}
 use Rattle.index.specs.IndexValues.{Listed}
-use Rattle.index.proofs.IndexValues.{Lengths}
 use Rattle.index.proofs.fill_index_values.Given as goal
 
 -- the first i words of each list are those of the values
@@ -30,9 +26,5 @@ values q k entries i = entry_index k (entry_words entries i)
 
 abbrev pub invariant-loop-i : goal.invariant-loop-i
 invariant-loop-i l =
-    (l.i ≤ length l.row) × Lengths (length l.initial.row) (index_lists l.row l.col l.rowcol l.rowcolval)
-    × ((q : Prime) → Qualifies q → q.p ≡ l.p → (k : Circuit) → Listed q k l.rows l.columns
-    → Made q (length l.initial.row) (values q k l.entries) (index_lists l.row l.col l.rowcol l.rowcolval) l.i)
-
-abbrev pub decreases-loop-i : goal.decreases-loop-i
-decreases-loop-i l = length l.row - l.i
+    (q : Prime) → Qualifies q → q.p ≡ l.p → (k : Circuit) → Listed q k l.rows l.columns
+    → Made q (length l.initial.row) (values q k l.entries) (index_lists l.row l.col l.rowcol l.rowcolval) l.i

@@ -23,9 +23,6 @@ slice_bounds-rows-end c = size_bound _ c.requires.circuit_shaped.R-size
 pub slice_bounds-fill_powers-end : goal.slice_bounds-fill_powers-end
 slice_bounds-fill_powers-end c = lent_length 1024 (size_bound _ c.requires.circuit_shaped.R-size)
 
-pub fill_powers-requires : goal.fill_powers-requires
-fill_powers-requires c = c.requires.lt_p
-
 pub root_of-requires-2 : goal.root_of-requires-2
 root_of-requires-2 c = c.requires.circuit_shaped.C-size
 
@@ -34,9 +31,6 @@ slice_bounds-columns-end c = size_bound _ c.requires.circuit_shaped.C-size
 
 pub slice_bounds-fill_powers-end-2 : goal.slice_bounds-fill_powers-end-2
 slice_bounds-fill_powers-end-2 c = lent_length 1024 (size_bound _ c.requires.circuit_shaped.C-size)
-
-pub fill_powers-requires-2 : goal.fill_powers-requires-2
-fill_powers-requires-2 c = c.requires.lt_p
 
 pub slice_bounds-rows-end-2 : goal.slice_bounds-rows-end-2
 slice_bounds-rows-end-2 c = back_holds 1024 (size_bound _ c.requires.circuit_shaped.R-size) c.fill_powers.new.out c.fill_powers.auto.out
@@ -94,42 +88,6 @@ index_matrix_into-requires-3 c =
       );
       index_lengths = h.index_lengths_3;
     }
-
-pub shape_of-rowA : goal.shape_of-rowA
-shape_of-rowA c = c.index_matrix_into.auto.row
-
-pub shape_of-colA : goal.shape_of-colA
-shape_of-colA c = c.index_matrix_into.auto.col
-
-pub shape_of-rowcolA : goal.shape_of-rowcolA
-shape_of-rowcolA c = c.index_matrix_into.auto.rowcol
-
-pub shape_of-rowcolvalA : goal.shape_of-rowcolvalA
-shape_of-rowcolvalA c = c.index_matrix_into.auto.rowcolval
-
-pub shape_of-rowB : goal.shape_of-rowB
-shape_of-rowB c = c.index_matrix_into-2.auto.row
-
-pub shape_of-colB : goal.shape_of-colB
-shape_of-colB c = c.index_matrix_into-2.auto.col
-
-pub shape_of-rowcolB : goal.shape_of-rowcolB
-shape_of-rowcolB c = c.index_matrix_into-2.auto.rowcol
-
-pub shape_of-rowcolvalB : goal.shape_of-rowcolvalB
-shape_of-rowcolvalB c = c.index_matrix_into-2.auto.rowcolval
-
-pub shape_of-rowC : goal.shape_of-rowC
-shape_of-rowC c = c.index_matrix_into-3.auto.row
-
-pub shape_of-colC : goal.shape_of-colC
-shape_of-colC c = c.index_matrix_into-3.auto.col
-
-pub shape_of-rowcolC : goal.shape_of-rowcolC
-shape_of-rowcolC c = c.index_matrix_into-3.auto.rowcol
-
-pub shape_of-rowcolvalC : goal.shape_of-rowcolvalC
-shape_of-rowcolvalC c = c.index_matrix_into-3.auto.rowcolval
 
 pub returns : goal.returns
 returns c q known k er ec matrices =

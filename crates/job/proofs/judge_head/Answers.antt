@@ -1,31 +1,18 @@
 -- `job::judge_head` meets its contract. Assumes nothing.
-use mathlib.Core.Path.{sym, ◌∙◌}
-use mathlib.Core.List.{List, [], ◌∷◌}
-use mathlib.Core.Option.{Option}
-use Prim.Native.Nat.{ℕ}
-use lib.Dec.{leb}
-use lib.ListN.{get_or}
+use Rattle.std.proofs.Common.{[], ◌∷◌, ℕ, leb, get_or}
 use Rattle.domain.specs.Size.{max_size}
-use Rattle.protocol.specs.Refusals.{Refusal, list_refusal}
+use Rattle.protocol.specs.Refusals.{list_refusal}
 use Rattle.shared.proofs.EarlyReturns.{stops, goes_on, last_answer_lem}
 use Rattle.job.specs.JobText.{head_refusal}
 use Rattle.job.proofs.judge_head.Goals as goal
 
--- 5
-abbrev counts : List ℕ → List (Option Refusal)
-counts ws = list_refusal (leb (get_or ws 3 0) max_size ∷ leb (get_or ws 4 0) max_size ∷ leb (get_or ws 5 0) max_size ∷ []) ∷ []
-
-pub returns-then-not-is_fine : goal.returns-then-not-is_fine
+pub returns-in_err-check_sizes : goal.returns-in_err-check_sizes
 unfolding head_refusal
-returns-then-not-is_fine c =
-    let ws = c.args.words.now in
-    let d = c.check_sizes-fault in
-    stops d.result d.ensures (counts ws) (sym c.is_fine.ensures ∙ c.if-not-is_fine.true)
+returns-in_err-check_sizes c =
+    let w : ℕ → ℕ = λ k. get_or c.args.words.now k 0 in
+    stops _ _ c.from_residual.ensures.1 c.in_err-check_sizes.ensures
+    (list_refusal (leb (w 3) max_size ∷ leb (w 4) max_size ∷ leb (w 5) max_size ∷ []) ∷ [])
 
 pub returns : goal.returns
 unfolding head_refusal
-returns c =
-    let d = c.check_sizes-fault in
-    let ws = c.args.words.now in
-    goes_on d.result d.ensures (counts ws) (sym c.is_fine.ensures ∙ c.if-not-is_fine.false)
-    (last_answer_lem c.check_counts.ensures)
+returns c = goes_on c.in_ok-check_sizes.ensures _ (last_answer_lem c.check_counts.ensures)

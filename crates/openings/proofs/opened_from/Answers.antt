@@ -13,8 +13,8 @@ use Rattle.domain.proofs.Qualification.{known-qualifies}
 use Rattle.protocol.specs.Three.{A, B, C, map_three}
 use Rattle.protocol.specs.Circuit.{Circuit}
 use Rattle.protocol.specs.Messages.{matrix_quotient, messages, openings}
-use Rattle.protocol.specs.Calls.{ProverInput, entries_of, circuit_of}
-use Rattle.circuit.specs.Given.{EntryWords, Within, Fits, given, prover_input}
+use Rattle.protocol.specs.Calls.{entries_of, circuit_of}
+use Rattle.circuit.specs.Given.{EntryWords, Within, Fits, circuit_words, input_words}
 use Rattle.circuit.proofs.Fitting.{R-fits, C-fits, X-fits, X-below, shares}
 use Rattle.prover.specs.CallGiven.{assignment_in}
 use Rattle.prover.proofs.CallLaws.{assignment_on-C}
@@ -49,7 +49,8 @@ matrix_at-of_a-requires c =
     record {
       lt_p = h.lt_p;
       r_value = (R-fits F, C-fits F);
-      entries_within = entries_fit F c.args.rows.now c.args.columns.now h.rows_len.0 h.rows_len.1 F.lists.list-a F.within.in_a;
+      entries_within =
+          entries_fit F c.args.lagrange.now.rows.now c.args.lagrange.now.columns.now h.rows_len.0 h.rows_len.1 F.lists.list-a F.within.in_a;
       outside_domain = outside-matrix h.points_outside A;
     }
 
@@ -60,7 +61,8 @@ matrix_at-of_b-requires c =
     record {
       lt_p = h.lt_p;
       r_value = (R-fits F, C-fits F);
-      entries_within = entries_fit F c.args.rows.now c.args.columns.now h.rows_len.0 h.rows_len.1 F.lists.list-b F.within.in_b;
+      entries_within =
+          entries_fit F c.args.lagrange.now.rows.now c.args.lagrange.now.columns.now h.rows_len.0 h.rows_len.1 F.lists.list-b F.within.in_b;
       outside_domain = outside-matrix h.points_outside B;
     }
 
@@ -71,7 +73,8 @@ matrix_at-of_c-requires c =
     record {
       lt_p = h.lt_p;
       r_value = (R-fits F, C-fits F);
-      entries_within = entries_fit F c.args.rows.now c.args.columns.now h.rows_len.0 h.rows_len.1 F.lists.list-c F.within.in_c;
+      entries_within =
+          entries_fit F c.args.lagrange.now.rows.now c.args.lagrange.now.columns.now h.rows_len.0 h.rows_len.1 F.lists.list-c F.within.in_c;
       outside_domain = outside-matrix h.points_outside C;
     }
 
@@ -100,7 +103,7 @@ witness_at-requires c =
       lt_p = h.lt_p;
       c_value = (C-fits F, X-fits F, X-below F);
       z_len = F.z-length;
-      outside_domain = outside_smaller c.args.x (X-fits F) (C-fits F) (X-below F) h.points_outside.β-outside;
+      outside_domain = outside_smaller c.args.input.now.circuit.x (X-fits F) (C-fits F) (X-below F) h.points_outside.β-outside;
     }
 
 pub row_quotient_at-requires : goal.row_quotient_at-requires
@@ -114,34 +117,32 @@ row_quotient_at-requires c =
       all = ((shares F).in_a, (shares F).in_b);
     }
 
-pub joined_at-requires : goal.joined_at-requires
-joined_at-requires c = c.requires.lt_p
-
 pub returns : goal.returns
 unfolding circuit_of messages openings
 returns c q K L η weighed =
     let a = c.args in
+    let i = a.input.now in
+    let w = i.circuit in
+    let h = a.challenges.now in
     let F = c.requires.fits in
     let v = K.value in
     let Q = known-qualifies K in
-    let k : Circuit = circuit_of (given a.r a.c a.x a.ea.now a.eb.now a.ec.now) in
-    let α : Elem q = of a.alpha in
-    let β : Elem q = of a.beta in
-    let γ : Elem q = of a.gamma in
-    let H : Challenged q a.p k a.alpha a.beta =
+    let k : Circuit = circuit_of (circuit_words w) in
+    let α : Elem q = of h.alpha in
+    let β : Elem q = of h.beta in
+    let γ : Elem q = of h.gamma in
+    let H : Challenged q a.p k h.alpha h.beta =
     record {
       well_formed = F.well_formed;
       α-outside = outside_here K c.requires.points_outside.α-outside;
       β-outside = outside_here K c.requires.points_outside.β-outside;
     } in
     let scale =
-    scaled q a.r a.c a.alpha a.beta c.vanishing_value.result c.vanishing_value-2.result (c.multiply-scale.ensures q v)
+    scaled q w.r w.c h.alpha h.beta c.vanishing_value.result c.vanishing_value-2.result (c.multiply-scale.ensures q v)
     (c.vanishing_value.ensures q v) (c.vanishing_value-2.ensures q v) in
-    let G = matrix-given K Q a.r a.c a.x a.ea.now a.eb.now a.ec.now in
-    let input : ProverInput =
-    prover_input a.r a.c a.x a.ea.now a.eb.now a.ec.now a.z.now a.mask a.m.now in
-    let ẑ : Poly q = assignment_in q input in
-    let on = assignment_on-C F v Q a.mask in
+    let G = matrix-given K Q w.r w.c w.x w.matrices.a.now w.matrices.b.now w.matrices.c.now in
+    let ẑ : Poly q = assignment_in q (input_words i) in
+    let on = assignment_on-C F v Q i.mask in
     let first = c.matrix_at-of_a.ensures q k A (G A) H L scale in
     let second = c.matrix_at-of_b.ensures q k B (G B) H L scale in
     let third = c.matrix_at-of_c.ensures q k C (G C) H L scale in
@@ -149,7 +150,7 @@ returns c q K L η weighed =
     let line = c.line_at-at_beta.ensures q K L.by_column k F.well_formed refl α (map_three of η) weighed ẑ
     (record { on_columns = on; at_point = assigned }) in
     append
-    (nine_same (c.witness_at.ensures q K k F.well_formed refl refl (of a.mask) assigned) line.is-mask line.is-remainder
+    (nine_same (c.witness_at.ensures q K k F.well_formed refl refl (of i.mask) assigned) line.is-mask line.is-remainder
     line.is-quotient (c.row_quotient_at.ensures q K L.by_row k F.well_formed refl refl refl ẑ on)
     (c.joined_at.ensures q K k refl α β γ
     (three_same (λ M. (eval (matrix_quotient k α β M) γ).word) first.is-quotient second.is-quotient third.is-quotient))

@@ -1,8 +1,5 @@
 -- What the loop of `poly::add_scaled` keeps. Assumes nothing.
-use mathlib.Core.Path.{◌≡◌, ap, ap₂, ◌∙◌}
-use mathlib.Core.List.{List, map}
-use Prim.Native.Nat.{ℕ, ◌-◌, ◌≤◌}
-use lib.ListN.{length, get_or}
+use Rattle.std.proofs.Common.{◌≡◌, ap, ap₂, ◌∙◌, List, map, ℕ, get_or}
 use Rattle.field.specs.Prime.{Prime}
 use Rattle.field.specs.Element.{Elem, of, 𝟘, ◌⊕◌, ◌⊗◌, words}
 use Rattle.field.proofs.ElementLaws.{prime_ring}
@@ -25,8 +22,4 @@ module _ (q : Prime) (f : List ℕ) (k : ℕ) (g : List ℕ) where
 
 abbrev pub invariant-loop-i : goal.invariant-loop-i
 invariant-loop-i l =
-    (l.i ≤ length l.initial.f) × (length l.f ≡ length l.initial.f) ×
-    ((q : Prime) → q.p ≡ l.p → l.f ≡ joined (words (sum_of q l.initial.f l.k l.g)) l.initial.f l.i)
-
-abbrev pub decreases-loop-i : goal.decreases-loop-i
-decreases-loop-i l = length l.initial.f - l.i
+    (q : Prime) → q.p ≡ l.p → l.f ≡ joined (words (sum_of q l.initial.f l.k l.g)) l.initial.f l.i

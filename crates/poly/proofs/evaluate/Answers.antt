@@ -1,8 +1,5 @@
 -- `poly::evaluate` meets its contract: it is evaluation taken up midway, begun with 0 and 1. Assumes nothing.
-use mathlib.Core.Path.{ap, ◌∙◌}
-use mathlib.Core.List.{map}
-use Prim.Native.Nat.{ℕ}
-use native.Mathlib.Omega.{arith}
+use Rattle.std.proofs.Common.{ap, ◌∙◌, map, ℕ, arith}
 use Rattle.algebra.specs.Polynomial.{Running}
 use Rattle.algebra.proofs.PartLaws.{whole}
 use Rattle.field.specs.Element.{Elem, of}

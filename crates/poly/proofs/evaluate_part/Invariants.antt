@@ -1,8 +1,5 @@
 -- What the loop of `poly::evaluate_part` keeps. Assumes nothing.
-use mathlib.Core.Path.{◌≡◌}
-use mathlib.Core.List.{List, map}
-use Prim.Native.Nat.{ℕ, ◌-◌, ◌<◌, ◌≤◌}
-use lib.ListN.{length, take}
+use Rattle.std.proofs.Common.{◌≡◌, List, map, ℕ, ◌<◌, take}
 use Rattle.algebra.specs.Polynomial.{Running, running, map_running}
 use Rattle.field.specs.Prime.{Prime}
 use Rattle.field.specs.Element.{Elem, of, word_of}
@@ -13,10 +10,7 @@ use Rattle.poly.proofs.evaluate_part.Given as goal
 abbrev pub after : (q : Prime) → Running ℕ → ℕ → List ℕ → ℕ → Running (Elem q)
 after q r x part i = eval_part (map_running of r) (of x) (map of (take i part))
 
-abbrev pub invariant-loop-i : goal.invariant-loop-i
-invariant-loop-i l =
-    (l.i ≤ length l.part)
-    × ((q : Prime) → q.p ≡ l.p → (l.initial.sum < l.p) × (l.initial.power < l.p) → running l.sum l.power ≡ map_running word_of (after q (running l.initial.sum l.initial.power) l.x l.part l.i))
-
-abbrev pub decreases-loop-i : goal.decreases-loop-i
-decreases-loop-i l = length l.part - l.i
+abbrev pub invariant-loop-coefficient : goal.invariant-loop-coefficient
+invariant-loop-coefficient l =
+    (q : Prime) → q.p ≡ l.p → (l.initial.sum < l.p) × (l.initial.power < l.p)
+    → running l.sum l.power ≡ map_running word_of (after q (running l.initial.sum l.initial.power) l.x l.part l.coefficient-index)

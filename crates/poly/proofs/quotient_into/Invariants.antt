@@ -1,8 +1,5 @@
 -- What the loop of `poly::quotient_into` keeps. Assumes nothing.
-use mathlib.Core.Path.{◌≡◌}
-use mathlib.Core.List.{map}
-use Prim.Native.Nat.{◌≤◌}
-use lib.ListN.{length}
+use Rattle.std.proofs.Common.{◌≡◌, map}
 use Rattle.field.specs.Prime.{Prime}
 use Rattle.field.specs.Element.{of, words}
 use Rattle.domain.specs.Polynomial.{quotient}
@@ -11,8 +8,4 @@ use Rattle.poly.proofs.quotient_into.Given as goal
 
 abbrev pub invariant-loop-i : goal.invariant-loop-i
 invariant-loop-i l =
-    (l.i ≤ length l.initial.out) × (length l.out ≡ length l.initial.out) ×
-    ((q : Prime) → q.p ≡ l.p → l.out ≡ joined l.initial.out (words (quotient l.n (map (of {q = q}) l.f))) l.i)
-
-abbrev pub decreases-loop-i : goal.decreases-loop-i
-decreases-loop-i l = l.i
+    (q : Prime) → q.p ≡ l.p → l.out ≡ joined l.initial.out (words (quotient l.n (map (of {q = q}) l.f))) l.i

@@ -1,10 +1,5 @@
--- `poly::remainder_into` meets its contract: the coefficients below i are filled. The measure is the number of those left.
--- Assumes nothing.
-use mathlib.Core.Path.{◌≡◌, refl, sym, ◌∙◌}
-use mathlib.Core.List.{List, map}
-use Prim.Native.Nat.{ℕ}
-use native.Mathlib.Omega.{arith}
-use lib.ListN.{length, length-set}
+-- `poly::remainder_into` meets its contract: the coefficients below i are filled. Assumes nothing.
+use Rattle.std.proofs.Common.{◌≡◌, sym, ◌∙◌, List, map, ℕ, arith, length}
 use Rattle.algebra.proofs.Division.{length-remainder}
 use Rattle.field.specs.Prime.{Prime}
 use Rattle.field.specs.Element.{of, words}
@@ -17,20 +12,16 @@ length_target : (q : Prime) (n : ℕ) (f : List ℕ) → length (words (remainde
 length_target q n f = length-words (remainder n (map of f)) ∙ length-remainder (prime_ring q) n (map of f)
 
 pub loop-i-init : goal.loop-i-init
-loop-i-init c = (omega arith, refl, λ q e. fill_none _ _)
+loop-i-init c q e = fill_none _ _
 
 pub loop-i-preserved : goal.loop-i-preserved
-loop-i-preserved c =
+loop-i-preserved c q e =
     let a = c.args in
     let l = c.loop-i in
-    let n : ℕ = length a.out.now in (
-      omega arith,
-      length-set l.out l.i c.folded.result ∙ l.invariant.1,
-      λ q e.
-          let target : Poly q = remainder n (map of a.f.now) in
-          fill_turn (words target) l.out l.i c.folded.result (omega arith) (omega (arith, length_target q n a.f.now))
-          (l.invariant.2 q e) (c.folded.ensures q e ∙ sym (word-at target l.i)),
-    )
+    let n : ℕ = length a.out.now in
+    let target : Poly q = remainder n (map of a.f.now) in
+    fill_turn (words target) l.out l.i c.folded.result (omega arith) (omega (arith, length_target q n a.f.now))
+    (l.invariant q e) (c.folded.ensures q e ∙ sym (word-at target l.i))
 
 pub returns : goal.returns
 returns c q e =
@@ -38,4 +29,4 @@ returns c q e =
     let l = c.loop-i in
     let n : ℕ = length a.out.now in
     fill_end (words (remainder n (map of a.f.now))) l.out l.i (omega arith) (omega (arith, length_target q n a.f.now))
-    (l.invariant.2 q e)
+    (l.invariant q e)

@@ -1,8 +1,5 @@
 -- What the loop of `poly::remainder_into` keeps. Assumes nothing.
-use mathlib.Core.Path.{◌≡◌}
-use mathlib.Core.List.{map}
-use Prim.Native.Nat.{◌-◌, ◌≤◌}
-use lib.ListN.{length}
+use Rattle.std.proofs.Common.{◌≡◌, map}
 use Rattle.field.specs.Prime.{Prime}
 use Rattle.field.specs.Element.{of, words}
 use Rattle.domain.specs.Polynomial.{remainder}
@@ -10,8 +7,4 @@ use Rattle.domain.proofs.Fill.{Filled}
 use Rattle.poly.proofs.remainder_into.Given as goal
 
 abbrev pub invariant-loop-i : goal.invariant-loop-i
-invariant-loop-i l =
-    (l.i ≤ l.n) × (length l.out ≡ l.n) × ((q : Prime) → q.p ≡ l.p → Filled (words (remainder l.n (map (of {q = q}) l.f))) l.out l.i)
-
-abbrev pub decreases-loop-i : goal.decreases-loop-i
-decreases-loop-i l = l.n - l.i
+invariant-loop-i l = (q : Prime) → q.p ≡ l.p → Filled (words (remainder l.n (map (of {q = q}) l.f))) l.out l.i

@@ -1,8 +1,5 @@
 -- What the loop of `transform::fold_levels` keeps. Assumes nothing.
-use mathlib.Core.Path.{◌≡◌}
-use mathlib.Core.List.{List}
-use Prim.Native.Nat.{ℕ, ◌+◌, ◌/◌, ◌≤◌, ◌<◌}
-use lib.ListN.{length, get_or}
+use Rattle.std.proofs.Common.{◌≡◌, List, ℕ, ◌+◌, ◌/◌, ◌≤◌, ◌<◌, length, get_or}
 use Rattle.transform.proofs.fold_levels.Given as goal
 
 -- the places from j to h hold what stands at twice their place
@@ -11,8 +8,5 @@ Doubled l j h = (i : ℕ) → 0 < i → j ≤ i → i < h → get_or l i 0 ≡ g
 
 abbrev pub invariant-loop-j : goal.invariant-loop-j
 invariant-loop-j l =
-    (l.j ≤ length l.initial.powers / 2) × (length l.powers ≡ length l.initial.powers) × Doubled l.powers l.j (length l.initial.powers / 2)
+    Doubled l.powers l.j (length l.initial.powers / 2)
     × ((i : ℕ) → length l.initial.powers / 2 ≤ i → get_or l.powers i 0 ≡ get_or l.initial.powers i 0)
-
-abbrev pub decreases-loop-j : goal.decreases-loop-j
-decreases-loop-j l = l.j

@@ -1,11 +1,7 @@
 -- `transform::join` meets its contract: the first entries of the halves are joined with no product, then, with the loop, the first i
--- entries of each. The measure is what is left of a half. Assumes nothing.
-use borrow.Author.Rules.{rules}
-use mathlib.Core.Path.{◌≡◌, refl, sym, ap, ◌∙◌}
-use mathlib.Core.List.{List, ◌++◌, map-append}
-use Prim.Native.Nat.{ℕ, ◌+◌, ◌/◌, ◌≤◌, ◌<◌}
-use native.Mathlib.Omega.{arith}
-use lib.ListN.{length, get_or, set, length-set}
+-- entries of each. Assumes nothing.
+use Rattle.std.proofs.Common.{◌≡◌, sym, ap, ◌∙◌, List, ◌++◌, ℕ, ◌+◌, ◌/◌, ◌≤◌, ◌<◌, arith, length, get_or, set}
+use mathlib.Core.List.{map-append}
 use Rattle.algebra.specs.Lists.{tabulate}
 use Rattle.algebra.specs.Ring.{pow}
 use Rattle.algebra.specs.Halving.{join}
@@ -83,59 +79,31 @@ module _ {q : Prime} (h : ℕ) (v : Elem q) (e o : List (Elem q)) (even-length :
         (is-plus ∙ ap (λ (y : Elem q). (get_or e 0 𝟘 ⊕ y).word) plain)
         (is-minus ∙ ap (λ (y : Elem q). (get_or e 0 𝟘 ⊖ y).word) plain)
 
-pub bounds-out-half-2 : goal.bounds-out-half-2
-bounds-out-half-2 c = simp length-set (omega arith)
-
-pub loop-i-init : goal.loop-i-init
-loop-i-init c = (
-  search rules,
-  simp length-set (omega arith),
-  refl,
-  λ q e small w level prepared es os even-length odd-length one. one,
-)
-
-pub bounds-powers-j : goal.bounds-powers-j
-bounds-powers-j c = omega arith
-
-pub bounds-quotients-j : goal.bounds-quotients-j
-bounds-quotients-j c = omega arith
-
-pub bounds-out-j-in-loop-i : goal.bounds-out-j-in-loop-i
-bounds-out-j-in-loop-i c = simp length-set (omega arith)
-
 pub loop-i-preserved : goal.loop-i-preserved
-loop-i-preserved c =
+loop-i-preserved c q e small w level prepared es os even-length odd-length one =
     let l = c.loop-i in
     let a = c.args in
     let i : ℕ = l.i in
     let h : ℕ = length a.out.now / 2 in
-    let below : i < h = omega arith in (
-      omega arith,
-      simp length-set l.invariant.1,
-      simp length-set (l.invariant.2 ∙ simp length-set),
-      λ q e small w level prepared es os even-length odd-length one.
-          let before : l.out ≡ so_far w es os h i = l.invariant.3 q e small w level prepared es os even-length odd-length one in
-          let even : get_or l.out i 0 ≡ (get_or es i 𝟘).word =
-          ap (λ (r : List ℕ). get_or r i 0) before ∙ even_word h w es os even-length odd-length i below in
-          let odd : get_or l.out (h + i) 0 ≡ (get_or os i 𝟘).word =
-          ap (λ (r : List ℕ). get_or r (h + i) 0) before ∙ odd_word h w es os even-length odd-length i below in
-          let v : Elem q = pow (prime_ring q) w i in
-          let power : get_or a.powers.now (h + i) 0 ≡ v.word = level i below in
-          let reduced : get_or a.powers.now (h + i) 0 < a.p = omega (arith, result-below v power) in
-          let call = c.multiply_prepared-odd in
-          let x : Elem q = get_or es i 𝟘 in
-          let y : Elem q = v ⊗ get_or os i 𝟘 in
-          let product : call.result ≡ y.word =
-          result-product v (get_or os i 𝟘) (call.ensures q e small reduced (prepared (h + i) (omega arith) reduced)) power odd in
-          let plus = c.add_reduced-in-loop-i in
-          let minus = c.subtract_reduced-in-loop-i in
-          ap (λ (r : List ℕ). set (set r i plus.result) (h + i) minus.result) before
-          ∙ turned h w es os even-length odd-length i below plus.result minus.result
-          (result-sum e x y even product (plus.ensures q e)) (result_difference e x y even product (minus.ensures q e)),
-    )
-
-pub shape_of-out : goal.shape_of-out
-shape_of-out c = c.loop-i.invariant.2 ∙ simp length-set
+    let below : i < h = omega arith in
+    let before : l.out ≡ so_far w es os h i = l.invariant q e small w level prepared es os even-length odd-length one in
+    let even : get_or l.out i 0 ≡ (get_or es i 𝟘).word =
+    ap (λ (r : List ℕ). get_or r i 0) before ∙ even_word h w es os even-length odd-length i below in
+    let odd : get_or l.out (h + i) 0 ≡ (get_or os i 𝟘).word =
+    ap (λ (r : List ℕ). get_or r (h + i) 0) before ∙ odd_word h w es os even-length odd-length i below in
+    let v : Elem q = pow (prime_ring q) w i in
+    let power : get_or a.powers.now (h + i) 0 ≡ v.word = level i below in
+    let reduced : get_or a.powers.now (h + i) 0 < a.p = omega (arith, result-below v power) in
+    let call = c.multiply_prepared-odd in
+    let x : Elem q = get_or es i 𝟘 in
+    let y : Elem q = v ⊗ get_or os i 𝟘 in
+    let product : call.result ≡ y.word =
+    result-product v (get_or os i 𝟘) (call.ensures q e small reduced (prepared (h + i) (omega arith) reduced)) power odd in
+    let plus = c.add_reduced-in-loop-i in
+    let minus = c.subtract_reduced-in-loop-i in
+    ap (λ (r : List ℕ). set (set r i plus.result) (h + i) minus.result) before
+    ∙ turned h w es os even-length odd-length i below plus.result minus.result
+    (result-sum e x y even product (plus.ensures q e)) (result_difference e x y even product (minus.ensures q e))
 
 pub returns : goal.returns
 returns c q e small w level prepared es os even-length odd-length split =
@@ -153,5 +121,5 @@ returns c q e small w level prepared es os even-length odd-length split =
     ap (λ (r : List ℕ). set (set r 0 plus.result) h minus.result) split
     ∙ first_turned h w es os even-length odd-length some plus.result minus.result
     (result-sum e x y even odd (plus.ensures q e)) (result_difference e x y even odd (minus.ensures q e)) in
-    l.invariant.3 q e small w level prepared es os even-length odd-length one
+    l.invariant q e small w level prepared es os even-length odd-length one
     ∙ joined_words h w es os even-length odd-length l.i (omega arith)

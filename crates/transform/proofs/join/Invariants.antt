@@ -1,8 +1,5 @@
 -- What the loop of `transform::join` keeps. Assumes nothing.
-use mathlib.Core.Path.{◌≡◌}
-use mathlib.Core.List.{List}
-use Prim.Native.Nat.{ℕ, ◌+◌, ◌-◌, ◌^◌, ◌≤◌, ◌<◌}
-use lib.ListN.{length, get_or}
+use Rattle.std.proofs.Common.{◌≡◌, List, ℕ, ◌^◌, ◌<◌, length, get_or}
 use Rattle.algebra.specs.Lists.{tabulate}
 use Rattle.algebra.specs.Ring.{pow}
 use Rattle.field.specs.Prime.{Prime}
@@ -25,9 +22,6 @@ module _ {q : Prime} (v : Elem q) (e o : List (Elem q)) where
 
 abbrev pub invariant-loop-i : goal.invariant-loop-i
 invariant-loop-i l =
-    (l.i ≤ l.half) × (l.half + l.half ≤ length l.out) × (length l.out ≡ length l.initial.out)
-    × ((q : Prime) → q.p ≡ l.p → l.p < 2 ^ 31 → (w : Elem q) → LevelOf l.half w l.powers → Prepared l.p l.powers l.quotients
-    → (e o : List (Elem q)) → length e ≡ l.half → length o ≡ l.half → l.initial.out ≡ so_far w e o l.half 1 → l.out ≡ so_far w e o l.half l.i)
-
-abbrev pub decreases-loop-i : goal.decreases-loop-i
-decreases-loop-i l = l.half - l.i
+    (q : Prime) → q.p ≡ l.p → l.p < 2 ^ 31 → (w : Elem q) → LevelOf l.half w l.powers → Prepared l.p l.powers l.quotients
+    → (e o : List (Elem q)) → length e ≡ l.half → length o ≡ l.half → l.initial.out ≡ so_far w e o l.half 1
+    → l.out ≡ so_far w e o l.half l.i

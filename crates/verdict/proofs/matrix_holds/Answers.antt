@@ -1,36 +1,24 @@
 -- `verdict::matrix_holds` meets its contract. Assumes nothing.
 use Rattle.domain.specs.Domain.{vanishing}
-use Rattle.domain.specs.Size.{is_size}
 use Rattle.field.proofs.Words.{of-result}
 use Rattle.field.specs.Element.{Elem, of, ◌⊕◌, ◌⊗◌}
 use Rattle.protocol.specs.Checks.{map_transcript, map_openings, selector, matrix_left, joined_left, joined_right}
 use Rattle.protocol.specs.Circuit.{largest}
-use Rattle.shared.specs.Meanings.{three, sizes, transcript, openings}
+use Rattle.shared.specs.Meanings.{sizes, transcript, openings}
 use Rattle.protocol.specs.Three.{MatrixName, A, B, C, at}
 use Rattle.protocol.proofs.AllowedSizes.{allowed}
-use lib.Dec.{eqb}
-use mathlib.Core.Bool.{true}
-use mathlib.Core.Path.{◌≡◌, refl, ap, ap₂, ◌∙◌}
-use native.Mathlib.Omega.{arith}
+use Rattle.std.proofs.Common.{eqb, refl, ap, ap₂, ◌∙◌}
 use Rattle.verdict.proofs.matrix_holds.Goals as goal
-use Rattle.verdict.proofs.matrix_holds.Goals.{Start}
 
 -- the size of one matrix's part is a size
-takes : (start : Start) (M : MatrixName) → is_size (at (three start.args.s.k) M) ≡ true
-takes start M = (allowed (sizes start.args.s) start.requires.s_value).K-size M
+pub matrix_term-a-requires-clause-size_value : goal.matrix_term-a-requires-clause-size_value
+matrix_term-a-requires-clause-size_value c = (allowed (sizes c.args.s) c.requires.s_value).K-size A
 
-pub matrix_term-a-requires : goal.matrix_term-a-requires
-matrix_term-a-requires c = record { lt_p = c.requires.lt_p; size_value = takes (goal.at.matrix_term-a-requires c).Start A }
+pub matrix_term-b-requires-clause-size_value : goal.matrix_term-b-requires-clause-size_value
+matrix_term-b-requires-clause-size_value c = (allowed (sizes c.args.s) c.requires.s_value).K-size B
 
-pub matrix_term-b-requires : goal.matrix_term-b-requires
-matrix_term-b-requires c = record { lt_p = c.requires.lt_p; size_value = takes (goal.at.matrix_term-b-requires c).Start B }
-
-pub matrix_term-c-requires : goal.matrix_term-c-requires
-matrix_term-c-requires c = record { lt_p = c.requires.lt_p; size_value = takes (goal.at.matrix_term-c-requires c).Start C }
-
-pub multiply-requires : goal.multiply-requires
-multiply-requires c =
-    omega (arith, c.requires.lt_p)
+pub matrix_term-c-requires-clause-size_value : goal.matrix_term-c-requires-clause-size_value
+matrix_term-c-requires-clause-size_value c = (allowed (sizes c.args.s) c.requires.s_value).K-size C
 
 pub returns : goal.returns
 unfolding joined_left joined_right

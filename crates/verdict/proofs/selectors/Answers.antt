@@ -17,12 +17,11 @@ use Rattle.protocol.proofs.AllowedSizes.{allowed, largest_size, size_within}
 use Rattle.shared.specs.Meanings.{three, sizes}
 use Rattle.verdict.proofs.SharedInverse.{selector_from}
 use Prim.Native.Nat.{ℕ}
-use borrow.Author.Rules.{rules}
 use mathlib.Core.Bool.{true}
 use mathlib.Core.Logic.{◌≢◌}
 use mathlib.Core.Path.{◌≡◌, sym, ap, ap₂, ◌∙◌}
 use Rattle.verdict.proofs.selectors.Goals as goal
-use Rattle.verdict.proofs.selectors.Goals.{After-multiply-product, After-vanishing_value-c, Start}
+use Rattle.verdict.proofs.selectors.Goals.{After-multiply-product, Start}
 
 -- |K| is a size
 whole_size : (s : Start) → is_size (largest (three s.args.s.k)) ≡ true
@@ -38,10 +37,10 @@ not-zero s M w q e made =
     let size = (allowed k s.requires.s_value).K-size M in
     vanishing-word-not-zero (outside_smaller m size (whole_size s) (size_within k M) s.requires.outside_domain) size w made q e
 
--- the values of v_{K_M}(γ)
-module _ (c : After-vanishing_value-c) (q : Prime) (e : q.p ≡ c.args.p) where
+-- the values of v_{K_M}(γ), and their product
+module _ (c : After-multiply-product) (q : Prime) (e : q.p ≡ c.args.p) where
   abbrev start : Start
-  start = c.before.before.before.before
+  start = (goal.at.After-multiply-product c).Start
 
   abbrev a : Elem q
   a = of c.vanishing_value-a.result
@@ -64,42 +63,30 @@ module _ (c : After-vanishing_value-c) (q : Prime) (e : q.p ≡ c.args.p) where
   both_some : (x y : Elem q) → x ≢ 𝟘 → y ≢ 𝟘 → x ⊗ y ≢ 𝟘
   both_some = mul-not-zero (prime_ring q) (prime_field q)
 
-product_is : (c : After-multiply-product) (q : Prime) (e : q.p ≡ c.args.p)
-    → of {q = q} c.multiply-product.result ≡ a (goal.at.After-multiply-product c).After-vanishing_value-c q e ⊗ b (goal.at.After-multiply-product c).After-vanishing_value-c q e ⊗ d (goal.at.After-multiply-product c).After-vanishing_value-c q e
-product_is c q e =
-    of-result (of {q = q} _ ⊗ d (goal.at.After-multiply-product c).After-vanishing_value-c q e) (c.multiply-product.ensures q e)
-    ∙ ap (λ (x : Elem q). x ⊗ d (goal.at.After-multiply-product c).After-vanishing_value-c q e)
-    (of-result (a (goal.at.After-multiply-product c).After-vanishing_value-c q e ⊗ b (goal.at.After-multiply-product c).After-vanishing_value-c q e) (c.multiply-both.ensures q e))
+  product_is : of {q = q} c.multiply-product.result ≡ a ⊗ b ⊗ d
+  product_is =
+      of-result (of {q = q} _ ⊗ d) (c.multiply-product.ensures q e)
+      ∙ ap (λ (x : Elem q). x ⊗ d) (of-result (a ⊗ b) (c.multiply-both.ensures q e))
 
-pub size_inverse-requires : goal.size_inverse-requires
-size_inverse-requires c =
-    let s = (goal.at.size_inverse-requires c).Start in
-    record {
-      lt_p = s.requires.lt_p;
-      n_value = ap is_size c.largest.ensures ∙ whole_size s;
-    }
+pub size_inverse-requires-clause-n_value : goal.size_inverse-requires-clause-n_value
+size_inverse-requires-clause-n_value c = ap is_size c.largest.ensures ∙ whole_size (goal.at.size_inverse-requires-clause-n_value c).Start
 
-pub divide-share-requires : goal.divide-share-requires
-divide-share-requires c =
-    let m = (goal.at.divide-share-requires c).After-multiply-product in
-    let v = (goal.at.After-multiply-product m).After-vanishing_value-c in record {
-      lt_p = search rules;
-      b_nonzero = λ q e z.
-          let two = both_some v q e (a v q e) (b v q e) (a-some v q e) (b-some v q e) in
-          both_some v q e (a v q e ⊗ b v q e) (d v q e) two (d_some v q e) (sym (product_is m q e) ∙ z);
-    }
+pub divide-share-requires-clause-b_nonzero : goal.divide-share-requires-clause-b_nonzero
+divide-share-requires-clause-b_nonzero c q e z =
+    let m = (goal.at.divide-share-requires-clause-b_nonzero c).After-multiply-product in
+    let two = both_some m q e (a m q e) (b m q e) (a-some m q e) (b-some m q e) in
+    both_some m q e (a m q e ⊗ b m q e) (d m q e) two (d_some m q e) (sym (product_is m q e) ∙ z)
 
 pub returns : goal.returns
 unfolding selector
 returns c q Q e is_whole =
     let m = (goal.at.returns c).After-multiply-product in
-    let v = (goal.at.After-multiply-product m).After-vanishing_value-c in
-    let s = start v q e in
+    let s = start m q e in
     let k = s.args.s.k in
     let γ : Elem q = of s.args.gamma in
-    let x : Elem q = a v q e in
-    let y : Elem q = b v q e in
-    let z : Elem q = d v q e in
+    let x : Elem q = a m q e in
+    let y : Elem q = b m q e in
+    let z : Elem q = d m q e in
     let n : Elem q = of (largest (three k)) in
     let whole : Elem q = vanishing (largest (three k)) γ in
     let n-some : n ≢ 𝟘 = size_not-zero (largest (three k)) (whole_size s) in
@@ -121,15 +108,15 @@ returns c q Q e is_whole =
     ∙ selector_from (of size) whole n own others (x ⊗ y ⊗ z) n-some own-some others-some split
     ∙ ap (λ (u : Elem q). of size ⊗ whole ⊘ (n ⊗ u)) is-own) in
     let first = c.multiply_three.ensures q e
-    ∙ other k.a _ x (y ⊗ z) (of-result (y ⊗ z) (c.multiply.ensures q e)) (a-some v q e)
-    (both_some v q e y z (b-some v q e) (d_some v q e)) (mul_assoc x y z)
-    (of-result (vanishing k.a γ) (v.vanishing_value-a.ensures q e)) in
+    ∙ other k.a _ x (y ⊗ z) (of-result (y ⊗ z) (c.multiply.ensures q e)) (a-some m q e)
+    (both_some m q e y z (b-some m q e) (d_some m q e)) (mul_assoc x y z)
+    (of-result (vanishing k.a γ) (m.vanishing_value-a.ensures q e)) in
     let second = c.multiply_three-2.ensures q e
-    ∙ other k.b _ y (x ⊗ z) (of-result (x ⊗ z) (c.multiply-2.ensures q e)) (b-some v q e)
-    (both_some v q e x z (a-some v q e) (d_some v q e)) (ap (λ (u : Elem q). u ⊗ z) (mul_comm x y) ∙ mul_assoc y x z)
-    (of-result (vanishing k.b γ) (v.vanishing_value-b.ensures q e)) in
+    ∙ other k.b _ y (x ⊗ z) (of-result (x ⊗ z) (c.multiply-2.ensures q e)) (b-some m q e)
+    (both_some m q e x z (a-some m q e) (d_some m q e)) (ap (λ (u : Elem q). u ⊗ z) (mul_comm x y) ∙ mul_assoc y x z)
+    (of-result (vanishing k.b γ) (m.vanishing_value-b.ensures q e)) in
     let third = c.multiply_three-3.ensures q e
-    ∙ other k.c _ z (x ⊗ y) (of-result (x ⊗ y) (m.multiply-both.ensures q e)) (d_some v q e)
-    (both_some v q e x y (a-some v q e) (b-some v q e)) (mul_comm (x ⊗ y) z)
-    (of-result (vanishing k.c γ) (v.vanishing_value-c.ensures q e)) in λ i.
+    ∙ other k.c _ z (x ⊗ y) (of-result (x ⊗ y) (m.multiply-both.ensures q e)) (d_some m q e)
+    (both_some m q e x y (a-some m q e) (b-some m q e)) (mul_comm (x ⊗ y) z)
+    (of-result (vanishing k.c γ) (m.vanishing_value-c.ensures q e)) in λ i.
     record { a = first i; b = second i; c = third i }

@@ -7,7 +7,7 @@ use Rattle.domain.proofs.SizeLaws.{size_positive}
 use Rattle.protocol.specs.Calls.{CircuitWords, circuit_of}
 use Rattle.protocol.specs.Blinded.{reserved_columns}
 use Rattle.shared.specs.Meanings.{three}
-use Rattle.circuit.specs.Given.{given}
+use Rattle.circuit.specs.Given.{circuit_words}
 use Rattle.blinding.specs.Given.{Reserving, Fitting}
 use Rattle.blinding.proofs.Reserved.{columns-below}
 use Rattle.blinding.proofs.Filling.{all_filled}
@@ -15,7 +15,7 @@ use Rattle.blinding.proofs.blinded.blind_into.Goals as goal
 use Rattle.blinding.proofs.blinded.blind_into.Goals.{After-reserved_columns-columns}
 
 abbrev circuit : After-reserved_columns-columns → CircuitWords
-circuit r = let a = r.args in given a.r a.c a.x a.ea.now a.eb.now a.ec.now
+circuit r = circuit_words r.args.circuit.now
 
 columns : (r : After-reserved_columns-columns) → three r.reserved_columns-columns.result ≡ reserved_columns (circuit_of (circuit r))
 unfolding circuit_of

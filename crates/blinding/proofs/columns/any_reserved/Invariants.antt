@@ -1,15 +1,9 @@
 -- What the loop of `blinding::columns::any_reserved` keeps. Assumes nothing.
-use mathlib.Core.Path.{◌≡◌}
-use mathlib.Core.Bool.{false}
-use Prim.Native.Nat.{ℕ, ◌-◌, ◌<◌, ◌≤◌}
+use Rattle.std.proofs.Common.{◌≡◌, ℕ, ◌<◌, false}
 use Rattle.shared.specs.Meanings.{three}
 use Rattle.circuit.specs.Given.{entry_words}
 use Rattle.blinding.proofs.Reserved.{stands}
 use Rattle.blinding.proofs.columns.any_reserved.Given as goal
 
 abbrev pub invariant-loop-i : goal.invariant-loop-i
-invariant-loop-i l =
-    (l.i ≤ l.count) × ((j : ℕ) → j < l.i → stands l.last (three l.columns) (entry_words l.entries j) ≡ false)
-
-abbrev pub decreases-loop-i : goal.decreases-loop-i
-decreases-loop-i l = l.count - l.i
+invariant-loop-i l = (j : ℕ) → j < l.i → stands l.last (three l.columns) (entry_words l.entries j) ≡ false

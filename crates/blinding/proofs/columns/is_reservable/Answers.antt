@@ -1,52 +1,38 @@
 -- `blinding::columns::is_reservable` meets its contract. Assumes nothing.
-use mathlib.Core.Path.{◌≡◌, sym, ap, ◌∙◌}
-use Prim.Native.Nat.{ℕ, ◌-◌}
-use native.Mathlib.Omega.{arith}
+use Rattle.std.proofs.Common.{◌≡◌, sym, ap, ◌∙◌, ℕ, List, Bool, ◌||◌, ◌-◌, arith}
+use Rattle.algebra.specs.Lists.{any}
 use Rattle.domain.proofs.SizeLaws.{size_positive}
-use Rattle.protocol.specs.Circuit.{Circuit}
-use Rattle.protocol.specs.Blinded.{reserved_row, reserved_columns}
-use Rattle.shared.specs.Meanings.{three}
-use Rattle.blinding.proofs.Reserved.{too_few, found_in_a, found_in_b, found_in_c}
+use Rattle.protocol.specs.Calls.{entries_of}
+use Rattle.protocol.specs.Blinded.{stands_reserved}
+use Rattle.blinding.proofs.Reserved.{too_few, by_entries}
 use Rattle.blinding.proofs.columns.is_reservable.Goals as goal
-use Rattle.blinding.proofs.columns.is_reservable.Goals.{After-reserved_columns-columns}
+use Rattle.blinding.proofs.columns.is_reservable.Goals.{then-any_reserved, else-any_reserved, then-any_reserved-2, else-any_reserved-2}
 
-row : (k : Circuit) {r : ℕ} → k.|R| ≡ r → reserved_row k ≡ r - 1
-row k rows = ap (λ n. n - 1) rows
-
-reserved : (c : After-reserved_columns-columns) (k : Circuit) → k.|C| ≡ c.args.c → k.|X| ≡ c.args.x
-    → reserved_columns k ≡ three c.reserved_columns-columns.result
-reserved c k columns publics = sym (c.reserved_columns-columns.ensures k columns publics)
-
-pub returns-then-c-x-lt3 : goal.returns-then-c-x-lt3
-returns-then-c-x-lt3 c k rows columns publics matrices =
-    too_few k columns publics c.requires c.args.ea.now c.args.eb.now c.args.ec.now matrices c.if-c-x-lt3.true
-
-pub reserved_columns-columns-requires : goal.reserved_columns-columns-requires
-reserved_columns-columns-requires c =
-    let h = c.requires in
-    record { C-size = h.C-size; X-size = h.X-size; X-within = h.X-within; enough = omega arith }
+pub returns-then-circuit-lt3 : goal.returns-then-circuit-lt3
+returns-then-circuit-lt3 c k rows columns publics matrices =
+    let lists = c.args.circuit.now.matrices in
+    too_few k columns publics c.requires lists.a.now lists.b.now lists.c.now matrices c.if-circuit-lt3.true
 
 pub overflow_sub-last : goal.overflow_sub-last
 overflow_sub-last c = omega (arith, size_positive _ c.requires.R-size)
 
-pub returns-then-any_reserved : goal.returns-then-any_reserved
-returns-then-any_reserved c k rows columns publics matrices =
-    found_in_a k columns publics c.requires c.args.ea.now c.args.eb.now c.args.ec.now matrices (omega arith)
-    (sym (c.any_reserved.ensures k (row k rows) (reserved (goal.at.returns-then-any_reserved c).After-reserved_columns-columns k columns publics)) ∙ c.if-any_reserved.true)
-
-pub returns-then-any_reserved-2 : goal.returns-then-any_reserved-2
-returns-then-any_reserved-2 c k rows columns publics matrices =
-    let r = (goal.at.returns-then-any_reserved-2 c).After-reserved_columns-columns in
-    let same = reserved r k columns publics in
-    found_in_b k columns publics r.requires r.args.ea.now r.args.eb.now r.args.ec.now matrices (omega arith)
-    (sym (c.any_reserved.ensures k (row k rows) same) ∙ c.if-any_reserved.false)
-    (sym (c.any_reserved-2.ensures k (row k rows) same) ∙ c.if-any_reserved-2.true)
-
 pub returns : goal.returns
 returns c k rows columns publics matrices =
-    let r = (goal.at.returns c).After-reserved_columns-columns in
-    let same = reserved r k columns publics in
-    found_in_c k columns publics r.requires r.args.ea.now r.args.eb.now r.args.ec.now matrices (omega arith)
-    (sym (c.any_reserved.ensures k (row k rows) same) ∙ c.if-any_reserved.false)
-    (sym (c.any_reserved-2.ensures k (row k rows) same) ∙ c.if-any_reserved-2.false)
-    (c.any_reserved-3.ensures k (row k rows) same)
+    let a = c.args.circuit.now.matrices in
+    let found : List ℕ → Bool = λ l. any (stands_reserved k) (entries_of l) in
+    let last = ap (λ n. n - 1) rows in
+    let same = sym (c.reserved_columns-columns.ensures k columns publics) in
+    let in_a = c.any_reserved.ensures k last same in
+    let first : c.if-any_reserved.value ≡ (found a.a.now || found a.b.now) = elim c.if-any_reserved.branch [
+      | then-any_reserved w ↦ let e : found a.a.now ≡ _ = sym in_a ∙ w.if-any_reserved.true in
+          rw e (w.value-is ∙ w.if-any_reserved.true)
+      | else-any_reserved w ↦ let e : found a.a.now ≡ _ = sym in_a ∙ w.if-any_reserved.false in
+          rw e (w.value-is ∙ w.any_reserved-else-any_reserved.ensures k last same)
+    ] in
+    let second : c.if-any_reserved-2.result ≡ ((found a.a.now || found a.b.now) || found a.c.now) = elim c.if-any_reserved-2.branch [
+      | then-any_reserved-2 w ↦ let e : (found a.a.now || found a.b.now) ≡ _ = sym first ∙ w.if-any_reserved-2.true in
+          rw e (w.result-is ∙ w.if-any_reserved-2.true)
+      | else-any_reserved-2 w ↦ let e : (found a.a.now || found a.b.now) ≡ _ = sym first ∙ w.if-any_reserved-2.false in
+          rw e (w.result-is ∙ w.any_reserved-else-any_reserved-2.ensures k last same)
+    ] in
+    by_entries k columns publics c.requires a.a.now a.b.now a.c.now matrices (omega arith) second

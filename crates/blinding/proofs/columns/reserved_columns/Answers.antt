@@ -1,5 +1,5 @@
 -- `blinding::columns::reserved_columns` meets its contract. Assumes nothing.
-use native.Mathlib.Omega.{arith}
+use Rattle.std.proofs.Common.{arith}
 use Rattle.domain.proofs.SizeLaws.{size_bound}
 use Rattle.blinding.proofs.Reserved.{alternating, consecutive}
 use Rattle.blinding.proofs.columns.reserved_columns.Goals as goal

@@ -1,5 +1,5 @@
 -- `c_numbers::inputs::sizes_in` meets its contract. Assumes nothing.
-use mathlib.Core.Path.{refl}
+use Rattle.std.proofs.Common.{refl}
 use Rattle.verifier.specs.Session.{three_at}
 use Rattle.c_numbers.specs.Inputs.{sizes_in}
 use Rattle.c_numbers.proofs.inputs.sizes_in.Goals as goal

@@ -1,5 +1,5 @@
 -- `c_numbers::inputs::triple` meets its contract. Assumes nothing.
-use mathlib.Core.Path.{refl}
+use Rattle.std.proofs.Common.{refl}
 use Rattle.verifier.specs.Session.{three_at}
 use Rattle.c_numbers.proofs.inputs.triple.Goals as goal
 

@@ -17,39 +17,28 @@ tests_count : (k : Circuit) (entries : List ℕ) → length (tests k entries) �
 tests_count k entries = omega (arith, length-entry_tests k (entries_of entries), length-entries_of entries)
 
 pub loop-i-init : goal.loop-i-init
-loop-i-init c = (omega arith, λ k er ec. passed_none 7 _ _)
+loop-i-init c = λ k er ec. passed_none 7 _ _
 
 pub entry_passes-requires : goal.entry_passes-requires
 entry_passes-requires c = omega (arith, length-entries_of c.args.entries.now)
-
-pub overflow_add-result : goal.overflow_add-result
-overflow_add-result c = omega arith
 
 pub returns-then-not-entry_passes : goal.returns-then-not-entry_passes
 returns-then-not-entry_passes c k er ec =
     let l = c.loop-i in
     let a = c.args in
-    passed_stop 7 a.start (tests k a.entries.now) l.i (l.invariant.1 k er ec) (omega (arith, tests_count k a.entries.now)) true _ refl
+    passed_stop 7 a.start (tests k a.entries.now) l.i (l.invariant k er ec) (omega (arith, tests_count k a.entries.now)) true _ refl
     (sym (c.entry_passes.ensures k er ec) ∙ c.if-not-entry_passes.true)
-
-pub overflow_add-i : goal.overflow_add-i
-overflow_add-i c = omega arith
-
-pub loop-i-smaller : goal.loop-i-smaller
-loop-i-smaller c = omega arith
 
 pub loop-i-preserved : goal.loop-i-preserved
 loop-i-preserved c =
     let l = c.loop-i in
-    let a = c.args in (
-      omega arith,
-      λ k er ec.
-          passed_turn 7 a.start (tests k a.entries.now) l.i (l.invariant.1 k er ec) (omega (arith, tests_count k a.entries.now)) true
-          (sym (c.entry_passes.ensures k er ec) ∙ c.if-not-entry_passes.false),
-    )
+    let a = c.args in
+    λ k er ec.
+    passed_turn 7 a.start (tests k a.entries.now) l.i (l.invariant k er ec) (omega (arith, tests_count k a.entries.now)) true
+    (sym (c.entry_passes.ensures k er ec) ∙ c.if-not-entry_passes.false)
 
 pub returns : goal.returns
 returns c k er ec =
     let l = c.loop-i in
     let a = c.args in
-    sym (passed_end 7 a.start (tests k a.entries.now) l.i (l.invariant.1 k er ec) (omega (arith, tests_count k a.entries.now)))
+    sym (passed_end 7 a.start (tests k a.entries.now) l.i (l.invariant k er ec) (omega (arith, tests_count k a.entries.now)))

@@ -2,7 +2,7 @@
 use mathlib.Core.Path.{◌≡◌}
 use mathlib.Core.Bool.{Bool}
 use mathlib.Core.List.{List}
-use Prim.Native.Nat.{ℕ, ◌-◌, ◌≤◌}
+use Prim.Native.Nat.{ℕ}
 use Rattle.protocol.specs.Circuit.{Circuit}
 use Rattle.protocol.specs.Refusals.{entry_tests}
 use Rattle.protocol.specs.Calls.{entries_of}
@@ -14,7 +14,4 @@ abbrev pub tests : Circuit → List ℕ → List Bool
 tests k entries = entry_tests k (entries_of entries)
 
 abbrev pub invariant-loop-i : goal.invariant-loop-i
-invariant-loop-i l = (l.i ≤ l.count) × ((k : Circuit) → k.|R| ≡ l.r → k.|C| ≡ l.c → Passed 7 l.start (tests k l.entries) l.i)
-
-abbrev pub decreases-loop-i : goal.decreases-loop-i
-decreases-loop-i l = l.count - l.i
+invariant-loop-i l = ((k : Circuit) → k.|R| ≡ l.r → k.|C| ≡ l.c → Passed 7 l.start (tests k l.entries) l.i)

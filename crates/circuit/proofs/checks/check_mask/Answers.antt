@@ -17,15 +17,9 @@ pub bounds-m-0 : goal.bounds-m-0
 bounds-m-0 c =
     omega (arith, size_positive c.args.c c.requires.c_value.0)
 
-pub offset_bounds-m-half : goal.offset_bounds-m-half
-offset_bounds-m-half c = omega arith
-
 pub bounds-m-half : goal.bounds-m-half
 bounds-m-half c =
     omega (arith, size_positive c.args.c c.requires.c_value.0)
-
-pub add-requires : goal.add-requires
-add-requires c = omega arith
 
 pub returns-then-add-eq0 : goal.returns-then-add-eq0
 unfolding mask_refusal

@@ -44,19 +44,7 @@ turn_test c q Q e =
     c.requires.points_len_bound (omega arith) (c.is_inside.ensures q Q e)
 
 pub loop-i-init : goal.loop-i-init
-loop-i-init c = (omega arith, λ q Q e. passed_none 10 0 _)
-
-pub offset_bounds-sizes-i : goal.offset_bounds-sizes-i
-offset_bounds-sizes-i c = omega arith
-
-pub bounds-sizes-i : goal.bounds-sizes-i
-bounds-sizes-i c = omega arith
-
-pub offset_bounds-points-i : goal.offset_bounds-points-i
-offset_bounds-points-i c = omega arith
-
-pub bounds-points-i : goal.bounds-points-i
-bounds-points-i c = omega arith
+loop-i-init c = λ q Q e. passed_none 10 0 _
 
 pub is_inside-requires : goal.is_inside-requires
 is_inside-requires c =
@@ -72,28 +60,20 @@ unfolding challenge_refusal
 returns-then-is_inside c q Q e =
     let t = (goal.at.returns-then-is_inside c).After-is_inside in
     let l = t.loop-i in
-    passed_stop 10 0 (due q (goal.at.After-is_inside t).Start) l.i (l.invariant.1 q Q e) (omega (arith, due-count q (goal.at.After-is_inside t).Start)) true l.i (omega arith)
+    passed_stop 10 0 (due q (goal.at.After-is_inside t).Start) l.i (l.invariant q Q e) (omega (arith, due-count q (goal.at.After-is_inside t).Start)) true l.i (omega arith)
     (turn_test t q Q e ∙ ap not c.if-is_inside.true)
-
-pub overflow_add-i : goal.overflow_add-i
-overflow_add-i c = omega arith
-
-pub loop-i-smaller : goal.loop-i-smaller
-loop-i-smaller c = omega arith
 
 pub loop-i-preserved : goal.loop-i-preserved
 loop-i-preserved c =
     let t = (goal.at.loop-i-preserved c).After-is_inside in
-    let l = t.loop-i in (
-      omega arith,
-      λ q Q e.
-          passed_turn 10 0 (due q (goal.at.After-is_inside t).Start) l.i (l.invariant.1 q Q e) (omega (arith, due-count q (goal.at.After-is_inside t).Start)) true
-          (turn_test t q Q e ∙ ap not c.if-is_inside.false),
-    )
+    let l = t.loop-i in
+    λ q Q e.
+    passed_turn 10 0 (due q (goal.at.After-is_inside t).Start) l.i (l.invariant q Q e) (omega (arith, due-count q (goal.at.After-is_inside t).Start)) true
+    (turn_test t q Q e ∙ ap not c.if-is_inside.false)
 
 pub returns : goal.returns
 unfolding challenge_refusal
 returns c q Q e =
     let s = (goal.at.returns c).Start in
     let l = c.loop-i in
-    sym (passed_end 10 0 (due q s) l.i (l.invariant.1 q Q e) (omega (arith, due-count q s)))
+    sym (passed_end 10 0 (due q s) l.i (l.invariant q Q e) (omega (arith, due-count q s)))

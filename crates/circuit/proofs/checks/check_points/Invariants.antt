@@ -2,8 +2,7 @@
 use mathlib.Core.Path.{◌≡◌}
 use mathlib.Core.Bool.{Bool, not}
 use mathlib.Core.List.{List, [], ◌∷◌, map}
-use Prim.Native.Nat.{ℕ, ◌-◌, ◌≤◌}
-use lib.ListN.{length}
+use Prim.Native.Nat.{ℕ}
 use Rattle.field.specs.Prime.{Prime}
 use Rattle.field.specs.Element.{Elem, of}
 use Rattle.domain.specs.Domain.{inside}
@@ -16,7 +15,4 @@ abbrev pub tests : (q : Prime) (ns points : List ℕ) → List Bool
 tests q ns points = pairs (λ (n : ℕ) (y : Elem q). not (inside n y)) ns (map of points)
 
 abbrev pub invariant-loop-i : goal.invariant-loop-i
-invariant-loop-i l = (l.i ≤ length l.points) × ((q : Prime) → Qualifies q → q.p ≡ l.p → Passed 10 0 (tests q (l.r ∷ l.c ∷ l.k ∷ []) l.points) l.i)
-
-abbrev pub decreases-loop-i : goal.decreases-loop-i
-decreases-loop-i l = length l.points - l.i
+invariant-loop-i l = ((q : Prime) → Qualifies q → q.p ≡ l.p → Passed 10 0 (tests q (l.r ∷ l.c ∷ l.k ∷ []) l.points) l.i)

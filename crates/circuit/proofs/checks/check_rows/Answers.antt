@@ -9,62 +9,33 @@ use Rattle.circuit.proofs.checks.check_rows.Invariants.{tests}
 use Rattle.circuit.proofs.checks.check_rows.Goals as goal
 
 pub loop-i-init : goal.loop-i-init
-loop-i-init c = (omega arith, λ q e n s t u el er ep. passed_none 9 0 _)
-
-pub offset_bounds-left-i : goal.offset_bounds-left-i
-offset_bounds-left-i c = omega arith
-
-pub bounds-left-i : goal.bounds-left-i
-bounds-left-i c = omega arith
-
-pub offset_bounds-right-i : goal.offset_bounds-right-i
-offset_bounds-right-i c = omega arith
-
-pub bounds-right-i : goal.bounds-right-i
-bounds-right-i c = omega arith
-
-pub multiply-requires : goal.multiply-requires
-multiply-requires c = omega arith
-
-pub offset_bounds-product-i : goal.offset_bounds-product-i
-offset_bounds-product-i c = omega arith
-
-pub bounds-product-i : goal.bounds-product-i
-bounds-product-i c = omega arith
+loop-i-init c = λ q e n s t u el er ep. passed_none 9 0 _
 
 pub returns-then-multiply-product : goal.returns-then-multiply-product
 returns-then-multiply-product c q e n s t u el er ep =
     let l = c.loop-i in
     let a = c.args in
     let call = c.multiply in
-    passed_stop 9 0 (tests q n s t u) l.i (l.invariant.1 q e n s t u el er ep)
+    passed_stop 9 0 (tests q n s t u) l.i (l.invariant q e n s t u el er ep)
     (omega (arith, rows-count n s t u a.left.now a.right.now a.product.now el er ep)) true l.i (omega arith)
     (row_test_lem n s t u a.left.now a.right.now a.product.now el er ep l.i call.result (omega arith) (call.ensures q e)
     ∙ ne_eqb _ _ c.if-multiply-product.true)
-
-pub overflow_add-i : goal.overflow_add-i
-overflow_add-i c = omega arith
-
-pub loop-i-smaller : goal.loop-i-smaller
-loop-i-smaller c = omega arith
 
 pub loop-i-preserved : goal.loop-i-preserved
 loop-i-preserved c =
     let l = c.loop-i in
     let a = c.args in
-    let call = c.multiply in (
-      omega arith,
-      λ q e n s t u el er ep.
-          passed_turn 9 0 (tests q n s t u) l.i (l.invariant.1 q e n s t u el er ep)
-          (omega (arith, rows-count n s t u a.left.now a.right.now a.product.now el er ep)) true
-          (row_test_lem n s t u a.left.now a.right.now a.product.now el er ep l.i call.result (omega arith) (call.ensures q e)
-          ∙ eq-eqb _ _ c.if-multiply-product.false),
-    )
+    let call = c.multiply in
+    λ q e n s t u el er ep.
+    passed_turn 9 0 (tests q n s t u) l.i (l.invariant q e n s t u el er ep)
+    (omega (arith, rows-count n s t u a.left.now a.right.now a.product.now el er ep)) true
+    (row_test_lem n s t u a.left.now a.right.now a.product.now el er ep l.i call.result (omega arith) (call.ensures q e)
+    ∙ eq-eqb _ _ c.if-multiply-product.false)
 
 pub returns : goal.returns
 returns c q e n s t u el er ep =
     let l = c.loop-i in
     let a = c.args in
     sym
-    (passed_end 9 0 (tests q n s t u) l.i (l.invariant.1 q e n s t u el er ep)
+    (passed_end 9 0 (tests q n s t u) l.i (l.invariant q e n s t u el er ep)
     (omega (arith, rows-count n s t u a.left.now a.right.now a.product.now el er ep)))

@@ -2,8 +2,7 @@
 use mathlib.Core.Path.{◌≡◌}
 use mathlib.Core.Bool.{Bool}
 use mathlib.Core.List.{List}
-use Prim.Native.Nat.{ℕ, ◌-◌, ◌≤◌}
-use lib.ListN.{length}
+use Prim.Native.Nat.{ℕ}
 use Rattle.algebra.specs.Lists.{tabulate}
 use Rattle.field.specs.Prime.{Prime}
 use Rattle.field.specs.Element.{Elem, words, equal, ◌⊗◌}
@@ -15,8 +14,5 @@ tests q n s t u = tabulate n (λ i. equal (s i ⊗ t i) (u i))
 
 abbrev pub invariant-loop-i : goal.invariant-loop-i
 invariant-loop-i l =
-    (l.i ≤ length l.left) × ((q : Prime) → q.p ≡ l.p → (n : ℕ) (s t u : ℕ → Elem q) → l.left ≡ words (tabulate n s) → l.right ≡ words (tabulate n t)
+    ((q : Prime) → q.p ≡ l.p → (n : ℕ) (s t u : ℕ → Elem q) → l.left ≡ words (tabulate n s) → l.right ≡ words (tabulate n t)
     → l.product ≡ words (tabulate n u) → Passed 9 0 (tests q n s t u) l.i)
-
-abbrev pub decreases-loop-i : goal.decreases-loop-i
-decreases-loop-i l = length l.left - l.i

@@ -1,21 +1,8 @@
 -- `circuit::checks::check_sizes` meets its contract. Assumes nothing.
 use mathlib.Core.Path.{◌∙◌}
 use mathlib.Core.List.{[], ◌∷◌}
-use native.Mathlib.Omega.{arith}
 use Rattle.protocol.specs.Refusals.{refuse, size_tests, size_refusal}
 use Rattle.circuit.proofs.checks.check_sizes.Goals as goal
-
-pub is_size-requires : goal.is_size-requires
-is_size-requires c = tt
-
-pub is_size-requires-2 : goal.is_size-requires-2
-is_size-requires-2 c = tt
-
-pub is_public_size-requires : goal.is_public_size-requires
-is_public_size-requires c = tt
-
-pub first_failed-requires : goal.first_failed-requires
-first_failed-requires c = omega arith
 
 pub returns : goal.returns
 unfolding size_refusal size_tests

@@ -2,7 +2,6 @@
 use mathlib.Core.Path.{sym, ap, ◌∙◌, subst⁻¹}
 use mathlib.Core.List.{List, map}
 use Prim.Native.Nat.{ℕ}
-use native.Mathlib.Omega.{arith}
 use lib.ListN.{length}
 use Rattle.algebra.specs.Counting.{All}
 use Rattle.algebra.specs.Lists.{tabulate}
@@ -16,7 +15,7 @@ use Rattle.circuit.proofs.checks.check_sums.Goals as goal
 
 pub row_sums-requires-2 : goal.row_sums-requires-2
 row_sums-requires-2 c =
-    let within : ℕ → Type 0 = λ (n : ℕ). All (Within n (length c.args.z.now)) (entries_of c.args.eb.now) in
+    let within : ℕ → Type 0 = λ (n : ℕ). All (Within n (length c.args.z.now)) (entries_of c.args.matrices.b.now) in
     record {
       p_nonzero = c.requires.p_nonzero;
       all = subst⁻¹ within c.requires.right_len.0 c.requires.each_within.in_b;
@@ -24,23 +23,11 @@ row_sums-requires-2 c =
 
 pub row_sums-requires-3 : goal.row_sums-requires-3
 row_sums-requires-3 c =
-    let within : ℕ → Type 0 = λ (n : ℕ). All (Within n (length c.args.z.now)) (entries_of c.args.ec.now) in
+    let within : ℕ → Type 0 = λ (n : ℕ). All (Within n (length c.args.z.now)) (entries_of c.args.matrices.c.now) in
     record {
       p_nonzero = c.requires.p_nonzero;
       all = subst⁻¹ within c.requires.right_len.1 c.requires.each_within.in_c;
     }
-
-pub check_rows-requires : goal.check_rows-requires
-check_rows-requires c = omega arith
-
-pub shape_of-left : goal.shape_of-left
-shape_of-left c = c.row_sums.auto.out
-
-pub shape_of-right : goal.shape_of-right
-shape_of-right c = c.row_sums-2.auto.out
-
-pub shape_of-product : goal.shape_of-product
-shape_of-product c = c.row_sums-3.auto.out
 
 pub returns : goal.returns
 unfolding assignment_refusal

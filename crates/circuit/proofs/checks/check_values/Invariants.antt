@@ -1,7 +1,7 @@
 -- What the loop of `circuit::checks::check_values` keeps. Assumes nothing.
 use mathlib.Core.Bool.{Bool}
 use mathlib.Core.List.{List, map}
-use Prim.Native.Nat.{ℕ, ◌-◌, ◌≤◌}
+use Prim.Native.Nat.{ℕ}
 use lib.Dec.{ltb}
 use Rattle.protocol.specs.Circuit.{Entry}
 use Rattle.protocol.specs.Calls.{entries_of}
@@ -12,7 +12,4 @@ abbrev pub tests : ℕ → List ℕ → List Bool
 tests p l = map (λ w. ltb w p) (map (λ (e : Entry). e.value) (entries_of l))
 
 abbrev pub invariant-loop-i : goal.invariant-loop-i
-invariant-loop-i l = (l.i ≤ l.count) × Passed 6 l.start (tests l.p l.entries) l.i
-
-abbrev pub decreases-loop-i : goal.decreases-loop-i
-decreases-loop-i l = l.count - l.i
+invariant-loop-i l = Passed 6 l.start (tests l.p l.entries) l.i

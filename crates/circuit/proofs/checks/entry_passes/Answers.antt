@@ -45,9 +45,6 @@ offset_bounds-entries-at-3 c = omega (arith, words-within (goal.at.offset_bounds
 pub bounds-entries-at-3 : goal.bounds-entries-at-3
 bounds-entries-at-3 c = omega (arith, words-within (goal.at.bounds-entries-at-3 c).Start)
 
-pub entry_fits-requires : goal.entry_fits-requires
-entry_fits-requires c = tt
-
 pub returns-then-not-entry_fits : goal.returns-then-not-entry_fits
 returns-then-not-entry_fits c k er ec =
     let f = (goal.at.returns-then-not-entry_fits c).After-entry_fits in
@@ -57,26 +54,17 @@ pub returns-then-i-eq0 : goal.returns-then-i-eq0
 returns-then-i-eq0 c k er ec =
     sym (entry_first k c.args.entries.now c.args.i c.requires (entry-answer (goal.at.returns-then-i-eq0 c).After-entry_fits k er ec ∙ c.if-not-entry_fits.false) c.if-i-eq0.true)
 
-pub overflow_sub-at : goal.overflow_sub-at
-overflow_sub-at c = omega arith
-
 pub offset_bounds-entries-at-4 : goal.offset_bounds-entries-at-4
 offset_bounds-entries-at-4 c = omega (arith, words-within (goal.at.offset_bounds-entries-at-4 c).Start)
 
 pub bounds-entries-at-4 : goal.bounds-entries-at-4
 bounds-entries-at-4 c = omega (arith, words-within (goal.at.bounds-entries-at-4 c).Start)
 
-pub overflow_sub-at-2 : goal.overflow_sub-at-2
-overflow_sub-at-2 c = omega arith
-
 pub offset_bounds-entries-at-5 : goal.offset_bounds-entries-at-5
 offset_bounds-entries-at-5 c = omega (arith, words-within (goal.at.offset_bounds-entries-at-5 c).Start)
 
 pub bounds-entries-at-5 : goal.bounds-entries-at-5
 bounds-entries-at-5 c = omega (arith, words-within (goal.at.bounds-entries-at-5 c).Start)
-
-pub stands_before-requires : goal.stands_before-requires
-stands_before-requires c = tt
 
 pub returns : goal.returns
 returns c k er ec =

@@ -1,5 +1,5 @@
 -- `circuit::matrices::lengths_of` meets its contract. Assumes nothing.
-use mathlib.Core.Path.{ap, ◌∙◌}
+use Rattle.std.proofs.Common.{ap, ◌∙◌}
 use Rattle.protocol.specs.Messages.{lengths}
 use Rattle.circuit.proofs.matrices.lengths_of.Goals as goal
 

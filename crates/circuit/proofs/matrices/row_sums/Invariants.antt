@@ -1,8 +1,5 @@
 -- What the loop of `circuit::matrices::row_sums` keeps. Assumes nothing.
-use mathlib.Core.Path.{◌≡◌}
-use mathlib.Core.List.{map}
-use Prim.Native.Nat.{◌-◌, ◌≤◌}
-use lib.ListN.{length}
+use Rattle.std.proofs.Common.{◌≡◌, map}
 use Rattle.field.specs.Prime.{Prime}
 use Rattle.field.specs.Element.{of}
 use Rattle.protocol.specs.Calls.{entries_of}
@@ -10,8 +7,4 @@ use Rattle.circuit.proofs.Sums.{Summed}
 use Rattle.circuit.proofs.matrices.row_sums.Given as goal
 
 abbrev pub invariant-loop-i : goal.invariant-loop-i
-invariant-loop-i l =
-    (l.i ≤ l.count) × (length l.out ≡ length l.initial.out) × ((q : Prime) → q.p ≡ l.p → Summed (map (of {q = q}) l.z) (entries_of l.entries) l.out l.i)
-
-abbrev pub decreases-loop-i : goal.decreases-loop-i
-decreases-loop-i l = l.count - l.i
+invariant-loop-i l = (q : Prime) → q.p ≡ l.p → Summed (map (of {q = q}) l.z) (entries_of l.entries) l.out l.i

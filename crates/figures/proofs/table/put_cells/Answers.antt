@@ -1,40 +1,35 @@
--- `figures::table::put_cells` meets its contract: the cells of the first k circuits stand in the buffer. Assumes nothing.
-use mathlib.Core.Path.{◌≡◌}
-use native.Mathlib.Omega.{arith}
+-- `figures::table::put_cells` meets its contract. Assumes nothing.
+use Rattle.std.proofs.Common.{◌≡◌, arith, length}
+use Rattle.std.proofs.lemmas.List.{take_all}
 use Rattle.domain.specs.BabyBear.{baby_bear}
 use Rattle.text.proofs.WrittenLaws.{written_none}
 use Rattle.figures.specs.Placed.{figure_at}
 use Rattle.figures.specs.Sheet.{cells_text}
 use Rattle.figures.proofs.TableLaws.{within-room, within-length, cell_turn}
-use borrow.Author.Rules.{rules}
 use Rattle.figures.proofs.table.put_cells.Goals as goal
 
-pub loop-k-init : goal.loop-k-init
+pub loop-request-init : goal.loop-request-init
 unfolding cells_text
-loop-k-init c =
-    let a = c.args in
-    (search rules, within-room 0 (omega arith) (written_none a.out.now a.at (omega (arith, c.requires))))
+loop-request-init c = within-room 0 (omega arith) (written_none c.args.out.now c.args.at (omega (arith, c.requires)))
 
 pub put_cell-place-requires : goal.put_cell-place-requires
 put_cell-place-requires c =
     record {
       row_lt_row_count = c.requires.row_lt_row_count;
-      cell_room_in_bounds = omega (arith, c.requires.count_in_bounds, c.loop-k.invariant.1.within, within-length c.loop-k.invariant.1);
+      cell_room_in_bounds =
+          omega (arith, c.requires.count_in_bounds, c.loop-request.invariant.within, within-length c.loop-request.invariant);
     }
 
-pub loop-k-preserved : goal.loop-k-preserved
-loop-k-preserved c =
-    let a = c.args in (
-      search rules,
-      cell_turn (figure_at baby_bear a.row) a.array c.loop-k.k _ (omega (arith, c.loop-k.invariant.0, c.requires.count_le_most_circuits, c.well_formed.1.0.1.0.1)) c.loop-k.invariant.1 c.put_cell-place.ensures,
-    )
+pub loop-request-preserved : goal.loop-request-preserved
+loop-request-preserved c =
+    let l = c.loop-request in
+    cell_turn (figure_at baby_bear c.args.row) c.args.requests.now l.request-index _ (omega arith) l.invariant c.put_cell-place.ensures
 
 pub shape_of-out : goal.shape_of-out
-shape_of-out c = within-length c.loop-k.invariant.1
+shape_of-out c = within-length c.loop-request.invariant
 
 pub returns : goal.returns
 returns c =
-    let l = c.loop-k in
-    let a = c.args in
-    let all : l.k ≡ a.count = omega (arith, l.invariant.0) in
-    rw all at l.invariant.1
+    let l = c.loop-request in
+    let all : l.request-index ≡ length c.args.requests.now = omega arith in
+    rw (all, take_all (length c.args.requests.now) c.args.requests.now (omega arith)) at l.invariant

@@ -1,9 +1,6 @@
 -- `grown_words::places::find_place` meets its contract: what is left of the search gives what the whole gives, and it is within the row. The
 -- measure is the number of entries left. Assumes nothing.
-use mathlib.Core.Path.{◌≡◌, ap}
-use Prim.Native.Nat.{ℕ, ◌+◌, ◌-◌, ◌*◌, ◌/◌}
-use native.Mathlib.Omega.{arith}
-use lib.ListN.{get_or}
+use Rattle.std.proofs.Common.{◌≡◌, ap, ℕ, ◌+◌, ◌-◌, ◌*◌, ◌/◌, arith, get_or}
 use Rattle.protocol.specs.Grown.{column_at}
 use Rattle.grown_words.proofs.PlaceLaws.{left-all, left_after, left_before, left-none}
 use Rattle.grown_words.proofs.places.find_place.Goals as goal

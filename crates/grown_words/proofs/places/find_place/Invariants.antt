@@ -1,5 +1,5 @@
 -- What the loop of `grown_words::places::find_place` keeps. Assumes nothing.
-use Prim.Native.Nat.{◌+◌, ◌≤◌}
+use Rattle.std.proofs.Common.{◌+◌, ◌≤◌}
 use Rattle.domain.specs.Size.{max_size}
 use Rattle.protocol.specs.Grown.{first_not_below, column_at}
 use Rattle.grown_words.proofs.PlaceLaws.{Left}

@@ -1,10 +1,5 @@
--- `grown_words::places::find_row` meets its contract: `start` is where row i begins. Assumes nothing.
-use mathlib.Core.Path.{◌≡◌, refl, sym, ap, ap₂, ◌∙◌}
-use mathlib.Core.List.{List}
-use Prim.Native.Nat.{ℕ, suc, ◌+◌, ◌≤◌, min}
-use native.Mathlib.Numerals.{add-one}
-use native.Mathlib.Omega.{arith}
-use lib.ListN.{get_or}
+-- `grown_words::places::find_row` meets its contract: `start` is where the row with the next count begins. Assumes nothing.
+use Rattle.std.proofs.Common.{◌≡◌, ◌∙◌, refl, sym, ap, ap₂, List, ℕ, suc, ◌+◌, ◌≤◌, ◌-◌, ◌<◌, min, get_or, drop, length-take, length-drop, get_or-take, get_or-drop, add-one, arith}
 use Rattle.domain.specs.Size.{max_size}
 use Rattle.protocol.specs.Grown.{counts_place, row_start}
 use Rattle.protocol.specs.Grown as grown
@@ -23,35 +18,40 @@ next w n i {start} {total} {counts} s t c =
 within : (w : List ℕ) (n i : ℕ) {start : ℕ} → start ≡ row_start w n i → start ≤ max_size
 within w n i e = omega (arith, e, start_within w n i, total-within w n)
 
-pub loop-i-init : goal.loop-i-init
+pub loop-count-init : goal.loop-count-init
 unfolding row_start
-loop-i-init c = (omega arith, refl)
+loop-count-init c = refl
 
 pub row_end-start-requires : goal.row_end-start-requires
 row_end-start-requires c =
     let a = c.args in
-    within a.circuit.now a.matrix c.loop-i.i c.loop-i.invariant.1
+    within a.circuit.now a.matrix c.loop-count.count-index c.loop-count.invariant
 
-pub loop-i-preserved : goal.loop-i-preserved
-loop-i-preserved c =
-    let a = c.args in (
-      omega arith,
-      c.row_end-start.ensures ∙ next a.circuit.now a.matrix c.loop-i.i c.loop-i.invariant.1 c.total_of-total.ensures
-          (ap (λ (k : ℕ). k + 1) c.total_place-counts.ensures)
-          ∙ ap (row_start a.circuit.now a.matrix) (sym (add-one c.loop-i.i)),
-    )
+pub loop-count-preserved : goal.loop-count-preserved
+loop-count-preserved c =
+    let a = c.args in
+    let i : ℕ = c.loop-count.count-index in
+    let counts : ℕ = c.total_place-counts.result + 1 in
+    let long : i < counts + a.row - counts = omega (arith, length-take (counts + a.row - counts) (drop counts a.circuit.now)) in
+    c.row_end-start.ensures
+    ∙ ap (λ (k : ℕ). min (c.loop-count.start + k) c.total_of-total.result)
+    (get_or-take (counts + a.row - counts) (drop counts a.circuit.now) i 0 long ∙ get_or-drop counts a.circuit.now i 0)
+    ∙ next a.circuit.now a.matrix i c.loop-count.invariant c.total_of-total.ensures (ap (λ (k : ℕ). k + 1) c.total_place-counts.ensures)
+    ∙ ap (row_start a.circuit.now a.matrix) (sym (add-one i))
 
 pub row_end-requires : goal.row_end-requires
 row_end-requires c =
     let a = c.args in
-    within a.circuit.now a.matrix c.loop-i.i c.loop-i.invariant.1
+    within a.circuit.now a.matrix c.loop-count.count-index c.loop-count.invariant
 
 pub returns : goal.returns
 returns c =
     let a = c.args in
-    let last : c.loop-i.i ≡ a.row = omega arith in
-    let begun : c.loop-i.start ≡ row_start a.circuit.now a.matrix a.row =
-    c.loop-i.invariant.1 ∙ ap (row_start a.circuit.now a.matrix) last in (
+    let counts : ℕ = c.total_place-counts.result + 1 in
+    let last : c.loop-count.count-index ≡ a.row =
+    omega (arith, length-take (counts + a.row - counts) (drop counts a.circuit.now), length-drop counts a.circuit.now) in
+    let begun : c.loop-count.start ≡ row_start a.circuit.now a.matrix a.row =
+    c.loop-count.invariant ∙ ap (row_start a.circuit.now a.matrix) last in (
       begun,
       c.row_end.ensures ∙ next a.circuit.now a.matrix a.row begun c.total_of-total.ensures
           (ap (λ (k : ℕ). k + 1) c.total_place-counts.ensures),

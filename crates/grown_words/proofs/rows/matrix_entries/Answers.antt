@@ -1,26 +1,17 @@
 -- `grown_words::rows::matrix_entries` meets its contract. Assumes nothing.
-use mathlib.Core.Path.{◌≡◌, ap, ap₂, ◌∙◌}
-use Prim.Native.Nat.{ℕ, ◌+◌, ◌-◌, ◌*◌}
-use native.Mathlib.Omega.{arith}
-use lib.ListN.{take, drop}
+use Rattle.std.proofs.Common.{◌≡◌, ap, ap₂, ◌∙◌, ℕ, ◌+◌, ◌-◌, ◌*◌, arith, take, drop}
 use Rattle.protocol.specs.Grown.{entry_words_in}
 use Rattle.grown_words.proofs.PlaceLaws.{total-within}
 use Rattle.grown_words.proofs.rows.matrix_entries.Goals as goal
 
 pub overflow_mul-len : goal.overflow_mul-len
-overflow_mul-len c =
-    let a = c.args in
-    omega (arith, total-within a.circuit.now a.matrix)
+overflow_mul-len c = omega (arith, total-within c.args.circuit.now c.args.matrix)
 
 pub overflow_add-result : goal.overflow_add-result
-overflow_add-result c =
-    let a = c.args in
-    omega (arith, total-within a.circuit.now a.matrix)
+overflow_add-result c = omega (arith, total-within c.args.circuit.now c.args.matrix)
 
 pub slice_bounds-result-end : goal.slice_bounds-result-end
-slice_bounds-result-end c =
-    let a = c.args in
-    omega (arith, total-within a.circuit.now a.matrix)
+slice_bounds-result-end c = omega (arith, total-within c.args.circuit.now c.args.matrix)
 
 pub returns : goal.returns
 unfolding entry_words_in

@@ -1,6 +1,3 @@
 -- `job::parts::challenges_in` meets its contract. Assumes nothing.
 use mathlib.Core.Path.{refl}
 use Rattle.job.proofs.parts.challenges_in.Goals as goal
-
-pub returns : goal.returns
-returns c = refl

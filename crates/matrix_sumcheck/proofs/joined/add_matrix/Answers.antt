@@ -1,7 +1,7 @@
 -- `matrix_sumcheck::joined::add_matrix` meets its contract: minus the multiple of the quotient, which is minus h_M. Assumes nothing.
 use mathlib.Core.Path.{◌≡◌, sym, ap, ap₂, ◌∙◌}
 use mathlib.Core.List.{map}
-use Prim.Native.Nat.{ℕ, ◌+◌, ◌-◌, ◌≤◌}
+use Prim.Native.Nat.{ℕ, ◌+◌, ◌-◌}
 use native.Mathlib.Omega.{arith}
 use lib.ListN.{length, take}
 use Rattle.field.specs.Element.{Elem, of, 𝟘, ◌⊗◌, ◌⊖◌, words}
@@ -15,9 +15,6 @@ use Rattle.poly.proofs.LentParts.{array, lent_length, back_holds, back_length, b
 use Rattle.matrix_sumcheck.specs.MatrixGiven.{size_of}
 use Rattle.matrix_sumcheck.proofs.MatrixQuotients.{minus_multiple, quotient_made}
 use Rattle.matrix_sumcheck.proofs.joined.add_matrix.Goals as goal
-
-shorter : {n l z : ℕ} (m : ℕ) → n - 1 ≡ l → n ≡ size_for m → size_for m ≤ z + 1 → l ≤ z
-shorter m long e le = omega arith
 
 -- |K_M| - 1 words, as they are lent, give |K_M|
 lent_size : {size : ℕ} (m : ℕ) → size ≡ size_for m → length (take (size - 1) (array 1024)) + 1 ≡ size_for m
@@ -50,14 +47,6 @@ slice_bounds-quotient-end-2 c =
 pub slice_bounds-add_scaled-end : goal.slice_bounds-add_scaled-end
 slice_bounds-add_scaled-end c =
     back_length 1024 (sized-fits _ c.size_of-size.ensures) c.product_quotient_into.new.out c.product_quotient_into.auto.out
-
-pub add_scaled-requires : goal.add_scaled-requires
-add_scaled-requires c =
-    let long = back_length 1024 (sized-fits _ c.size_of-size.ensures) c.product_quotient_into.new.out c.product_quotient_into.auto.out in
-    record {
-      p_nonzero = omega (arith, c.requires.modulus.0);
-      g_in_bounds = shorter _ long c.size_of-size.ensures c.requires.entries_in_bounds.0;
-    }
 
 pub returns : goal.returns
 returns c q k M r n alpha beta G H L D =

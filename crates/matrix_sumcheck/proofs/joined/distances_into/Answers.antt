@@ -1,9 +1,5 @@
 -- `matrix_sumcheck::joined::distances_into` meets its contract: the entries below i are filled, and the power is the i-th. Assumes nothing.
-use mathlib.Core.Path.{◌≡◌, refl, sym, ap, ◌∙◌}
-use Prim.Native.Nat.{ℕ, ◌+◌}
-use native.Mathlib.Omega.{arith}
-use native.Mathlib.Numerals.{add-one}
-use lib.ListN.{length, length-set}
+use Rattle.std.proofs.Common.{◌≡◌, sym, ap, ◌∙◌, ℕ, ◌+◌, arith, add-one, length}
 use Rattle.algebra.specs.Ring.{pow}
 use Rattle.field.specs.Prime.{Prime}
 use Rattle.field.specs.Element.{Elem, of, ◌⊗◌, ◌⊖◌}
@@ -37,48 +33,25 @@ first q n = sym (one_word q)
 pub overflow_cast-n : goal.overflow_cast-n
 overflow_cast-n c = omega (arith, size_bound _ c.requires.out_value)
 
-pub root_of-g-requires : goal.root_of-g-requires
-root_of-g-requires c = c.requires.out_value
+pub loop-word-init : goal.loop-word-init
+loop-word-init c q known = (first q (length c.args.out.now), fill_none _ _)
 
-pub loop-i-init : goal.loop-i-init
-loop-i-init c = (omega arith, refl, λ q known. (first q (length c.args.out.now), fill_none _ _))
-
-pub offset_bounds-out-i : goal.offset_bounds-out-i
-offset_bounds-out-i c = omega arith
-
-pub bounds-out-i : goal.bounds-out-i
-bounds-out-i c = omega arith
-
-pub overflow_add-i : goal.overflow_add-i
-overflow_add-i c = omega arith
-
-pub loop-i-smaller : goal.loop-i-smaller
-loop-i-smaller c = simp length-set (omega arith)
-
-pub loop-i-preserved : goal.loop-i-preserved
-loop-i-preserved c =
-    let l = c.loop-i in
+pub loop-word-preserved : goal.loop-word-preserved
+loop-word-preserved c q known =
+    let l = c.loop-word in
     let a = c.args in
-    let n : ℕ = length a.out.now in (
-      simp length-set (omega arith),
-      simp length-set l.invariant.1,
-      λ q known.
-          let (last, filled) = l.invariant.2 q known in (
-            next q n l.i last (c.root_of-g.ensures q known) (c.multiply-power.ensures q known.value),
-            rule_turn n (rule q n a.y) l.out l.i c.multiply.result l.invariant.1 (omega arith) filled
-                (c.multiply.ensures q known.value
-                ∙ ap (λ (x : Elem q). (of n ⊗ x).word)
-                (of-result _ (c.subtract.ensures q known.value)
-                ∙ ap (λ (x : Elem q). of a.y ⊖ x) (of-result (element n l.i) last))),
-          ),
+    let n : ℕ = length a.out.now in
+    let (last, filled) = l.invariant q known in (
+      next q n l.word-index last (c.root_of-g.ensures q known) (c.multiply-power.ensures q known.value),
+      rule_turn n (rule q n a.y) l.out l.word-index c.multiply.result l.auto.out (omega arith) filled
+          (c.multiply.ensures q known.value
+          ∙ ap (λ (x : Elem q). (of n ⊗ x).word)
+          (of-result _ (c.subtract.ensures q known.value)
+          ∙ ap (λ (x : Elem q). of a.y ⊖ x) (of-result (element n l.word-index) last))),
     )
-
-pub shape_of-out : goal.shape_of-out
-shape_of-out c = omega arith
 
 pub returns : goal.returns
 returns c q known =
-    let l = c.loop-i in
-    let a = c.args in
-    let n : ℕ = length a.out.now in
-    rule_end n (rule q n a.y) l.out l.i l.invariant.1 (omega arith) (l.invariant.2 q known).1
+    let l = c.loop-word in
+    let n : ℕ = length c.args.out.now in
+    rule_end n (rule q n c.args.y) l.out l.word-index l.auto.out (omega arith) (l.invariant q known).1

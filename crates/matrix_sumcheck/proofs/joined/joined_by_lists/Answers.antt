@@ -11,7 +11,7 @@ use Rattle.domain.specs.Size.{is_size}
 use Rattle.domain.specs.Polynomial.{Poly, ◌⊞◌}
 use Rattle.protocol.specs.Three.{MatrixName, A, B, C, Three, map_three}
 use Rattle.shared.specs.Meanings.{three}
-use Rattle.matrix_sumcheck.specs.MatrixGiven.{lists}
+use Rattle.matrix_sumcheck.specs.MatrixGiven.{word_lists}
 use Rattle.poly.proofs.WordLists.{of-zeros}
 use Rattle.matrix_sumcheck.proofs.JoinedForms.{joined_term, joined-fits, joined_made}
 use Rattle.matrix_sumcheck.proofs.joined.joined_by_lists.Goals as goal
@@ -25,7 +25,8 @@ sized kept size = ap (λ (m : ℕ). is_size (m + 1)) kept ∙ size
 pub add_matrix-requires : goal.add_matrix-requires
 add_matrix-requires c =
     let a = c.args in
-    let fit = joined-fits a.ea.now a.eb.now a.ec.now (length a.out.now) c.requires.out_len in
+    let l = a.circuit.now.matrices in
+    let fit = joined-fits l.a.now l.b.now l.c.now (length a.out.now) c.requires.out_len in
     let kept = c.clear.auto.out in
     record {
       modulus = c.requires.modulus;
@@ -38,7 +39,8 @@ add_matrix-requires c =
 pub add_matrix-requires-2 : goal.add_matrix-requires-2
 add_matrix-requires-2 c =
     let a = c.args in
-    let fit = joined-fits a.ea.now a.eb.now a.ec.now (length a.out.now) c.requires.out_len in
+    let l = a.circuit.now.matrices in
+    let fit = joined-fits l.a.now l.b.now l.c.now (length a.out.now) c.requires.out_len in
     let kept = c.add_matrix.auto.out ∙ c.clear.auto.out in
     record {
       modulus = c.requires.modulus;
@@ -50,7 +52,8 @@ add_matrix-requires-2 c =
 pub add_matrix-requires-3 : goal.add_matrix-requires-3
 add_matrix-requires-3 c =
     let a = c.args in
-    let fit = joined-fits a.ea.now a.eb.now a.ec.now (length a.out.now) c.requires.out_len in
+    let l = a.circuit.now.matrices in
+    let fit = joined-fits l.a.now l.b.now l.c.now (length a.out.now) c.requires.out_len in
     let kept = c.add_matrix-2.auto.out ∙ c.add_matrix.auto.out ∙ c.clear.auto.out in
     record {
       modulus = c.requires.modulus;
@@ -62,9 +65,10 @@ add_matrix-requires-3 c =
 pub returns : goal.returns
 returns c q k r m alpha beta G H L D =
     let a = c.args in
+    let l = a.circuit.now.matrices in
     let n : ℕ = length a.out.now in
     let δ : Three (Elem q) = map_three of (three a.delta) in
-    let term : ℕ → MatrixName → Poly q = joined_term (lists a.ea.now a.eb.now a.ec.now) k (of alpha) (of beta) δ in
+    let term : ℕ → MatrixName → Poly q = joined_term (word_lists a.circuit.now) k (of alpha) (of beta) δ in
     let kept-by-first = c.add_matrix.auto.out ∙ c.clear.auto.out in
     let kept-by-second = c.add_matrix-2.auto.out ∙ kept-by-first in
     let zeros : map of c.clear.new.out ≡ replicate n (𝟘 {q = q}) = ap (map of) c.clear.ensures ∙ of-zeros n in
@@ -77,4 +81,4 @@ returns c q k r m alpha beta G H L D =
     c.add_matrix-3.ensures q k C r m alpha beta (G C) H L D
     ∙ ap words
     (ap₂ ◌⊞◌ two (ap (λ z. term z C) kept-by-second)
-    ∙ joined_made a.ea.now a.eb.now a.ec.now n c.requires.out_len G alpha beta H δ)
+    ∙ joined_made l.a.now l.b.now l.c.now n c.requires.out_len G alpha beta H δ)

@@ -35,8 +35,8 @@ slice_bounds-lagrange_values_into-end-2 c = lent_length 1024 (size_bound _ c.req
 pub lagrange_values_into-requires-2 : goal.lagrange_values_into-requires-2
 lagrange_values_into-requires-2 c = record { lt_p = c.requires.modulus.0; out_value = lent_size _ c.requires.circuit_shaped.C-size }
 
-pub slice_bounds-rowDistances-end : goal.slice_bounds-rowDistances-end
-slice_bounds-rowDistances-end c = size_bound _ c.requires.circuit_shaped.R-size
+pub slice_bounds-row_distances-end : goal.slice_bounds-row_distances-end
+slice_bounds-row_distances-end c = size_bound _ c.requires.circuit_shaped.R-size
 
 pub slice_bounds-distances_into-end : goal.slice_bounds-distances_into-end
 slice_bounds-distances_into-end c = lent_length 1024 (size_bound _ c.requires.circuit_shaped.R-size)
@@ -44,8 +44,8 @@ slice_bounds-distances_into-end c = lent_length 1024 (size_bound _ c.requires.ci
 pub distances_into-requires : goal.distances_into-requires
 distances_into-requires c = record { modulus = c.requires.modulus; out_value = lent_size _ c.requires.circuit_shaped.R-size }
 
-pub slice_bounds-columnDistances-end : goal.slice_bounds-columnDistances-end
-slice_bounds-columnDistances-end c = size_bound _ c.requires.circuit_shaped.C-size
+pub slice_bounds-column_distances-end : goal.slice_bounds-column_distances-end
+slice_bounds-column_distances-end c = size_bound _ c.requires.circuit_shaped.C-size
 
 pub slice_bounds-distances_into-end-2 : goal.slice_bounds-distances_into-end-2
 slice_bounds-distances_into-end-2 c = lent_length 1024 (size_bound _ c.requires.circuit_shaped.C-size)
@@ -54,28 +54,36 @@ pub distances_into-requires-2 : goal.distances_into-requires-2
 distances_into-requires-2 c = record { modulus = c.requires.modulus; out_value = lent_size _ c.requires.circuit_shaped.C-size }
 
 pub slice_bounds-rows-end-2 : goal.slice_bounds-rows-end-2
-slice_bounds-rows-end-2 c = back_holds 1024 (size_bound _ c.requires.circuit_shaped.R-size) c.lagrange_values_into.new.out c.lagrange_values_into.auto.out
+slice_bounds-rows-end-2 c =
+    back_holds 1024 (size_bound _ c.requires.circuit_shaped.R-size) c.lagrange_values_into.new.out c.lagrange_values_into.auto.out
 
-pub slice_bounds-joined_by_lists-end : goal.slice_bounds-joined_by_lists-end
-slice_bounds-joined_by_lists-end c = back_length 1024 (size_bound _ c.requires.circuit_shaped.R-size) c.lagrange_values_into.new.out c.lagrange_values_into.auto.out
+pub slice_bounds-lagrange-end : goal.slice_bounds-lagrange-end
+slice_bounds-lagrange-end c =
+    back_length 1024 (size_bound _ c.requires.circuit_shaped.R-size) c.lagrange_values_into.new.out c.lagrange_values_into.auto.out
 
 pub slice_bounds-columns-end-2 : goal.slice_bounds-columns-end-2
-slice_bounds-columns-end-2 c = back_holds 1024 (size_bound _ c.requires.circuit_shaped.C-size) c.lagrange_values_into-2.new.out c.lagrange_values_into-2.auto.out
+slice_bounds-columns-end-2 c =
+    back_holds 1024 (size_bound _ c.requires.circuit_shaped.C-size) c.lagrange_values_into-2.new.out c.lagrange_values_into-2.auto.out
 
-pub slice_bounds-joined_by_lists-end-2 : goal.slice_bounds-joined_by_lists-end-2
-slice_bounds-joined_by_lists-end-2 c = back_length 1024 (size_bound _ c.requires.circuit_shaped.C-size) c.lagrange_values_into-2.new.out c.lagrange_values_into-2.auto.out
+pub slice_bounds-lagrange-end-2 : goal.slice_bounds-lagrange-end-2
+slice_bounds-lagrange-end-2 c =
+    back_length 1024 (size_bound _ c.requires.circuit_shaped.C-size) c.lagrange_values_into-2.new.out c.lagrange_values_into-2.auto.out
 
-pub slice_bounds-rowDistances-end-2 : goal.slice_bounds-rowDistances-end-2
-slice_bounds-rowDistances-end-2 c = back_holds 1024 (size_bound _ c.requires.circuit_shaped.R-size) c.distances_into.new.out c.distances_into.auto.out
+pub slice_bounds-row_distances-end-2 : goal.slice_bounds-row_distances-end-2
+slice_bounds-row_distances-end-2 c =
+    back_holds 1024 (size_bound _ c.requires.circuit_shaped.R-size) c.distances_into.new.out c.distances_into.auto.out
 
-pub slice_bounds-joined_by_lists-end-3 : goal.slice_bounds-joined_by_lists-end-3
-slice_bounds-joined_by_lists-end-3 c = back_length 1024 (size_bound _ c.requires.circuit_shaped.R-size) c.distances_into.new.out c.distances_into.auto.out
+pub slice_bounds-distances-end : goal.slice_bounds-distances-end
+slice_bounds-distances-end c =
+    back_length 1024 (size_bound _ c.requires.circuit_shaped.R-size) c.distances_into.new.out c.distances_into.auto.out
 
-pub slice_bounds-columnDistances-end-2 : goal.slice_bounds-columnDistances-end-2
-slice_bounds-columnDistances-end-2 c = back_holds 1024 (size_bound _ c.requires.circuit_shaped.C-size) c.distances_into-2.new.out c.distances_into-2.auto.out
+pub slice_bounds-column_distances-end-2 : goal.slice_bounds-column_distances-end-2
+slice_bounds-column_distances-end-2 c =
+    back_holds 1024 (size_bound _ c.requires.circuit_shaped.C-size) c.distances_into-2.new.out c.distances_into-2.auto.out
 
-pub slice_bounds-joined_by_lists-end-4 : goal.slice_bounds-joined_by_lists-end-4
-slice_bounds-joined_by_lists-end-4 c = back_length 1024 (size_bound _ c.requires.circuit_shaped.C-size) c.distances_into-2.new.out c.distances_into-2.auto.out
+pub slice_bounds-distances-end-2 : goal.slice_bounds-distances-end-2
+slice_bounds-distances-end-2 c =
+    back_length 1024 (size_bound _ c.requires.circuit_shaped.C-size) c.distances_into-2.new.out c.distances_into-2.auto.out
 
 pub joined_by_lists-requires : goal.joined_by_lists-requires
 joined_by_lists-requires c =
@@ -99,7 +107,7 @@ returns c q k G H =
     let known = (G A).known in
     let rows = size_bound _ c.requires.circuit_shaped.R-size in
     let columns = size_bound _ c.requires.circuit_shaped.C-size in
-    c.joined_by_lists.ensures q k a.r a.c a.alpha a.beta G H
+    c.joined_by_lists.ensures q k a.circuit.now.r a.circuit.now.c a.alpha a.beta G H
     (record {
       by_row =
           lent-list (λ (n : ℕ). lagrange_values {q = q} n (of a.alpha)) rows c.lagrange_values_into.new.out c.lagrange_values_into.auto.out

@@ -96,7 +96,7 @@ returns c q k M r m alpha beta G H L D =
     let fits = size_fits _ size in
     let below : List ℕ = c.products_into.new.out in
     let made : List ℕ = c.terms_into.new.out in
-    let place : ℕ → Elem q = λ i. product_of a.rowDistances.now a.columnDistances.now (entry_words a.entries.now i) in
+    let place : ℕ → Elem q = λ i. product_of a.distances.now.rows.now a.distances.now.columns.now (entry_words a.entries.now i) in
     let ts : List (Elem q) = terms r m (of alpha) (of beta) a.entries.now in
     let lent = sym (lent_length 1024 fits) in
     let left =
@@ -108,4 +108,5 @@ returns c q k M r m alpha beta G H L D =
     (c.divide_product_into.ensures q G.known).is-quotient
     ∙ divided (take n (returned 1024 n below)) (take n (returned 1024 n made)) (tabulate n place) (padded n ts)
     (back_length 1024 fits below c.products_into.auto.out) left right
-    ∙ ap₂ (λ (f g : Poly q). words (quotient n (f ⊠ g))) (denominator_made G H c.requires.entries_within_2 D n size) (ratio_by_terms G H n size)
+    ∙ ap₂ (λ (f g : Poly q). words (quotient n (f ⊠ g))) (denominator_made G H c.requires.entries_within_2 D n size)
+    (ratio_by_terms G H n size)

@@ -6,19 +6,20 @@ use Rattle.field.specs.Element.{of, ◌⊗◌}
 use Rattle.matrix_sumcheck.proofs.MatrixTerms.{within-at}
 use Rattle.matrix_sumcheck.proofs.matrix.product_at.Goals as goal
 
-pub bounds-rows-row : goal.bounds-rows-row
-bounds-rows-row c =
-    subst (λ (i : ℕ). i < length c.args.rows.now) (sym c.word_or_zero-row.ensures)
+pub bounds-factors-row : goal.bounds-factors-row
+bounds-factors-row c =
+    subst (λ (i : ℕ). i < length c.args.factors.now.rows.now) (sym c.word_or_zero-row.ensures)
     (within-at c.requires.entries_within c.args.i).row_below
 
-pub bounds-columns-column : goal.bounds-columns-column
-bounds-columns-column c =
-    subst (λ (i : ℕ). i < length c.args.columns.now) (sym c.word_or_zero-column.ensures)
+pub bounds-factors-column : goal.bounds-factors-column
+bounds-factors-column c =
+    subst (λ (i : ℕ). i < length c.args.factors.now.columns.now) (sym c.word_or_zero-column.ensures)
     (within-at c.requires.entries_within c.args.i).column-below
 
 pub returns : goal.returns
 returns c q e =
     let a = c.args in
     c.multiply.ensures q e
-    ∙ ap₂ (λ (i j : ℕ). (of {q = q} (get_or a.rows.now i 0) ⊗ of (get_or a.columns.now j 0)).word) c.word_or_zero-row.ensures
+    ∙ ap₂ (λ (i j : ℕ). (of {q = q} (get_or a.factors.now.rows.now i 0) ⊗ of
+    (get_or a.factors.now.columns.now j 0)).word) c.word_or_zero-row.ensures
     c.word_or_zero-column.ensures

@@ -1,15 +1,12 @@
--- `matrix_sumcheck::matrix::products_into` meets its contract: the first i words are the products. The measure is what is left of the
--- slice. Assumes nothing.
-use mathlib.Core.Path.{refl}
-use native.Mathlib.Omega.{arith}
-use lib.ListN.{length, length-set}
+-- `matrix_sumcheck::matrix::products_into` meets its contract: the first i words are the products. Assumes nothing.
+use Rattle.std.proofs.Common.{arith, length}
 use Rattle.domain.proofs.Fill.{fill_none, rule_turn, rule_end}
 use Rattle.domain.proofs.SizeLaws.{size_fits}
 use Rattle.matrix_sumcheck.proofs.matrix.products_into.Invariants.{rule}
 use Rattle.matrix_sumcheck.proofs.matrix.products_into.Goals as goal
 
 pub loop-i-init : goal.loop-i-init
-loop-i-init c = (omega arith, refl, λ q e. fill_none _ _)
+loop-i-init c q e = fill_none _ _
 
 pub product_at-requires : goal.product_at-requires
 product_at-requires c =
@@ -19,35 +16,16 @@ product_at-requires c =
       i_lt_max_size = omega (arith, size_fits _ c.requires.out_len);
     }
 
-pub offset_bounds-out-i : goal.offset_bounds-out-i
-offset_bounds-out-i c = omega arith
-
-pub bounds-out-i : goal.bounds-out-i
-bounds-out-i c = omega arith
-
-pub overflow_add-i : goal.overflow_add-i
-overflow_add-i c = omega arith
-
-pub loop-i-smaller : goal.loop-i-smaller
-loop-i-smaller c = simp length-set (omega arith)
-
 pub loop-i-preserved : goal.loop-i-preserved
-loop-i-preserved c =
+loop-i-preserved c q e =
     let l = c.loop-i in
-    let a = c.args in (
-      simp length-set (omega arith),
-      simp length-set l.invariant.1,
-      λ q e.
-          rule_turn (length a.out.now) (rule q a.rows.now a.columns.now a.entries.now) l.out l.i
-          c.product_at.result l.invariant.1 (omega arith) (l.invariant.2 q e) (c.product_at.ensures q e),
-    )
-
-pub shape_of-out : goal.shape_of-out
-shape_of-out c = omega arith
+    let a = c.args in
+    rule_turn (length a.out.now) (rule q a.factors.now.rows.now a.factors.now.columns.now a.entries.now) l.out l.i
+    c.product_at.result l.auto.out (omega arith) (l.invariant q e) (c.product_at.ensures q e)
 
 pub returns : goal.returns
 returns c q e =
     let l = c.loop-i in
     let a = c.args in
-    rule_end (length a.out.now) (rule q a.rows.now a.columns.now a.entries.now) l.out l.i l.invariant.1 (omega arith)
-    (l.invariant.2 q e)
+    rule_end (length a.out.now) (rule q a.factors.now.rows.now a.factors.now.columns.now a.entries.now) l.out l.i l.auto.out (omega arith)
+    (l.invariant q e)

@@ -1,8 +1,5 @@
 -- What the loop of `matrix_sumcheck::matrix::products_into` keeps. Assumes nothing.
-use mathlib.Core.Path.{◌≡◌}
-use mathlib.Core.List.{List}
-use Prim.Native.Nat.{ℕ, ◌-◌, ◌≤◌}
-use lib.ListN.{length}
+use Rattle.std.proofs.Common.{◌≡◌, List, ℕ, length}
 use Rattle.algebra.specs.Lists.{tabulate}
 use Rattle.field.specs.Prime.{Prime}
 use Rattle.field.specs.Element.{Elem, words}
@@ -17,8 +14,5 @@ rule q rows columns entries i = product_of rows columns (entry_words entries i)
 
 abbrev pub invariant-loop-i : goal.invariant-loop-i
 invariant-loop-i l =
-    (l.i ≤ length l.out) × (length l.out ≡ length l.initial.out)
-    × ((q : Prime) → q.p ≡ l.p → Filled (words (tabulate (length l.initial.out) (rule q l.rows l.columns l.entries))) l.out l.i)
-
-abbrev pub decreases-loop-i : goal.decreases-loop-i
-decreases-loop-i l = length l.out - l.i
+    (q : Prime) → q.p ≡ l.p → Filled
+    (words (tabulate (length l.initial.out) (rule q l.factors.rows.now l.factors.columns.now l.entries))) l.out l.i

@@ -56,9 +56,6 @@ slice_bounds-copy_tail-end c = made_length (goal.at.slice_bounds-copy_tail-end c
 pub copy_tail-requires : goal.copy_tail-requires
 copy_tail-requires c = sym (made_length (goal.at.copy_tail-requires c).After-ratio_into)
 
-pub overflow_cast-size : goal.overflow_cast-size
-overflow_cast-size c = omega (arith, fits (goal.at.overflow_cast-size c).Start)
-
 pub returns : goal.returns
 returns c q k M m n alpha beta G H L =
     let t = (goal.at.returns c).After-ratio_into in

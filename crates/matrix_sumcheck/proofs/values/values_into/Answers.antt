@@ -43,16 +43,16 @@ pub slice_bounds-rows-end-2 : goal.slice_bounds-rows-end-2
 slice_bounds-rows-end-2 c =
     back_holds 1024 (size_bound _ c.requires.circuit_shaped.R-size) c.lagrange_values_into.new.out c.lagrange_values_into.auto.out
 
-pub slice_bounds-values_by_lists-end : goal.slice_bounds-values_by_lists-end
-slice_bounds-values_by_lists-end c =
+pub slice_bounds-lagrange-end : goal.slice_bounds-lagrange-end
+slice_bounds-lagrange-end c =
     back_length 1024 (size_bound _ c.requires.circuit_shaped.R-size) c.lagrange_values_into.new.out c.lagrange_values_into.auto.out
 
 pub slice_bounds-columns-end-2 : goal.slice_bounds-columns-end-2
 slice_bounds-columns-end-2 c =
     back_holds 1024 (size_bound _ c.requires.circuit_shaped.C-size) c.lagrange_values_into-2.new.out c.lagrange_values_into-2.auto.out
 
-pub slice_bounds-values_by_lists-end-2 : goal.slice_bounds-values_by_lists-end-2
-slice_bounds-values_by_lists-end-2 c =
+pub slice_bounds-lagrange-end-2 : goal.slice_bounds-lagrange-end-2
+slice_bounds-lagrange-end-2 c =
     back_length 1024 (size_bound _ c.requires.circuit_shaped.C-size) c.lagrange_values_into-2.new.out c.lagrange_values_into-2.auto.out
 
 pub values_by_lists-requires : goal.values_by_lists-requires
@@ -73,7 +73,7 @@ returns c q k G H =
     let a = c.args in
     let known = (G A).known in
     let shaped = c.requires.circuit_shaped in
-    c.values_by_lists.ensures q k a.r a.c a.alpha a.beta G H
+    c.values_by_lists.ensures q k a.circuit.now.r a.circuit.now.c a.alpha a.beta G H
     (record {
       by_row =
           lent-list (λ (n : ℕ). lagrange_values {q = q} n (of a.alpha)) (size_bound _ shaped.R-size) c.lagrange_values_into.new.out

@@ -15,12 +15,14 @@ use Rattle.openings.proofs.line.assignment_at.Goals as goal
 pub returns : goal.returns
 returns c q K made k W eC =
     let a = c.args in
+    let i = a.input.now in
     let Q = known-qualifies K in
-    let z : List (Elem q) = map of a.z.now in
+    let z : List (Elem q) = map of i.z.now in
     let β : Elem q = of a.beta in
-    let value = of-result (eval (interpolate a.c z) β) (c.interpolated_at-value.ensures q Q K.value a.c c.requires.c_value β made) in
-    let vanished = of-result (vanishing a.c β) (c.vanishing_value.ensures q K.value) in
+    let value =
+    of-result (eval (interpolate i.circuit.c z) β) (c.interpolated_at-value.ensures q Q K.value i.circuit.c c.requires.c_value β made) in
+    let vanished = of-result (vanishing i.circuit.c β) (c.vanishing_value-vanishing.ensures q K.value) in
     c.multiply_add.ensures q K.value
-    ∙ ap₂ (λ (u w : Elem q). (of a.mask ⊗ u ⊕ w).word) vanished value
-    ∙ ap (λ (n : ℕ). (of a.mask ⊗ vanishing n β ⊕ eval (interpolate n z) β).word) (sym eC)
-    ∙ ap (λ (x : Elem q). x.word) (add_comm _ _ ∙ sym (eval-ẑ Q k (known_formed K W) z (of a.mask) β))
+    ∙ ap₂ (λ (u w : Elem q). (of i.mask ⊗ u ⊕ w).word) vanished value
+    ∙ ap (λ (n : ℕ). (of i.mask ⊗ vanishing n β ⊕ eval (interpolate n z) β).word) (sym eC)
+    ∙ ap (λ (x : Elem q). x.word) (add_comm _ _ ∙ sym (eval-ẑ Q k (known_formed K W) z (of i.mask) β))

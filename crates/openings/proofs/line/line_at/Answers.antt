@@ -42,7 +42,12 @@ pub parted_at-parts-requires : goal.parted_at-parts-requires
 parted_at-parts-requires c =
     record {
       p_nonzero = omega (arith, c.requires.lt_p);
-      f_nonzero = omega (arith, made_length (made_in c.rest_into.new.out (size_bound _ c.requires.c_value.0) c.rest_into.auto.out), size_positive _ c.requires.c_value.0);
+      f_nonzero =
+          omega (
+            arith,
+            made_length (made_in c.rest_into.new.out (size_bound _ c.requires.c_value.0) c.rest_into.auto.out),
+            size_positive _ c.requires.c_value.0,
+          );
     }
 
 pub returns : goal.returns
@@ -50,25 +55,28 @@ unfolding line_remainder
 returns c q K lagrange k W eC α η weighed ẑ assigned =
     let rest_made = made_in c.rest_into.new.out (size_bound _ c.requires.c_value.0) c.rest_into.auto.out in
     let a = c.args in
+    let i = a.input.now in
     let v = K.value in
     let Q = known-qualifies K in
     let β : Elem q = of a.beta in
-    let mask : Poly q = map of a.m.now in
+    let mask : Poly q = map of i.m.now in
     let f : Poly q = line k mask ẑ α η in
-    let rest : ℕ → Poly q = λ n. remainder n mask ⊞ interpolate n (products_of n a.weights.now a.z.now) in
-    let read = made_list rest_made (rest a.c) (made_by_length rest_made rest (c.rest_into.ensures q K))
-    ∙ line-rest_made Q k (known_formed K W) eC mask ẑ a.z.now assigned.on_columns α η a.weights.now weighed in
+    let rest : ℕ → Poly q = λ n. remainder n mask ⊞ interpolate n (products_of n a.weights.now i.z.now) in
+    let read = made_list rest_made (rest i.circuit.c) (made_by_length rest_made rest (c.rest_into.ensures q K))
+    ∙ line-rest_made Q k (known_formed K W) eC mask ẑ i.z.now assigned.on_columns α η a.weights.now weighed in
     let masked = c.evaluate-mask.ensures q v in
-    let weight = of-result (eval (interpolate a.c (map of a.weights.now)) β)
-    (c.interpolated_at.ensures q Q v a.c c.requires.c_value.0 β lagrange) in
+    let weight = of-result (eval (interpolate i.circuit.c (map of a.weights.now)) β)
+    (c.interpolated_at.ensures q Q v i.circuit.c c.requires.c_value.0 β lagrange) in
     let whole = of-result (of {q = q} _ ⊗ of _ ⊕ of _) (c.multiply_add-line.ensures q v)
     ∙ ap₂ ◌⊕◌ (ap₂ ◌⊗◌ weight (of-result (eval ẑ β) assigned.at_point)) (of-result (eval mask β) masked) in
-    let below = of-result (eval (map of (take c.args.c (returned 1024 c.args.c c.rest_into.new.out))) β) (c.parted_at-parts.ensures q v).whole ∙ ap (λ (g : Poly q). eval g β) read in
+    let below =
+    of-result (eval (map of (take c.args.input.now.circuit.c (returned 1024 c.args.input.now.circuit.c c.rest_into.new.out))) β)
+    (c.parted_at-parts.ensures q v).whole ∙ ap (λ (g : Poly q). eval g β) read in
     record {
       is-mask = masked;
       is-remainder = (c.parted_at-parts.ensures q v).rest ∙ ap (λ (g : Poly q). (eval (tail g) β).word) read;
       is-quotient =
           c.over_vanishing.ensures q K (eval (line_quotient k f) β)
           (of-result (of {q = q} _ ⊖ of _) (c.subtract.ensures q v) ∙ ap₂ ◌⊖◌ whole below
-          ∙ line-quotient_made Q k (known_formed K W) eC mask ẑ a.z.now assigned.on_columns α η a.weights.now weighed β);
+          ∙ line-quotient_made Q k (known_formed K W) eC mask ẑ i.z.now assigned.on_columns α η a.weights.now weighed β);
     }

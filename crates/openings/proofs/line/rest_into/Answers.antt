@@ -40,7 +40,8 @@ pub slice_bounds-products-end-2 : goal.slice_bounds-products-end-2
 slice_bounds-products-end-2 c = made_holds (made_in c.products_into.new.out (size_bound _ c.requires.out_value) c.products_into.auto.out)
 
 pub slice_bounds-interpolate_into-end : goal.slice_bounds-interpolate_into-end
-slice_bounds-interpolate_into-end c = made_length (made_in c.products_into.new.out (size_bound _ c.requires.out_value) c.products_into.auto.out)
+slice_bounds-interpolate_into-end c =
+    made_length (made_in c.products_into.new.out (size_bound _ c.requires.out_value) c.products_into.auto.out)
 
 pub slice_bounds-product-end : goal.slice_bounds-product-end
 slice_bounds-product-end c = size_bound _ c.requires.out_value
@@ -64,16 +65,20 @@ remainder_into-requires c =
     }
 
 pub slice_bounds-product-end-2 : goal.slice_bounds-product-end-2
-slice_bounds-product-end-2 c = made_holds (made_in c.interpolate_into.new.out (size_bound _ c.requires.out_value) c.interpolate_into.auto.out)
+slice_bounds-product-end-2 c =
+    made_holds (made_in c.interpolate_into.new.out (size_bound _ c.requires.out_value) c.interpolate_into.auto.out)
 
 pub slice_bounds-add_scaled-end : goal.slice_bounds-add_scaled-end
-slice_bounds-add_scaled-end c = made_length (made_in c.interpolate_into.new.out (size_bound _ c.requires.out_value) c.interpolate_into.auto.out)
+slice_bounds-add_scaled-end c =
+    made_length (made_in c.interpolate_into.new.out (size_bound _ c.requires.out_value) c.interpolate_into.auto.out)
 
 pub add_scaled-requires : goal.add_scaled-requires
 add_scaled-requires c =
     record {
       p_nonzero = omega (arith, c.requires.lt_p);
-      g_in_bounds = parts_order (made_length (made_in c.interpolate_into.new.out (size_bound _ c.requires.out_value) c.interpolate_into.auto.out)) (sym c.remainder_into.auto.out) (le_refl _);
+      g_in_bounds =
+          parts_order (made_length (made_in c.interpolate_into.new.out (size_bound _ c.requires.out_value) c.interpolate_into.auto.out))
+          (sym c.remainder_into.auto.out) (le_refl _);
     }
 
 pub returns : goal.returns
@@ -85,7 +90,9 @@ returns c q K =
     let products : ℕ → List (Elem q) = λ n. products_of n a.weights.now a.z.now in
     let long = made_length products_made in
     let listed = made_list products_made (products n) (made_by_length products_made products (c.products_into.ensures q v)) in
-    let product = made_list (made_in c.interpolate_into.new.out (size_bound _ c.requires.out_value) c.interpolate_into.auto.out) (interpolate n (products n))
+    let product =
+    made_list (made_in c.interpolate_into.new.out (size_bound _ c.requires.out_value) c.interpolate_into.auto.out)
+    (interpolate n (products n))
     (c.interpolate_into.ensures q (known-qualifies K) v
     (c.root_of.ensures q K ∙ ap (λ (n : ℕ). (root {q = q} n).word) long)
     ∙ ap₂ (λ (n : ℕ) (l : List (Elem q)). words (interpolate n l)) (sym long) listed) in

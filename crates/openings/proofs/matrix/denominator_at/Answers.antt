@@ -10,8 +10,8 @@ pub returns : goal.returns
 unfolding denominator_value
 returns c q e s eR eC =
     let a = c.args in
-    let α : Elem q = of a.alpha in
-    let β : Elem q = of a.beta in
+    let α : Elem q = of a.challenges.now.alpha in
+    let β : Elem q = of a.challenges.now.beta in
     let corner = of-result (α ⊗ β) (c.multiply-corner.ensures q e) in
     let column = of-result (α ⊗ of a.i.col) (c.multiply.ensures q e) in
     let first = of-result (of {q = q} _ ⊖ of _) (c.subtract-first.ensures q e)
@@ -20,6 +20,6 @@ returns c q e s eR eC =
     let second = of-result (of {q = q} _ ⊖ of _) (c.subtract-second.ensures q e) ∙ ap₂ ◌⊖◌ first row in
     let rowcol : Elem q = of a.i.rowcol in
     let both = of-result (of {q = q} _ ⊕ rowcol) (c.add-both.ensures q e) ∙ ap (λ v. v ⊕ rowcol) second in
-    let scale = of-result (of {q = q} a.r ⊗ of a.c) (c.multiply-3.ensures q e)
+    let scale = of-result (of {q = q} a.circuit.now.r ⊗ of a.circuit.now.c) (c.multiply-3.ensures q e)
     ∙ ap₂ (λ (m n : ℕ). of m ⊗ of n) (sym eR) (sym eC) in
     c.multiply-4.ensures q e ∙ ap₂ (λ (u v : Elem q). (u ⊗ v).word) scale both

@@ -13,9 +13,9 @@ pub returns : goal.returns
 unfolding numerator_value
 returns c q e s eR eC made =
     let a = c.args in
-    let α : Elem q = of a.alpha in
-    let β : Elem q = of a.beta in
-    let scale = of-result (vanishing a.r α ⊗ vanishing a.c β) made
+    let α : Elem q = of a.challenges.now.alpha in
+    let β : Elem q = of a.challenges.now.beta in
+    let scale = of-result (vanishing a.circuit.now.r α ⊗ vanishing a.circuit.now.c β) made
     ∙ ap₂ (λ (m n : ℕ). vanishing m α ⊗ vanishing n β) (sym eR) (sym eC) in
     let above = of-result (of {q = q} a.scale ⊗ of a.i.rowcolval) (c.multiply-numerator.ensures q e)
     ∙ ap (λ (v : Elem q). v ⊗ of a.i.rowcolval) scale in

@@ -53,41 +53,60 @@ pub slice_bounds-row-end-2 : goal.slice_bounds-row-end-2
 slice_bounds-row-end-2 c = made_holds (made_in c.index_values_into.new.row (size_fits _ c.requires.places_len) c.index_values_into.auto.row)
 
 pub slice_bounds-interpolated_at-end : goal.slice_bounds-interpolated_at-end
-slice_bounds-interpolated_at-end c = made_length (made_in c.index_values_into.new.row (size_fits _ c.requires.places_len) c.index_values_into.auto.row)
+slice_bounds-interpolated_at-end c =
+    made_length (made_in c.index_values_into.new.row (size_fits _ c.requires.places_len) c.index_values_into.auto.row)
 
 pub interpolated_at-requires : goal.interpolated_at-requires
 interpolated_at-requires c =
-    record { p_nonzero = omega (arith, c.requires.lt_p); values_len = sym (made_length (made_in c.index_values_into.new.row (size_fits _ c.requires.places_len) c.index_values_into.auto.row)) }
+    record {
+      p_nonzero = omega (arith, c.requires.lt_p);
+      values_len = sym (made_length (made_in c.index_values_into.new.row (size_fits _ c.requires.places_len) c.index_values_into.auto.row));
+    }
 
 pub slice_bounds-col-end-2 : goal.slice_bounds-col-end-2
 slice_bounds-col-end-2 c = made_holds (made_in c.index_values_into.new.col (size_fits _ c.requires.places_len) c.index_values_into.auto.col)
 
 pub slice_bounds-interpolated_at-end-2 : goal.slice_bounds-interpolated_at-end-2
-slice_bounds-interpolated_at-end-2 c = made_length (made_in c.index_values_into.new.col (size_fits _ c.requires.places_len) c.index_values_into.auto.col)
+slice_bounds-interpolated_at-end-2 c =
+    made_length (made_in c.index_values_into.new.col (size_fits _ c.requires.places_len) c.index_values_into.auto.col)
 
 pub interpolated_at-requires-2 : goal.interpolated_at-requires-2
 interpolated_at-requires-2 c =
-    record { p_nonzero = omega (arith, c.requires.lt_p); values_len = sym (made_length (made_in c.index_values_into.new.col (size_fits _ c.requires.places_len) c.index_values_into.auto.col)) }
+    record {
+      p_nonzero = omega (arith, c.requires.lt_p);
+      values_len = sym (made_length (made_in c.index_values_into.new.col (size_fits _ c.requires.places_len) c.index_values_into.auto.col));
+    }
 
 pub slice_bounds-rowcol-end-2 : goal.slice_bounds-rowcol-end-2
-slice_bounds-rowcol-end-2 c = made_holds (made_in c.index_values_into.new.rowcol (size_fits _ c.requires.places_len) c.index_values_into.auto.rowcol)
+slice_bounds-rowcol-end-2 c =
+    made_holds (made_in c.index_values_into.new.rowcol (size_fits _ c.requires.places_len) c.index_values_into.auto.rowcol)
 
 pub slice_bounds-interpolated_at-end-3 : goal.slice_bounds-interpolated_at-end-3
-slice_bounds-interpolated_at-end-3 c = made_length (made_in c.index_values_into.new.rowcol (size_fits _ c.requires.places_len) c.index_values_into.auto.rowcol)
+slice_bounds-interpolated_at-end-3 c =
+    made_length (made_in c.index_values_into.new.rowcol (size_fits _ c.requires.places_len) c.index_values_into.auto.rowcol)
 
 pub interpolated_at-requires-3 : goal.interpolated_at-requires-3
 interpolated_at-requires-3 c =
-    record { p_nonzero = omega (arith, c.requires.lt_p); values_len = sym (made_length (made_in c.index_values_into.new.rowcol (size_fits _ c.requires.places_len) c.index_values_into.auto.rowcol)) }
+    record {
+      p_nonzero = omega (arith, c.requires.lt_p);
+      values_len = sym (made_length (made_in c.index_values_into.new.rowcol (size_fits _ c.requires.places_len) c.index_values_into.auto.rowcol));
+    }
 
 pub slice_bounds-rowcolval-end-2 : goal.slice_bounds-rowcolval-end-2
-slice_bounds-rowcolval-end-2 c = made_holds (made_in c.index_values_into.new.rowcolval (size_fits _ c.requires.places_len) c.index_values_into.auto.rowcolval)
+slice_bounds-rowcolval-end-2 c =
+    made_holds (made_in c.index_values_into.new.rowcolval (size_fits _ c.requires.places_len) c.index_values_into.auto.rowcolval)
 
 pub slice_bounds-interpolated_at-end-4 : goal.slice_bounds-interpolated_at-end-4
-slice_bounds-interpolated_at-end-4 c = made_length (made_in c.index_values_into.new.rowcolval (size_fits _ c.requires.places_len) c.index_values_into.auto.rowcolval)
+slice_bounds-interpolated_at-end-4 c =
+    made_length (made_in c.index_values_into.new.rowcolval (size_fits _ c.requires.places_len) c.index_values_into.auto.rowcolval)
 
 pub interpolated_at-requires-4 : goal.interpolated_at-requires-4
 interpolated_at-requires-4 c =
-    record { p_nonzero = omega (arith, c.requires.lt_p); values_len = sym (made_length (made_in c.index_values_into.new.rowcolval (size_fits _ c.requires.places_len) c.index_values_into.auto.rowcolval)) }
+    record {
+      p_nonzero = omega (arith, c.requires.lt_p);
+      values_len =
+          sym (made_length (made_in c.index_values_into.new.rowcolval (size_fits _ c.requires.places_len) c.index_values_into.auto.rowcolval));
+    }
 
 pub returns : goal.returns
 returns c q K k M eR eC matrix y lagrange =
@@ -101,18 +120,25 @@ returns c q K k M eR eC matrix y lagrange =
     ap (λ (m : ℕ). map_index (interpolate m) (index_values k a.entries.now m)) c.requires.places_len
     ∙ sym (index_by_words q k M a.entries.now c.requires.entry_words matrix) in
     let made = c.index_values_into.ensures q K k eR eC
-    ∙ ap (λ (m : ℕ). map_index words (index_values {q = q} k a.entries.now m)) (sym (lent_length 1024 (size_fits _ c.requires.places_len))) in
+    ∙ ap (λ (m : ℕ). map_index words (index_values {q = q} k a.entries.now m))
+    (sym (lent_length 1024 (size_fits _ c.requires.places_len))) in
     let value : List (Elem q) → ℕ = λ l. (eval (interpolate n l) y).word in
     four_same
     (c.interpolated_at.ensures q Q e n sized y lagrange
-    ∙ ap value (made_list (made_in c.index_values_into.new.row (size_fits _ c.requires.places_len) c.index_values_into.auto.row) f.row (ap (λ (i : Index (List ℕ)). i.row) made))
+    ∙ ap value (made_list (made_in c.index_values_into.new.row (size_fits _ c.requires.places_len) c.index_values_into.auto.row) f.row
+    (ap (λ (i : Index (List ℕ)). i.row) made))
     ∙ ap (λ (i : Index (Poly q)). (eval i.row y).word) same)
     (c.interpolated_at-2.ensures q Q e n sized y lagrange
-    ∙ ap value (made_list (made_in c.index_values_into.new.col (size_fits _ c.requires.places_len) c.index_values_into.auto.col) f.col (ap (λ (i : Index (List ℕ)). i.col) made))
+    ∙ ap value (made_list (made_in c.index_values_into.new.col (size_fits _ c.requires.places_len) c.index_values_into.auto.col) f.col
+    (ap (λ (i : Index (List ℕ)). i.col) made))
     ∙ ap (λ (i : Index (Poly q)). (eval i.col y).word) same)
     (c.interpolated_at-3.ensures q Q e n sized y lagrange
-    ∙ ap value (made_list (made_in c.index_values_into.new.rowcol (size_fits _ c.requires.places_len) c.index_values_into.auto.rowcol) f.rowcol (ap (λ (i : Index (List ℕ)). i.rowcol) made))
+    ∙ ap value (made_list
+    (made_in c.index_values_into.new.rowcol (size_fits _ c.requires.places_len) c.index_values_into.auto.rowcol) f.rowcol
+    (ap (λ (i : Index (List ℕ)). i.rowcol) made))
     ∙ ap (λ (i : Index (Poly q)). (eval i.rowcol y).word) same)
     (c.interpolated_at-4.ensures q Q e n sized y lagrange
-    ∙ ap value (made_list (made_in c.index_values_into.new.rowcolval (size_fits _ c.requires.places_len) c.index_values_into.auto.rowcolval) f.rowcolval (ap (λ (i : Index (List ℕ)). i.rowcolval) made))
+    ∙ ap value (made_list
+    (made_in c.index_values_into.new.rowcolval (size_fits _ c.requires.places_len) c.index_values_into.auto.rowcolval) f.rowcolval
+    (ap (λ (i : Index (List ℕ)). i.rowcolval) made))
     ∙ ap (λ (i : Index (Poly q)). (eval i.rowcolval y).word) same)

@@ -26,12 +26,12 @@ use Rattle.openings.proofs.matrix.joined_at.Goals.{After-largest_size}
 inverted : (c : After-largest_size) → is_size c.largest_size.result ≡ true
 unfolding circuit_of
 inverted c =
-    let a = c.args in
-    let k : Circuit = circuit_of (given 0 0 0 a.ea.now a.eb.now a.ec.now) in
+    let l = c.args.circuit.now.matrices in
+    let k : Circuit = circuit_of (given 0 0 0 l.a.now l.b.now l.c.now) in
     ap is_size (c.largest_size.ensures k refl) ∙ largest_size k
 
-pub size_inverse-requires : goal.size_inverse-requires
-size_inverse-requires c = record {
+pub size_inverse-inverse-requires : goal.size_inverse-inverse-requires
+size_inverse-inverse-requires c = record {
   lt_p = search rules;
   n_value = inverted c;
 }
@@ -42,21 +42,21 @@ returns c q K k matrices α β γ quotients =
     let a = c.args in
     let e = K.value in
     let h : MatrixName → Elem q = λ M. eval (matrix_quotient k α β M) γ in
-    let first : of c.share_of-a.result ≡ of a.delta.a ⊗ of (sizeK k A) ⊗ h A =
-    of-result _ (c.share_of-a.ensures q e)
+    let first : of c.share_of-of_a.result ≡ of a.delta.a ⊗ of (sizeK k A) ⊗ h A =
+    of-result _ (c.share_of-of_a.ensures q e)
     ∙ ap₂ (λ (t : Three (List Entry)) (v : Elem q). of a.delta.a ⊗ of (size_for (length t.a)) ⊗ v)
     (sym matrices) (of-result (h A) (quotients A)) in
-    let second : of c.share_of-b.result ≡ of a.delta.b ⊗ of (sizeK k B) ⊗ h B =
-    of-result _ (c.share_of-b.ensures q e)
+    let second : of c.share_of-of_b.result ≡ of a.delta.b ⊗ of (sizeK k B) ⊗ h B =
+    of-result _ (c.share_of-of_b.ensures q e)
     ∙ ap₂ (λ (t : Three (List Entry)) (v : Elem q). of a.delta.b ⊗ of (size_for (length t.b)) ⊗ v)
     (sym matrices) (of-result (h B) (quotients B)) in
-    let last : of c.share_of-c.result ≡ of a.delta.c ⊗ of (sizeK k C) ⊗ h C =
-    of-result _ (c.share_of-c.ensures q e)
+    let last : of c.share_of-of_c.result ≡ of a.delta.c ⊗ of (sizeK k C) ⊗ h C =
+    of-result _ (c.share_of-of_c.ensures q e)
     ∙ ap₂ (λ (t : Three (List Entry)) (v : Elem q). of a.delta.c ⊗ of (size_for (length t.c)) ⊗ v)
     (sym matrices) (of-result (h C) (quotients C)) in
     let two = of-result (of {q = q} _ ⊕ of _) (c.add.ensures q e) ∙ ap₂ ◌⊕◌ first second in
     let all = of-result (of {q = q} _ ⊕ of _) (c.add-all.ensures q e) ∙ ap₂ ◌⊕◌ two last in
-    let inverse = of-result (reciprocal (of _)) (c.size_inverse.ensures q (known-qualifies K) e)
+    let inverse = of-result (reciprocal (of _)) (c.size_inverse-inverse.ensures q (known-qualifies K) e)
     ∙ ap (λ (n : ℕ). reciprocal (of {q = q} n)) (c.largest_size.ensures k matrices) in
     c.multiply.ensures q e ∙ ap₂ (λ (u v : Elem q). (u ⊗ v).word) all inverse
     ∙ ap (λ (v : Elem q). v.word) (sym (joined-value k α β γ (map_three of (three a.delta))))

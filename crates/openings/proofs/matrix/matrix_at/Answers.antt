@@ -33,14 +33,18 @@ pub lagrange_values_into-requires : goal.lagrange_values_into-requires
 lagrange_values_into-requires c =
     record {
       lt_p = c.requires.lt_p;
-      out_value = ap is_size (sym (lent_length 1024 (size_fits _ c.size_of-size.ensures))) ∙ (ap is_size c.size_of-size.ensures ∙ size_for_is_size _);
+      out_value =
+          ap is_size (sym (lent_length 1024 (size_fits _ c.size_of-size.ensures)))
+          ∙ (ap is_size c.size_of-size.ensures ∙ size_for_is_size _);
     }
 
 pub slice_bounds-places-end-2 : goal.slice_bounds-places-end-2
-slice_bounds-places-end-2 c = made_holds (made_in c.lagrange_values_into.new.out (size_fits _ c.size_of-size.ensures) c.lagrange_values_into.auto.out)
+slice_bounds-places-end-2 c =
+    made_holds (made_in c.lagrange_values_into.new.out (size_fits _ c.size_of-size.ensures) c.lagrange_values_into.auto.out)
 
 pub slice_bounds-index_at-end : goal.slice_bounds-index_at-end
-slice_bounds-index_at-end c = made_length (made_in c.lagrange_values_into.new.out (size_fits _ c.size_of-size.ensures) c.lagrange_values_into.auto.out)
+slice_bounds-index_at-end c =
+    made_length (made_in c.lagrange_values_into.new.out (size_fits _ c.size_of-size.ensures) c.lagrange_values_into.auto.out)
 
 pub index_at-opened-requires : goal.index_at-opened-requires
 index_at-opened-requires c =
@@ -49,7 +53,9 @@ index_at-opened-requires c =
       lt_p = h.lt_p;
       r_value = h.r_value;
       entry_words = h.entries_within.words;
-      places_len = sym (made_length (made_in c.lagrange_values_into.new.out (size_fits _ c.size_of-size.ensures) c.lagrange_values_into.auto.out)) ∙ c.size_of-size.ensures;
+      places_len =
+          sym (made_length (made_in c.lagrange_values_into.new.out (size_fits _ c.size_of-size.ensures) c.lagrange_values_into.auto.out))
+          ∙ c.size_of-size.ensures;
     }
 
 pub slice_bounds-ratio-end : goal.slice_bounds-ratio-end
@@ -77,7 +83,12 @@ pub parted_at-parts-requires : goal.parted_at-parts-requires
 parted_at-parts-requires c =
     record {
       p_nonzero = omega (arith, c.requires.lt_p);
-      f_nonzero = omega (arith, made_length (made_in c.ratio_into.new.out (size_fits _ c.size_of-size.ensures) c.ratio_into.auto.out), sized_positive _ c.size_of-size.ensures);
+      f_nonzero =
+          omega (
+            arith,
+            made_length (made_in c.ratio_into.new.out (size_fits _ c.size_of-size.ensures) c.ratio_into.auto.out),
+            sized_positive _ c.size_of-size.ensures,
+          );
     }
 
 pub over_vanishing-requires : goal.over_vanishing-requires
@@ -85,7 +96,8 @@ over_vanishing-requires c =
     record {
       lt_p = c.requires.lt_p;
       n_value = (ap is_size c.size_of-size.ensures ∙ size_for_is_size _);
-      outside_domain = subst⁻¹ (λ (m : ℕ). OutsideDomain c.args.p m c.args.gamma) c.size_of-size.ensures c.requires.outside_domain;
+      outside_domain =
+          subst⁻¹ (λ (m : ℕ). OutsideDomain c.args.p m c.args.challenges.now.gamma) c.size_of-size.ensures c.requires.outside_domain;
     }
 
 pub returns : goal.returns
@@ -93,17 +105,22 @@ unfolding matrix_remainder sizes_of
 returns c q k M G H L scaled =
     let places_made = made_in c.lagrange_values_into.new.out (size_fits _ c.size_of-size.ensures) c.lagrange_values_into.auto.out in
     let a = c.args in
+    let h = a.challenges.now in
     let K = G.known in
     let v = K.value in
-    let α : Elem q = of a.alpha in
-    let β : Elem q = of a.beta in
-    let γ : Elem q = of a.gamma in
+    let α : Elem q = of h.alpha in
+    let β : Elem q = of h.beta in
+    let γ : Elem q = of h.gamma in
     let f : Poly q = ratio k α β M in
     let places = made_is places_made ∙ c.lagrange_values_into.ensures q K
     ∙ ap (λ (m : ℕ). words (lagrange_values m γ)) (sym (lent_length 1024 (size_fits _ c.size_of-size.ensures)) ∙ made_length places_made) in
     let indexed = c.index_at-opened.ensures q K k M G.rows G.columns G.matrix γ places in
-    let read = made_list (made_in c.ratio_into.new.out (size_fits _ c.size_of-size.ensures) c.ratio_into.auto.out) f (c.ratio_into.ensures q k M a.r a.c a.alpha a.beta G H L) in
-    let whole = of-result (eval (map of (take c.size_of-size.result (returned 1024 c.size_of-size.result c.ratio_into.new.out))) γ) (c.parted_at-parts.ensures q v).whole ∙ ap (λ (g : Poly q). eval g γ) read in
+    let read =
+    made_list (made_in c.ratio_into.new.out (size_fits _ c.size_of-size.ensures) c.ratio_into.auto.out) f
+    (c.ratio_into.ensures q k M a.circuit.now.r a.circuit.now.c h.alpha h.beta G H L) in
+    let whole =
+    of-result (eval (map of (take c.size_of-size.result (returned 1024 c.size_of-size.result c.ratio_into.new.out))) γ)
+    (c.parted_at-parts.ensures q v).whole ∙ ap (λ (g : Poly q). eval g γ) read in
     record {
       is-index = indexed;
       is-remainder = (c.parted_at-parts.ensures q v).rest ∙ ap (λ (g : Poly q). (eval (tail g) γ).word) read;

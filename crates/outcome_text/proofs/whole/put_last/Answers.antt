@@ -1,14 +1,11 @@
 -- `outcome_text::whole::put_last` meets its contract. Assumes nothing.
-use mathlib.Core.Path.{sym, ap, ◌∙◌}
-use Prim.Native.Nat.{ℕ, ◌*◌, ◌/◌, ◌≤◌}
-use native.Mathlib.Omega.{arith}
+use Rattle.std.proofs.Common.{sym, ap, ◌∙◌, ℕ, ◌*◌, ◌/◌, ◌≤◌, get_or, arith}
 use native.Mathlib.Nat.{div-le_self}
-use lib.ListN.{get_or}
 use Rattle.algebra.specs.Lists.{tabulate}
 use Rattle.domain.proofs.SizeLaws.{size_positive, size_bound, size_quotient_positive}
 use Rattle.protocol.specs.Messages.{lengths}
 use Rattle.shared.specs.Meanings.{three, sizes, openings}
-use Rattle.poly.proofs.LentParts.{lent_length, back_holds, back_length, back_is}
+use Rattle.poly.proofs.LentParts.{lent_length}
 use Rattle.prover.proofs.WitnessLaws.{public_within}
 use Rattle.report.specs.ProofText.{answer_text}
 use Rattle.report.specs.Stages.{last_answer}
@@ -23,11 +20,11 @@ overflow_cast-s c =
     let a = c.args in
     omega (arith, div-le_self a.s.c a.s.x, size_bound a.s.c c.requires.c_value.0)
 
-pub slice_bounds-x-end : goal.slice_bounds-x-end
-slice_bounds-x-end c = size_bound _ c.requires.c_value.1
+pub slice_bounds-words-end : goal.slice_bounds-words-end
+slice_bounds-words-end c = size_bound _ c.requires.c_value.1
 
-pub slice_bounds-public_words_into-end : goal.slice_bounds-public_words_into-end
-slice_bounds-public_words_into-end c = lent_length 1024 (size_bound _ c.requires.c_value.1)
+pub slice_bounds-x-end : goal.slice_bounds-x-end
+slice_bounds-x-end c = lent_length 1024 (size_bound _ c.requires.c_value.1)
 
 pub public_words_into-requires : goal.public_words_into-requires
 public_words_into-requires c =
@@ -36,31 +33,20 @@ public_words_into-requires c =
       public_within c.args.z.now _ given.0 given.1 given.2 given.3 (size_bound _ given.1),
     )
 
-pub slice_bounds-x-end-2 : goal.slice_bounds-x-end-2
-slice_bounds-x-end-2 c =
-    let call = c.public_words_into in
-    back_holds 1024 (size_bound _ c.requires.c_value.1) call.new.out call.auto.out
-
-pub slice_bounds-last_answer-end : goal.slice_bounds-last_answer-end
-slice_bounds-last_answer-end c =
-    let call = c.public_words_into in
-    back_length 1024 (size_bound _ c.requires.c_value.1) call.new.out call.auto.out
-
 pub last_answer-answer-requires : goal.last_answer-answer-requires
 last_answer-answer-requires c = size_bound _ c.requires.c_value.0
 
 pub returns : goal.returns
 returns c =
-    let call = c.public_words_into in
     let a = c.args in
     let within : a.s.x ≤ 1024 = size_bound _ c.requires.c_value.1 in
     let public =
-    back_is 1024 within call.new.out call.auto.out ∙ call.ensures
+    c.public_words_into.ensures
     ∙ ap (λ (n : ℕ). tabulate n (λ i. get_or a.z.now (i * (a.s.c / a.s.x)) 0)) (sym (lent_length 1024 within)) in
     printed_as
     (ap answer_text
     (c.last_answer-answer.ensures
     ∙ (λ t.
     last_answer (sizes a.s) (lengths (sizes a.s)) (public t) a.drawn (three a.sums) (three a.values)
-    (openings a.o (c.arrays.ensures t)))))
+    (openings a.opened.messages (c.index_arrays.ensures t)))))
     c.put_answer.ensures

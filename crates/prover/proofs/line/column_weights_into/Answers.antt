@@ -14,8 +14,8 @@ use Rattle.prover.proofs.LineLaws.{each_within}
 use Rattle.prover.proofs.line.column_weights_into.Goals as goal
 use Rattle.prover.proofs.line.column_weights_into.Goals.{After-lagrange_values_into, Start}
 
-bound : (c : Start) → c.args.r ≤ 1024
-bound c = size_bound c.args.r c.requires.r_value
+bound : (c : Start) → c.args.circuit.now.r ≤ 1024
+bound c = size_bound c.args.circuit.now.r c.requires.r_value
 
 abbrev left : After-lagrange_values_into → List ℕ
 left c = c.lagrange_values_into.new.out
@@ -61,7 +61,7 @@ returns c q known k eR matrices =
     let α : Elem q = of a.alpha in
     let long = filled_length _ _ (bound s) (left r) r.lagrange_values_into.auto.out in
     c.weights_from.ensures q known.value k (eR ∙ long) matrices α
-    (of_filled _ _ (bound s) (left r) r.lagrange_values_into.auto.out (row_values a.r α)
+    (of_filled _ _ (bound s) (left r) r.lagrange_values_into.auto.out (row_values a.circuit.now.r α)
     (r.lagrange_values_into.ensures q known
     ∙ ap (λ (n : ℕ). words (tabulate n (λ i. lagrange n (element n i) α))) (sym (part_length _ _ (bound s))))
     ∙ ap (λ (n : ℕ). row_values n α) long)

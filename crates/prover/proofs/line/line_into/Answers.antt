@@ -59,7 +59,8 @@ slice_bounds-values-end-2 c =
     back_holds 1024 (bound c.requires.fits) c.column_weights_into.new.out c.column_weights_into.auto.out
 
 pub slice_bounds-divide_product_into-end : goal.slice_bounds-divide_product_into-end
-slice_bounds-divide_product_into-end c = back_length 1024 (bound c.requires.fits) c.column_weights_into.new.out c.column_weights_into.auto.out
+slice_bounds-divide_product_into-end c =
+    back_length 1024 (bound c.requires.fits) c.column_weights_into.new.out c.column_weights_into.auto.out
 
 pub slice_bounds-weights-end : goal.slice_bounds-weights-end
 slice_bounds-weights-end c = bound c.requires.fits
@@ -81,7 +82,7 @@ slice_bounds-divide_product_into-end-4 c = lent_length 1024 (short c.requires.fi
 
 pub divide_product_into-requires : goal.divide_product_into-requires
 divide_product_into-requires c =
-    let n : ℕ = c.args.c in
+    let n : ℕ = c.args.input.now.circuit.c in
     let left = back_length 1024 (bound c.requires.fits) c.column_weights_into.new.out c.column_weights_into.auto.out in
     let lent = sym (lent_length 1024 (bound c.requires.fits)) ∙ left in
     let last : n - 1 + 1 ≡ n = omega (arith, positive c.requires.fits) in record {
@@ -102,7 +103,7 @@ pub remainder_from-requires : goal.remainder_from-requires
 remainder_from-requires c =
     let d = c.divide_product_into in
     let whole = back_length 1024 (bound c.requires.fits) d.new.rest d.auto.rest in
-    let size : length c.args.remainder.now + 1 ≡ c.args.c = omega (arith, positive c.requires.fits) in
+    let size : length c.args.remainder.now + 1 ≡ c.args.input.now.circuit.c = omega (arith, positive c.requires.fits) in
     record {
       p_nonzero = omega arith;
       rest_len = (sym (size ∙ whole), c.requires.fits.m-length ∙ ap (λ (n : ℕ). 2 * n) whole);
@@ -113,7 +114,8 @@ slice_bounds-weights-end-2 c =
     back_holds 1024 (bound c.requires.fits) c.divide_product_into.new.factor c.divide_product_into.auto.factor
 
 pub slice_bounds-quotient_from-end : goal.slice_bounds-quotient_from-end
-slice_bounds-quotient_from-end c = back_length 1024 (bound c.requires.fits) c.divide_product_into.new.factor c.divide_product_into.auto.factor
+slice_bounds-quotient_from-end c =
+    back_length 1024 (bound c.requires.fits) c.divide_product_into.new.factor c.divide_product_into.auto.factor
 
 pub slice_bounds-high-end-2 : goal.slice_bounds-high-end-2
 slice_bounds-high-end-2 c =
@@ -126,37 +128,37 @@ pub quotient_from-requires : goal.quotient_from-requires
 quotient_from-requires c =
     let d = c.divide_product_into in
     let F = c.requires.fits in
-    let size : length c.args.quotient.now ≡ c.args.c = c.requires.remainder_len.1 in
+    let size : length c.args.quotient.now ≡ c.args.input.now.circuit.c = c.requires.remainder_len.1 in
     let above : 0 < length c.args.quotient.now = omega (arith, positive F) in
-    let below : c.args.c - 1 ≤ length c.args.quotient.now = omega arith in record {
+    let below : c.args.input.now.circuit.c - 1 ≤ length c.args.quotient.now = omega arith in record {
       p_nonzero = omega arith;
-      out_nonzero = (above, sym (size ∙ back_length 1024 (bound F) d.new.factor d.auto.factor), part_order (back_length 1024 (short F) d.new.out d.auto.out) below);
+      out_nonzero = (
+        above,
+        sym (size ∙ back_length 1024 (bound F) d.new.factor d.auto.factor),
+        part_order (back_length 1024 (short F) d.new.out d.auto.out) below,
+      );
       m_len = F.m-length ∙ ap (λ (n : ℕ). 2 * n) (sym size);
     }
-
-pub shape_of-remainder : goal.shape_of-remainder
-shape_of-remainder c = c.remainder_from.auto.out
-
-pub shape_of-quotient : goal.shape_of-quotient
-shape_of-quotient c = c.quotient_from.auto.out
 
 pub returns : goal.returns
 unfolding circuit_of
 returns c q known Q =
     let a = c.args in
+    let i = a.input.now in
+    let l = i.circuit.matrices in
     let F = c.requires.fits in
     let w = c.column_weights_into in
     let d = c.divide_product_into in
-    let n : ℕ = a.c in
-    let k : Circuit = circuit_of (given a.r a.c a.x a.ea.now a.eb.now a.ec.now) in
+    let n : ℕ = i.circuit.c in
+    let k : Circuit = circuit_of (given i.circuit.r i.circuit.c i.circuit.x l.a.now l.b.now l.c.now) in
     let W : WellFormed q.p k = known_formed known F.well_formed in
-    let z : List (Elem q) = map of a.z.now in
-    let m : Poly q = map of a.m.now in
-    let m-length : length m ≡ 2 * n = length-map a.m.now of ∙ F.m-length in
+    let z : List (Elem q) = map of i.z.now in
+    let m : Poly q = map of i.m.now in
+    let m-length : length m ≡ 2 * n = length-map i.m.now of ∙ F.m-length in
     let α : Elem q = of a.alpha in
     let η : Three (Elem q) = map_three of (three a.eta) in
     let f : ℕ → Elem q = λ j. weighted η (each (λ M. column_sum k M α j)) in
-    let P : Poly q = columns Q k W z (of a.mask) m m-length α η in
+    let P : Poly q = columns Q k W z (of i.mask) m m-length α η in
     let divided = d.ensures q known in
     let left : map of (take n (returned 1024 n w.new.out)) ≡ tabulate n f =
     ap (map of) (back_is 1024 (bound F) w.new.out w.auto.out)
@@ -171,8 +173,8 @@ returns c q known Q =
     back_list 1024 (short F) d.new.out d.auto.out _ (quotient_made divided size left refl) in (
       c.remainder_from.ensures q known.value
           ∙ (λ t. words (tail (remainder (rest-size t) m ⊞ is-rest t)))
-          ∙ ap words (line-remainder_made Q k W z (of a.mask) m m-length α η),
+          ∙ ap words (line-remainder_made Q k W z (of i.mask) m m-length α η),
       c.quotient_from.ensures q known.value
-          ∙ (λ t. words (quotient (c.requires.remainder_len.1 t) m ⊞ (of a.mask · is-weights t ⊞ is-high t)))
-          ∙ ap words (line-quotient_made Q k W z (of a.mask) m m-length α η),
+          ∙ (λ t. words (quotient (c.requires.remainder_len.1 t) m ⊞ (of i.mask · is-weights t ⊞ is-high t)))
+          ∙ ap words (line-quotient_made Q k W z (of i.mask) m m-length α η),
     )

@@ -1,9 +1,5 @@
 -- `prover::line::quotient_from` meets its contract: the entries below i are filled. Assumes nothing.
-use mathlib.Core.Path.{refl, ap, ◌∙◌}
-use mathlib.Core.List.{List}
-use Prim.Native.Nat.{ℕ, ◌+◌}
-use native.Mathlib.Omega.{arith}
-use lib.ListN.{length, get_or, length-set}
+use Rattle.std.proofs.Common.{ap, ◌∙◌, List, ℕ, ◌+◌, arith, length, get_or}
 use Rattle.field.specs.Element.{Elem, of, ◌⊕◌, ◌⊗◌, words}
 use Rattle.field.proofs.Words.{of-result}
 use Rattle.domain.proofs.Fill.{fill_none, fill_turn, fill_end}
@@ -11,30 +7,23 @@ use Rattle.prover.proofs.line.quotient_from.Invariants.{target, length_target, s
 use Rattle.prover.proofs.line.quotient_from.Goals as goal
 
 pub loop-i-init : goal.loop-i-init
-loop-i-init c = (omega arith, refl, λ q e. fill_none _ _)
-
-pub loop-i-smaller : goal.loop-i-smaller
-loop-i-smaller c = simp length-set (omega arith)
+loop-i-init c q e = fill_none _ _
 
 pub loop-i-preserved : goal.loop-i-preserved
-loop-i-preserved c =
+loop-i-preserved c q e =
     let a = c.args in
     let l = c.loop-i in
     let n : ℕ = length a.out.now in
     let ws : List ℕ = a.weights.now in
     let hs : List ℕ = a.high.now in
-    let m : List ℕ = a.m.now in (
-      simp length-set (omega arith),
-      length-set l.out l.i c.add.result ∙ l.invariant.1,
-      λ q e.
-          let size = length_target q n a.mask ws hs m (omega arith) (omega arith) (omega arith) (omega arith) in
-          fill_turn (words (target q n a.mask ws hs m)) l.out l.i c.add.result (omega arith) (omega arith) (l.invariant.2 q e)
-          (sum-at q n a.mask ws hs m (omega arith) (omega arith) l.i
-          (c.add.ensures q e
-          ∙ ap (λ (x : Elem q). (of (get_or m (n + l.i) 0) ⊕ x).word)
-          (of-result _ (c.multiply_add-masked.ensures q e)
-          ∙ ap (λ (w : ℕ). of a.mask ⊗ of (get_or ws l.i 0) ⊕ of w) c.word_or_zero.ensures))),
-    )
+    let m : List ℕ = a.m.now in
+    let size = length_target q n a.mask ws hs m (omega arith) (omega arith) (omega arith) (omega arith) in
+    fill_turn (words (target q n a.mask ws hs m)) l.out l.i c.add.result (omega arith) (omega arith) (l.invariant q e)
+    (sum-at q n a.mask ws hs m (omega arith) (omega arith) l.i
+    (c.add.ensures q e
+    ∙ ap (λ (x : Elem q). (of (get_or m (n + l.i) 0) ⊕ x).word)
+    (of-result _ (c.multiply_add-masked.ensures q e)
+    ∙ ap (λ (w : ℕ). of a.mask ⊗ of (get_or ws l.i 0) ⊕ of w) c.word_or_zero.ensures)))
 
 pub returns : goal.returns
 returns c q e =
@@ -43,4 +32,4 @@ returns c q e =
     let n : ℕ = length a.out.now in
     let size = length_target q n a.mask a.weights.now a.high.now a.m.now (omega arith) (omega arith) (omega arith) (omega arith) in
     fill_end (words (target q n a.mask a.weights.now a.high.now a.m.now)) l.out l.i (omega arith) (omega arith)
-    (l.invariant.2 q e)
+    (l.invariant q e)

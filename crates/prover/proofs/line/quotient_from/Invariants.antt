@@ -1,9 +1,6 @@
 -- What the loop of `prover::line::quotient_from` keeps. Assumes nothing.
-use mathlib.Core.Path.{◌≡◌, sym, ap, ap₂, ◌∙◌}
-use mathlib.Core.List.{List, map}
-use Prim.Native.Nat.{ℕ, ◌+◌, ◌-◌, ◌*◌, ◌≤◌, ◌<◌}
-use native.Mathlib.Omega.{arith}
-use lib.ListN.{length, get_or, length-map}
+use Rattle.std.proofs.Common.{◌≡◌, sym, ap, ap₂, ◌∙◌, List, map, ℕ, ◌+◌, ◌*◌, ◌≤◌, ◌<◌, arith, length, get_or}
+use Rattle.std.proofs.lemmas.List.{length-map}
 use Rattle.algebra.proofs.Division.{length-quotient}
 use Rattle.algebra.proofs.PolynomialLaws.{length-add, length-scale}
 use Rattle.field.specs.Prime.{Prime}
@@ -53,8 +50,4 @@ module _ (q : Prime) (n mask : ℕ) (weights high m : List ℕ) where
 
 abbrev pub invariant-loop-i : goal.invariant-loop-i
 invariant-loop-i l =
-    (l.i ≤ length l.out) × (length l.out ≡ length l.initial.out)
-    × ((q : Prime) → q.p ≡ l.p → Filled (words (target q (length l.initial.out) l.mask l.weights l.high l.m)) l.out l.i)
-
-abbrev pub decreases-loop-i : goal.decreases-loop-i
-decreases-loop-i l = length l.out - l.i
+    (q : Prime) → q.p ≡ l.p → Filled (words (target q (length l.initial.out) l.mask l.weights l.high l.m)) l.out l.i

@@ -1,10 +1,7 @@
 -- What the loop of `prover::line::remainder_from` keeps. Assumes nothing.
-use mathlib.Core.Path.{◌≡◌, refl, sym, ap, ap₂, ◌∙◌}
-use mathlib.Core.List.{List, [], ◌∷◌, map, tail}
-use Prim.Native.Nat.{ℕ, ◌+◌, ◌-◌, ◌*◌, ◌≤◌, ◌<◌}
-use native.Mathlib.Omega.{arith}
-use native.Mathlib.Numerals.{add-one}
-use lib.ListN.{length, get_or, length-map}
+use mathlib.Core.List.{tail}
+use Rattle.std.proofs.Common.{◌≡◌, refl, sym, ap, ap₂, ◌∙◌, List, [], ◌∷◌, map, ℕ, ◌+◌, ◌-◌, ◌*◌, ◌<◌, arith, add-one, length, get_or}
+use Rattle.std.proofs.lemmas.List.{length-map}
 use Rattle.algebra.proofs.Division.{length-remainder}
 use Rattle.algebra.proofs.PolynomialLaws.{length-add}
 use Rattle.field.specs.Prime.{Prime}
@@ -55,8 +52,4 @@ module _ (q : Prime) (rest m : List ℕ) where
       (sym (element-at rest (i + 1))))
 
 abbrev pub invariant-loop-i : goal.invariant-loop-i
-invariant-loop-i l =
-    (l.i ≤ length l.out) × (length l.out ≡ length l.initial.out) × ((q : Prime) → q.p ≡ l.p → Filled (words (tail (whole q l.rest l.m))) l.out l.i)
-
-abbrev pub decreases-loop-i : goal.decreases-loop-i
-decreases-loop-i l = length l.out - l.i
+invariant-loop-i l = (q : Prime) → q.p ≡ l.p → Filled (words (tail (whole q l.rest l.m))) l.out l.i

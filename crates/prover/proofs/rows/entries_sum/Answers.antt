@@ -1,9 +1,5 @@
 -- `prover::rows::entries_sum` meets its contract: the sum of the entries before the i-th. Assumes nothing.
-use mathlib.Core.Path.{◌≡◌, ap, ap₂, ◌∙◌}
-use mathlib.Core.List.{List, map}
-use Prim.Native.Nat.{◌+◌, ◌*◌, ◌<◌}
-use native.Mathlib.Omega.{arith}
-use lib.ListN.{length, get_or}
+use Rattle.std.proofs.Common.{◌≡◌, ap, ap₂, ◌∙◌, List, map, ◌<◌, arith, length, get_or}
 use Rattle.field.specs.Element.{Elem, of, 𝟘, ◌⊕◌, ◌⊗◌}
 use Rattle.field.proofs.Words.{of-result}
 use Rattle.poly.proofs.WordLists.{element-at}
@@ -26,96 +22,36 @@ place c =
     (omega arith)
 
 pub loop-i-init : goal.loop-i-init
-loop-i-init c =
+loop-i-init c q e =
     let a = c.args in
-    (omega arith, λ q e. total-none q (map of a.rows.now) (map of a.z.now) (entries_of a.entries.now))
-
-pub overflow_mul-row : goal.overflow_mul-row
-overflow_mul-row c = omega arith
-
-pub offset_bounds-entries-i : goal.offset_bounds-entries-i
-offset_bounds-entries-i c = omega arith
-
-pub bounds-entries-i : goal.bounds-entries-i
-bounds-entries-i c = omega arith
-
-pub overflow_cast-row : goal.overflow_cast-row
-overflow_cast-row c = omega (arith, c.shared_slice_known-in-loop-i-1.given (3 * c.loop-i.i))
-
-pub overflow_mul-column : goal.overflow_mul-column
-overflow_mul-column c = omega arith
-
-pub overflow_add-column : goal.overflow_add-column
-overflow_add-column c = omega arith
-
-pub offset_bounds-entries-i-in-loop-i : goal.offset_bounds-entries-i-in-loop-i
-offset_bounds-entries-i-in-loop-i c = omega arith
-
-pub bounds-entries-i-in-loop-i : goal.bounds-entries-i-in-loop-i
-bounds-entries-i-in-loop-i c = omega arith
-
-pub overflow_cast-column : goal.overflow_cast-column
-overflow_cast-column c = omega (arith, c.shared_slice_known-in-loop-i-2-1.given (3 * c.loop-i.i + 1))
-
-pub overflow_mul-i : goal.overflow_mul-i
-overflow_mul-i c = omega arith
-
-pub overflow_add-i : goal.overflow_add-i
-overflow_add-i c = omega arith
-
-pub offset_bounds-entries-i-in-loop-i-2 : goal.offset_bounds-entries-i-in-loop-i-2
-offset_bounds-entries-i-in-loop-i-2 c = omega arith
-
-pub bounds-entries-i-in-loop-i-2 : goal.bounds-entries-i-in-loop-i-2
-bounds-entries-i-in-loop-i-2 c = omega arith
-
-pub offset_bounds-rows-row : goal.offset_bounds-rows-row
-offset_bounds-rows-row c = omega (arith, (place (goal.at.offset_bounds-rows-row c).In-loop-i).row_below)
+    total-none q (map of a.rows.now) (map of a.z.now) (entries_of a.entries.now)
 
 pub bounds-rows-row : goal.bounds-rows-row
 bounds-rows-row c = (place (goal.at.bounds-rows-row c).In-loop-i).row_below
 
-pub multiply-product-requires : goal.multiply-product-requires
-multiply-product-requires c = omega arith
-
-pub offset_bounds-z-column : goal.offset_bounds-z-column
-offset_bounds-z-column c = omega (arith, (place (goal.at.offset_bounds-z-column c).In-loop-i).column-below)
-
 pub bounds-z-column : goal.bounds-z-column
 bounds-z-column c = (place (goal.at.bounds-z-column c).In-loop-i).column-below
 
-pub multiply_add-sum-requires : goal.multiply_add-sum-requires
-multiply_add-sum-requires c = omega arith
-
-pub overflow_add-i-in-loop-i : goal.overflow_add-i-in-loop-i
-overflow_add-i-in-loop-i c = omega arith
-
-pub loop-i-smaller : goal.loop-i-smaller
-loop-i-smaller c = omega arith
-
 pub loop-i-preserved : goal.loop-i-preserved
-loop-i-preserved c =
+loop-i-preserved c q same =
     let a = c.args in
     let l = c.loop-i in
     let es : List Entry = entries_of a.entries.now in
     let e : Entry = entry_words a.entries.now l.i in
-    let below : l.i < length es = omega (arith, length-entries_of a.entries.now) in (
-      omega arith,
-      λ q same.
-          let product = c.multiply-product in
-          let rows : List (Elem q) = map of a.rows.now in
-          let made : of product.result ≡ of e.value ⊗ get_or rows e.row 𝟘 =
-          of-result _ (product.ensures q same) ∙ ap (λ (x : Elem q). of e.value ⊗ x) (element-at a.rows.now e.row) in
-          total_turn q rows (map of a.z.now) es l.sum l.i c.multiply_add-sum.result e below
-          (entry_at a.entries.now l.i e below)
-          (c.multiply_add-sum.ensures q same
-          ∙ ap₂ (λ (x y : Elem q). (x ⊗ y ⊕ of l.sum).word) made (element-at a.z.now e.column))
-          (l.invariant.1 q same),
-    )
+    let below : l.i < length es = omega (arith, length-entries_of a.entries.now) in
+    let product = c.multiply-product in
+    let rows : List (Elem q) = map of a.rows.now in
+    let made : of product.result ≡ of e.value ⊗ get_or rows e.row 𝟘 =
+    of-result _ (product.ensures q same) ∙ ap (λ (x : Elem q). of e.value ⊗ x) (element-at a.rows.now e.row) in
+    total_turn q rows (map of a.z.now) es l.sum l.i c.multiply_add-sum.result e below
+    (entry_at a.entries.now l.i e below)
+    (c.multiply_add-sum.ensures q same
+    ∙ ap₂ (λ (x y : Elem q). (x ⊗ y ⊕ of l.sum).word) made (element-at a.z.now e.column))
+    (l.invariant q same)
 
 pub returns : goal.returns
 returns c q e =
     let a = c.args in
     let l = c.loop-i in
     total_end q (map of a.rows.now) (map of a.z.now) (entries_of a.entries.now) l.sum l.i
-    (omega (arith, length-entries_of a.entries.now)) (l.invariant.1 q e)
+    (omega (arith, length-entries_of a.entries.now)) (l.invariant q e)

@@ -26,7 +26,9 @@ pub row_sums-requires : goal.row_sums-requires
 row_sums-requires c =
     record {
       p_nonzero = omega arith;
-      all = rows-within (lent_length 1024 (size_bound _ c.requires.r_value)) (length c.args.z.now) (entries_of c.args.ea.now) c.requires.all.0;
+      all =
+          rows-within (lent_length 1024 (size_bound _ c.requires.r_value)) (length c.args.input.now.z.now)
+          (entries_of c.args.input.now.circuit.matrices.a.now) c.requires.all.0;
     }
 
 pub slice_bounds-right-end : goal.slice_bounds-right-end
@@ -39,7 +41,9 @@ pub row_sums-requires-2 : goal.row_sums-requires-2
 row_sums-requires-2 c =
     record {
       p_nonzero = omega arith;
-      all = rows-within (lent_length 1024 (size_bound _ c.requires.r_value)) (length c.args.z.now) (entries_of c.args.eb.now) c.requires.all.1;
+      all =
+          rows-within (lent_length 1024 (size_bound _ c.requires.r_value)) (length c.args.input.now.z.now)
+          (entries_of c.args.input.now.circuit.matrices.b.now) c.requires.all.1;
     }
 
 pub slice_bounds-left-end-2 : goal.slice_bounds-left-end-2
@@ -75,7 +79,8 @@ divide_product_into-requires c =
     let left = filled_length _ _ (size_bound _ c.requires.r_value) c.row_sums.new.out c.row_sums.auto.out in
     let right = filled_length _ _ (size_bound _ c.requires.r_value) c.row_sums-2.new.out c.row_sums-2.auto.out in
     let lent = sym (part_length _ _ (size_bound _ c.requires.r_value)) ∙ left in
-    let whole : length c.args.out.now + 1 ≡ c.args.r = omega (arith, size_positive c.args.r c.requires.r_value) in
+    let whole : length c.args.out.now + 1 ≡ c.args.input.now.circuit.r =
+    omega (arith, size_positive c.args.input.now.circuit.r c.requires.r_value) in
     record {
       modulus = c.requires.modulus;
       left_value = ap is_size (sym left) ∙ c.requires.r_value;
@@ -83,13 +88,10 @@ divide_product_into-requires c =
       rest_len = (lent, whole ∙ left);
     }
 
-pub shape_of-out : goal.shape_of-out
-shape_of-out c = c.divide_product_into.auto.out
-
 pub returns : goal.returns
 returns c q known Q k W eR ea eb ẑ values =
-    let r : ℕ = c.args.r in
-    let z : List (Elem q) = map of c.args.z.now in
+    let r : ℕ = c.args.input.now.circuit.r in
+    let z : List (Elem q) = map of c.args.input.now.z.now in
     let whole = part_length _ _ (size_bound _ c.requires.r_value) in
     quotient_made (c.divide_product_into.ensures q known)
     (sym (filled_length _ _ (size_bound _ c.requires.r_value) c.row_sums.new.out c.row_sums.auto.out))

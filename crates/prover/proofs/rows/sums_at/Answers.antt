@@ -21,28 +21,30 @@ use Rattle.prover.proofs.RowLaws.{known_formed, rows-within, row_values, row-sum
 use Rattle.prover.proofs.rows.sums_at.Goals as goal
 use Rattle.prover.proofs.rows.sums_at.Goals.{After-lagrange_values_into, Start}
 
-bound : (c : Start) → c.args.r ≤ 1024
-bound c = size_bound c.args.r c.requires.r_value
+bound : (c : Start) → c.args.input.now.circuit.r ≤ 1024
+bound c = size_bound c.args.input.now.circuit.r c.requires.r_value
 
 abbrev left : After-lagrange_values_into → List ℕ
 left c = c.lagrange_values_into.new.out
 
 -- the rows' values, lent again
 abbrev again : After-lagrange_values_into → List ℕ
-again c = left c ++ drop c.args.r (replicate 1024 0)
+again c = left c ++ drop c.args.input.now.circuit.r (replicate 1024 0)
 
-part_again : (c : After-lagrange_values_into) → c.args.r ≤ length (again c)
-part_again c = filled_within _ (replicate 1024 0) (bound (goal.at.After-lagrange_values_into c).Start) (left c) c.lagrange_values_into.auto.out
+part_again : (c : After-lagrange_values_into) → c.args.input.now.circuit.r ≤ length (again c)
+part_again c =
+    filled_within _ (replicate 1024 0) (bound (goal.at.After-lagrange_values_into c).Start) (left c) c.lagrange_values_into.auto.out
 
-whole_again : (c : After-lagrange_values_into) → c.args.r ≡ length (take c.args.r (again c))
-whole_again c = filled_length _ (replicate 1024 0) (bound (goal.at.After-lagrange_values_into c).Start) (left c) c.lagrange_values_into.auto.out
+whole_again : (c : After-lagrange_values_into) → c.args.input.now.circuit.r ≡ length (take c.args.input.now.circuit.r (again c))
+whole_again c =
+    filled_length _ (replicate 1024 0) (bound (goal.at.After-lagrange_values_into c).Start) (left c) c.lagrange_values_into.auto.out
 
 rows_made : (c : After-lagrange_values_into) {q : Prime} → Known q c.args.p
-    → map of (take c.args.r (again c)) ≡ row_values {q = q} c.args.r (of c.args.alpha)
+    → map of (take c.args.input.now.circuit.r (again c)) ≡ row_values {q = q} c.args.input.now.circuit.r (of c.args.alpha)
 rows_made c {q} known =
     let s = (goal.at.After-lagrange_values_into c).Start in
     let α : Elem q = of s.args.alpha in
-    of_filled _ (replicate 1024 0) (bound s) (left c) c.lagrange_values_into.auto.out (row_values s.args.r α)
+    of_filled _ (replicate 1024 0) (bound s) (left c) c.lagrange_values_into.auto.out (row_values s.args.input.now.circuit.r α)
     (c.lagrange_values_into.ensures q known
     ∙ ap (λ (n : ℕ). words (tabulate n (λ i. lagrange n (element n i) α))) (sym (part_length _ (replicate 1024 0) (bound s))))
 
@@ -71,7 +73,9 @@ entries_sum-requires c =
     let r = (goal.at.entries_sum-requires c).After-lagrange_values_into in
     record {
       p_nonzero = omega arith;
-      all = rows-within (whole_again r) (length r.args.z.now) (entries_of r.args.ea.now) r.requires.each_within.in_a;
+      all =
+          rows-within (whole_again r) (length r.args.input.now.z.now)
+          (entries_of r.args.input.now.circuit.matrices.a.now) r.requires.each_within.in_a;
     }
 
 pub slice_bounds-rows-end-3 : goal.slice_bounds-rows-end-3
@@ -85,7 +89,9 @@ entries_sum-requires-2 c =
     let r = (goal.at.entries_sum-requires-2 c).After-lagrange_values_into in
     record {
       p_nonzero = omega arith;
-      all = rows-within (whole_again r) (length r.args.z.now) (entries_of r.args.eb.now) r.requires.each_within.in_b;
+      all =
+          rows-within (whole_again r) (length r.args.input.now.z.now)
+          (entries_of r.args.input.now.circuit.matrices.b.now) r.requires.each_within.in_b;
     }
 
 pub slice_bounds-rows-end-4 : goal.slice_bounds-rows-end-4
@@ -99,7 +105,9 @@ entries_sum-requires-3 c =
     let r = (goal.at.entries_sum-requires-3 c).After-lagrange_values_into in
     record {
       p_nonzero = omega arith;
-      all = rows-within (whole_again r) (length r.args.z.now) (entries_of r.args.ec.now) r.requires.each_within.in_c;
+      all =
+          rows-within (whole_again r) (length r.args.input.now.z.now)
+          (entries_of r.args.input.now.circuit.matrices.c.now) r.requires.each_within.in_c;
     }
 
 pub returns : goal.returns
@@ -107,19 +115,21 @@ unfolding sums
 returns c q known Q k W eR matrices ẑ values =
     let r = (goal.at.returns c).After-lagrange_values_into in
     let a = r.args in
+    let i = a.input.now in
+    let l = i.circuit.matrices in
     let α : Elem q = of a.alpha in
-    let z : List (Elem q) = map of a.z.now in
+    let z : List (Elem q) = map of i.z.now in
     let sum : (M : MatrixName) (es : List Entry) → at k.matrices M ≡ es
-    → (entry_total (map of (take a.r (again r))) z es).word ≡ (image k ẑ M α).word =
+    → (entry_total (map of (take i.circuit.r (again r))) z es).word ≡ (image k ẑ M α).word =
     λ M es same.
     ap (λ (x : Elem q). x.word)
     (ap (λ (rows : List (Elem q)). entry_total rows z es) (rows_made r known)
     ∙ row-sum_made q Q k (known_formed known W) eR ẑ z values M same α) in
-    let in_a = ap (λ (l : Three (List Entry)). l.a) matrices in
-    let in_b = ap (λ (l : Three (List Entry)). l.b) matrices in
-    let in_c = ap (λ (l : Three (List Entry)). l.c) matrices in
+    let in_a = ap (λ (t : Three (List Entry)). t.a) matrices in
+    let in_b = ap (λ (t : Three (List Entry)). t.b) matrices in
+    let in_c = ap (λ (t : Three (List Entry)). t.c) matrices in
     λ t. record {
-      a = (c.entries_sum.ensures q known.value ∙ sum A (entries_of a.ea.now) in_a) t;
-      b = (c.entries_sum-2.ensures q known.value ∙ sum B (entries_of a.eb.now) in_b) t;
-      c = (c.entries_sum-3.ensures q known.value ∙ sum C (entries_of a.ec.now) in_c) t;
+      a = (c.entries_sum.ensures q known.value ∙ sum A (entries_of l.a.now) in_a) t;
+      b = (c.entries_sum-2.ensures q known.value ∙ sum B (entries_of l.b.now) in_b) t;
+      c = (c.entries_sum-3.ensures q known.value ∙ sum C (entries_of l.c.now) in_c) t;
     }

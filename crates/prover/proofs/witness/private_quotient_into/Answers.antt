@@ -50,9 +50,6 @@ quotient_into-requires c =
       out_len = s.requires.z_len.1 ∙ ap (λ (n : ℕ). n - s.args.x) size;
     }
 
-pub shape_of-out : goal.shape_of-out
-shape_of-out c = c.quotient_into.auto.out
-
 pub returns : goal.returns
 returns c q known =
     let s = (goal.at.returns c).Start in

@@ -1,8 +1,5 @@
 -- What the loop of `prover::witness::public_words_into` keeps. Assumes nothing.
-use mathlib.Core.Path.{◌≡◌}
-use mathlib.Core.List.{List}
-use Prim.Native.Nat.{ℕ, ◌-◌, ◌*◌, ◌≤◌}
-use lib.ListN.{length, get_or}
+use Rattle.std.proofs.Common.{List, ℕ, ◌*◌, length, get_or}
 use Rattle.algebra.specs.Lists.{tabulate}
 use Rattle.domain.proofs.Fill.{Filled}
 use Rattle.prover.proofs.witness.public_words_into.Given as goal
@@ -12,7 +9,4 @@ abbrev pub picked : ℕ → List ℕ → ℕ → List ℕ
 picked step z n = tabulate n (λ i. get_or z (i * step) 0)
 
 abbrev pub invariant-loop-i : goal.invariant-loop-i
-invariant-loop-i l = (l.i ≤ length l.out) × (length l.out ≡ length l.initial.out) × Filled (picked l.step l.z (length l.initial.out)) l.out l.i
-
-abbrev pub decreases-loop-i : goal.decreases-loop-i
-decreases-loop-i l = length l.out - l.i
+invariant-loop-i l = Filled (picked l.step l.z (length l.initial.out)) l.out l.i

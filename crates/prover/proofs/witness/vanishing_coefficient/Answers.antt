@@ -8,9 +8,6 @@ use Rattle.domain.specs.Polynomial.{vanishing_poly}
 use Rattle.prover.proofs.WitnessLaws.{vanishing-first, vanishing_last, vanishing-between}
 use Rattle.prover.proofs.witness.vanishing_coefficient.Goals as goal
 
-pub overflow_sub-result : goal.overflow_sub-result
-overflow_sub-result c = omega arith
-
 pub returns-then-i-eq0 : goal.returns-then-i-eq0
 returns-then-i-eq0 c q e =
     let n : ℕ = c.args.n in

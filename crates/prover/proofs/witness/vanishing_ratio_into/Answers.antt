@@ -16,9 +16,6 @@ bound c = omega (arith, size_bound c.args.c c.requires.c_value.0)
 positive : (c : Start) → 0 < c.args.c
 positive c = size_positive c.args.c c.requires.c_value.0
 
-pub overflow_add-n : goal.overflow_add-n
-overflow_add-n c = omega arith
-
 pub slice_bounds-vanishing-end : goal.slice_bounds-vanishing-end
 slice_bounds-vanishing-end c = bound (goal.at.slice_bounds-vanishing-end c).Start
 
@@ -52,9 +49,6 @@ quotient_into-requires c =
       n_nonzero = size_positive _ s.requires.c_value.1;
       out_len = length-out ∙ ap (λ (n : ℕ). n - x) whole;
     }
-
-pub shape_of-out : goal.shape_of-out
-shape_of-out c = c.quotient_into.auto.out
 
 pub returns : goal.returns
 returns c q e =

@@ -1,35 +1,30 @@
 -- `record::reader::end_fault` meets its contract. Assumes nothing.
-use mathlib.Core.Bool.{false}
-use mathlib.Core.Path.{◌≡◌, sym, ◌∙◌}
-use Prim.Native.Nat.{◌-◌}
-use lib.Dec.{eqb}
-use lib.ListN.{length}
-use borrow.Author.Tests.{eq-eqb, ne_eqb, le-leb, lt-leb}
-use Rattle.protocol.specs.Record.{trailer_word}
+use Rattle.std.proofs.Common.{sym, ◌∙◌, eq-eqb, ne_eqb, le-leb}
+use borrow.Author.Tests.{lt-leb}
 use Rattle.protocol.specs.Refusals.{end_refusal}
 use Rattle.record.proofs.reader.end_fault.Goals as goal
+use Rattle.record.proofs.reader.end_fault.Goals.{else-n-ge-TRAILER_BYTES-via-then-n-ge-TRAILER_BYTES+then-n-eq0+else-trailer_word-n, else-n-ge-TRAILER_BYTES-via-then-n-ge-TRAILER_BYTES+else-n-eq0, else-n-ge-TRAILER_BYTES-via-else-n-ge-TRAILER_BYTES}
 
-pub returns-then-n-lt-TRAILER_BYTES : goal.returns-then-n-lt-TRAILER_BYTES
+pub returns-then-trailer_word-n : goal.returns-then-trailer_word-n
 unfolding end_refusal
-returns-then-n-lt-TRAILER_BYTES c = simp (lt-leb _ _ c.if-n-lt-TRAILER_BYTES.true)
+returns-then-trailer_word-n c =
+    simp (
+      le-leb _ _ c.if-n-ge-TRAILER_BYTES.true,
+      eq-eqb _ _ c.if-n-eq0.true,
+      eq-eqb _ _ (sym c.trailer_word.ensures ∙ c.if-trailer_word-n.true),
+    )
 
-pub returns-then-n-ne0 : goal.returns-then-n-ne0
+pub returns-else-n-ge-TRAILER_BYTES : goal.returns-else-n-ge-TRAILER_BYTES
 unfolding end_refusal
-returns-then-n-ne0 c = simp (le-leb _ _ c.if-n-lt-TRAILER_BYTES.false, ne_eqb _ _ c.if-n-ne0.true)
-
-pub returns-then-last-n : goal.returns-then-last-n
-unfolding end_refusal
-returns-then-last-n c =
-    let n = length c.args.bytes.now in
-    let last : eqb (trailer_word c.args.bytes.now 17) (n - 72) ≡ false = ne_eqb _ _
-    (λ e. c.if-last-n.true (c.trailer_word-last.ensures ∙ e)) in
-    simp (le-leb _ _ c.if-n-lt-TRAILER_BYTES.false, eq-eqb _ _ c.if-n-ne0.false, last)
-
-pub returns : goal.returns
-unfolding end_refusal
-returns c = simp (
-  le-leb _ _ c.if-n-lt-TRAILER_BYTES.false,
-  eq-eqb _ _ c.if-n-ne0.false,
-  eq-eqb _ _
-      (sym c.trailer_word-last.ensures ∙ c.if-last-n.false),
-)
+returns-else-n-ge-TRAILER_BYTES c =
+    elim c.else-n-ge-TRAILER_BYTES.branch [
+      | else-n-ge-TRAILER_BYTES-via-then-n-ge-TRAILER_BYTES+then-n-eq0+else-trailer_word-n w ↦
+          simp (
+            le-leb _ _ w.if-n-ge-TRAILER_BYTES.true,
+            eq-eqb _ _ w.if-n-eq0.true,
+            ne_eqb _ _ (λ e. w.if-trailer_word-n.false (w.trailer_word.ensures ∙ e)),
+          )
+      | else-n-ge-TRAILER_BYTES-via-then-n-ge-TRAILER_BYTES+else-n-eq0 w ↦
+          simp (le-leb _ _ w.if-n-ge-TRAILER_BYTES.true, ne_eqb _ _ w.if-n-eq0.false)
+      | else-n-ge-TRAILER_BYTES-via-else-n-ge-TRAILER_BYTES w ↦ simp (lt-leb _ _ w.if-n-ge-TRAILER_BYTES.false)
+    ]

@@ -1,9 +1,5 @@
 -- What the loop of `record::reader::section_words_fault` keeps. Assumes nothing.
-use mathlib.Core.Bool.{Bool}
-use mathlib.Core.List.{List, map}
-use Prim.Native.Nat.{ℕ, ◌≤◌, ◌-◌}
-use lib.Dec.{ltb}
-use lib.ListN.{length, take}
+use Rattle.std.proofs.Common.{Bool, List, map, ℕ, ◌-◌, length, take, ltb}
 use Rattle.protocol.specs.Record.{words_in}
 use Rattle.protocol.specs.Refusals.{trailer_bytes}
 use Rattle.protocol.proofs.Rows.{Passed}
@@ -16,7 +12,4 @@ abbrev pub tests : ℕ → List ℕ → List Bool
 tests p bytes = map (λ w. ltb w p) (words bytes)
 
 abbrev pub invariant-loop-i : goal.invariant-loop-i
-invariant-loop-i l = (l.i ≤ l.count) × Passed 6 0 (tests l.p l.bytes) l.i
-
-abbrev pub decreases-loop-i : goal.decreases-loop-i
-decreases-loop-i l = l.count - l.i
+invariant-loop-i l = Passed 6 0 (tests l.p l.bytes) l.i

@@ -1,14 +1,6 @@
 -- `record::reader::starts_fault` meets its contract: every start passed so far is the one given. Assumes nothing.
-use mathlib.Core.Path.{◌≡◌, sym, ap, ◌∙◌}
-use mathlib.Core.Bool.{false}
-use mathlib.Core.List.{List, [], ◌∷◌}
-use mathlib.Core.Option.{Option}
-use Prim.Native.Nat.{ℕ, ◌-◌, ◌<◌}
-use native.Mathlib.Omega.{arith}
-use lib.Dec.{eqb}
-use lib.ListN.{length, get_or}
-use borrow.Author.Rules.{rules}
-use borrow.Author.Tests.{eq-eqb, ne_eqb}
+use Rattle.std.proofs.Common.{◌≡◌, sym, ap, ◌∙◌, false, List, [], ◌∷◌, ℕ, ◌-◌, ◌<◌, arith, eqb, length, get_or, eq-eqb, ne_eqb}
+use Rattle.std.proofs.Math.Option.{Option}
 use Rattle.algebra.specs.Lists.{tabulate}
 use Rattle.algebra.proofs.PolynomialLaws.{length-tabulate, get_d_tabulate}
 use Rattle.shared.specs.Meanings.{sizes}
@@ -48,36 +40,31 @@ module _ (b : After-section_bounds-given) where
       pairs-at eqb found given k 0 0 false (omega (arith, length-tabulate 11 (trailer_word bytes))) (omega (arith, long))
       ∙ ap (λ n. eqb n (get_or given k 0)) (get_d_tabulate 11 k (trailer_word bytes) 0 below)
 
-pub section_bounds-given-requires : goal.section_bounds-given-requires
-section_bounds-given-requires c = c.requires.1
-
 pub loop-k-init : goal.loop-k-init
-loop-k-init c = (omega arith, passed_none 3 0 _)
+loop-k-init c = passed_none 3 0 _
 
 pub returns-then-trailer_word-given : goal.returns-then-trailer_word-given
 returns-then-trailer_word-given c =
     let b = (goal.at.returns-then-trailer_word-given c).After-section_bounds-given in
-    let stops = passed_stop 3 0 (pairs eqb (found b) (given b)) c.loop-k.k c.loop-k.invariant.1 (omega (arith, length_tests b)) false
+    let stops = passed_stop 3 0 (pairs eqb (found b) (given b)) c.loop-k.k c.loop-k.invariant (omega (arith, length_tests b)) false
     c.loop-k.k (omega arith)
     (test_at b c.loop-k.k (omega arith) ∙ ne_eqb _ _ (λ e. c.if-trailer_word-given.true (c.trailer_word.ensures ∙ e))) in
     sym (rows b ∙ first_stop (total_row b ∷ []) (sym stops))
 
 pub loop-k-preserved : goal.loop-k-preserved
 loop-k-preserved c =
-    let b = (goal.at.loop-k-preserved c).After-section_bounds-given in (
-      search rules,
-      passed_turn 3 0 (pairs eqb (found b) (given b)) c.loop-k.k c.loop-k.invariant.1 (omega (arith, length_tests b)) false
-          (test_at b c.loop-k.k (omega arith) ∙ eq-eqb _ _ (sym c.trailer_word.ensures ∙ c.if-trailer_word-given.false)),
-    )
+    let b = (goal.at.loop-k-preserved c).After-section_bounds-given in
+    passed_turn 3 0 (pairs eqb (found b) (given b)) c.loop-k.k c.loop-k.invariant (omega (arith, length_tests b)) false
+    (test_at b c.loop-k.k (omega arith) ∙ eq-eqb _ _ (sym c.trailer_word.ensures ∙ c.if-trailer_word-given.false))
 
 pub returns-then-bytes-given : goal.returns-then-bytes-given
 returns-then-bytes-given c =
     let b = (goal.at.returns-then-bytes-given c).After-section_bounds-given in
-    let passes = passed_end 3 0 (pairs eqb (found b) (given b)) c.loop-k.k c.loop-k.invariant.1 (omega (arith, length_tests b)) in
+    let passes = passed_end 3 0 (pairs eqb (found b) (given b)) c.loop-k.k c.loop-k.invariant (omega (arith, length_tests b)) in
     sym (rows b ∙ first_pass (total_row b) passes ∙ ap (λ t. refuse 3 17 (t ∷ [])) (ne_eqb _ _ c.if-bytes-given.true))
 
 pub returns : goal.returns
 returns c =
     let b = (goal.at.returns c).After-section_bounds-given in
-    let passes = passed_end 3 0 (pairs eqb (found b) (given b)) c.loop-k.k c.loop-k.invariant.1 (omega (arith, length_tests b)) in
+    let passes = passed_end 3 0 (pairs eqb (found b) (given b)) c.loop-k.k c.loop-k.invariant (omega (arith, length_tests b)) in
     sym (rows b ∙ first_pass (total_row b) passes ∙ ap (λ t. refuse 3 17 (t ∷ [])) (eq-eqb _ _ c.if-bytes-given.false))

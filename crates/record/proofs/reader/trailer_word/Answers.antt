@@ -1,6 +1,5 @@
 -- `record::reader::trailer_word` meets its contract. Assumes nothing.
-use mathlib.Core.Path.{ap, ◌∙◌}
-use Prim.Native.Nat.{◌+◌}
+use Rattle.std.proofs.Common.{ap, ◌∙◌, ◌+◌}
 use Rattle.protocol.specs.Record.{word_at, trailer_word}
 use Rattle.record.proofs.reader.trailer_word.Goals as goal
 

@@ -1,19 +1,12 @@
 -- `record_writer::writer::put_word` meets its contract. Assumes nothing.
-use native.Mathlib.Omega.{arith}
-use lib.ListN.{length-set}
+use Rattle.std.proofs.Common.{ap, ◌∙◌, ◌+◌, ◌++◌, arith, length, take}
+use Rattle.std.proofs.lemmas.Slice.{take-put_mid}
 use Rattle.protocol.specs.Record.{word_bytes}
-use Rattle.record_writer.proofs.Writing.{word-stored}
 use Rattle.record_writer.proofs.writer.put_word.Goals as goal
-
-pub bounds-out-at-2 : goal.bounds-out-at-2
-bounds-out-at-2 c = simp length-set (omega arith)
-
-pub bounds-out-at-3 : goal.bounds-out-at-3
-bounds-out-at-3 c = simp length-set (omega arith)
-
-pub bounds-out-at-4 : goal.bounds-out-at-4
-bounds-out-at-4 c = simp length-set (omega arith)
 
 pub returns : goal.returns
 unfolding word_bytes
-returns c = word-stored c.args.out.now c.args.at _ _ _ _ c.requires
+returns c =
+    let a = c.args in
+    let stored = c.copy_from_slice.ensures.after ∙ c.to_le_bytes.ensures in
+    take-put_mid a.at _ a.out.now _ (a.at + 4) (omega (arith, ap length stored)) (omega arith) ∙ ap (λ b. take a.at a.out.now ++ b) stored

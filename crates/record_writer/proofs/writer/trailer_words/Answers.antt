@@ -5,4 +5,4 @@ use Rattle.record_writer.proofs.writer.trailer_words.Goals as goal
 
 pub returns : goal.returns
 unfolding trailer bounds section_bytes section_lengths starts_from
-returns c = rw c.section_bounds-b.ensures
+returns c = rw c.section_bounds.ensures

@@ -1,81 +1,58 @@
 -- `record_writer::writer::write` meets its contract: sizes and lengths, then the words, then the record. Assumes nothing.
-use mathlib.Core.Path.{◌≡◌, refl, sym, ◌∙◌}
-use mathlib.Core.Bool.{true}
-use mathlib.Core.List.{List, [], ◌∷◌, map}
-use mathlib.Core.Option.{Option, none}
-use Prim.Native.Nat.{ℕ}
-use native.Mathlib.Omega.{arith}
-use lib.ListN.{length}
-use Rattle.field.specs.Prime.{Prime}
+use Rattle.std.proofs.Common.{refl, sym, ap, ◌∙◌, List, [], ◌∷◌, map, ℕ, arith, length}
 use Rattle.protocol.specs.Circuit.{Sizes}
-use Rattle.shared.specs.Meanings.{sizes, is_fine}
-use Rattle.protocol.specs.Refusals.{Refusal, word_refusal}
-use Rattle.shared.proofs.EarlyReturns.{stops, goes_on, fine_none, last_answer_lem}
+use Rattle.shared.specs.Meanings.{sizes}
+use Rattle.protocol.specs.Refusals.{first, word_refusal}
+use Rattle.shared.proofs.EarlyReturns.{goes_on, last_answer_lem}
 use Rattle.protocol.proofs.Rows.{word_row}
-use Rattle.record_writer.specs.Sections.{joined, each_section, shape_refusal}
-use Rattle.record_writer.proofs.Lengths.{Shaped, shaped, few_bytes, room-given, write_refused, write_done}
+use Rattle.record_writer.specs.Sections.{joined, each_section}
+use Rattle.record_writer.proofs.Lengths.{shaped, few_bytes, room-given, write_refused, write_done}
 use Rattle.record_writer.proofs.writer.write.Goals as goal
-use Rattle.record_writer.proofs.writer.write.Goals.{After-shape_fault-shape, Else-not-is_fine}
+use Rattle.record_writer.proofs.writer.write.Goals.{Start}
 
-module _ (j : After-shape_fault-shape) where
+module _ (s : Start) where
   abbrev given : Sizes
-  given = sizes j.args.sizes
+  given = sizes s.args.sizes
 
   abbrev parts : List (List ℕ)
   parts =
-      let a = j.args in
-      each_section a.w.now a.m.now a.h0.now a.s.now a.g1.now a.h1.now a.o.now a.ga.now a.gb.now
-      a.gc.now a.h2.now
+      let a = s.args in
+      each_section a.w.now a.m.now a.h0.now a.s.now a.g1.now a.h1.now a.o.now a.ga.now a.gb.now a.gc.now a.h2.now
 
-  abbrev lent : List ℕ
-  lent = j.args.out.now
+  abbrev lent : ℕ
+  lent = length s.args.out.now
 
--- the row of the words
-abbrev words_row : Prime → After-shape_fault-shape → List (Option Refusal)
-words_row q j = word_refusal q (joined (parts j)) ∷ []
+pub returns-in_err-shape_fault : goal.returns-in_err-shape_fault
+returns-in_err-shape_fault c q e =
+    let s = (goal.at.returns-in_err-shape_fault c).Start in
+    write_refused q (given s) (parts s) (lent s) c.args.out.now c.from_residual.result _ c.from_residual.ensures.1
+    (ap (λ o. first (o ∷ word_refusal q (joined (parts s)) ∷ [])) c.in_err-shape_fault.ensures)
 
-shape_fine : (c : Else-not-is_fine) → is_fine c.shape_fault-shape.result ≡ true
-shape_fine c = sym c.is_fine.ensures ∙ c.if-not-is_fine.false
+pub sections_fault-requires : goal.sections_fault-requires
+sections_fault-requires c =
+    let s = (goal.at.sections_fault-requires c).Start in
+    let found = map length (parts s) in
+    omega (arith, few_bytes (given s) found (lent s) (shaped (given s) found (lent s) refl (sym c.in_ok-shape_fault.ensures)))
 
-shape_free : (c : Else-not-is_fine) → let j = (goal.at.Else-not-is_fine c).After-shape_fault-shape in shape_refusal (given j) (map length (parts j)) (length (lent j)) ≡ none
-shape_free c = fine_none c.shape_fault-shape.result c.shape_fault-shape.ensures (shape_fine c)
-
-shape : (c : Else-not-is_fine) → let j = (goal.at.Else-not-is_fine c).After-shape_fault-shape in Shaped (given j) (map length (parts j)) (length (lent j))
-shape c = let j = (goal.at.Else-not-is_fine c).After-shape_fault-shape in shaped (given j) (map length (parts j)) (length (lent j)) refl (shape_free c)
-
-pub returns-then-not-is_fine : goal.returns-then-not-is_fine
-returns-then-not-is_fine c q e =
-    let j = (goal.at.returns-then-not-is_fine c).After-shape_fault-shape in
-    let stop = sym c.is_fine.ensures ∙ c.if-not-is_fine.true in
-    write_refused q (given j) (parts j) (length (lent j)) j.shape_fault-shape.result (lent j) stop
-    (stops j.shape_fault-shape.result j.shape_fault-shape.ensures (words_row q j) stop)
-
-pub sections_fault-word-requires : goal.sections_fault-word-requires
-sections_fault-word-requires c =
-    let j = (goal.at.sections_fault-word-requires c).After-shape_fault-shape in
-    omega (arith, few_bytes (given j) (map length (parts j)) (length (lent j)) (shape c))
-
-pub returns-then-not-is_fine-2 : goal.returns-then-not-is_fine-2
-returns-then-not-is_fine-2 c q e =
-    let j = (goal.at.returns-then-not-is_fine-2 c).After-shape_fault-shape in
-    let stop = sym c.is_fine-2.ensures ∙ c.if-not-is_fine-2.true in
-    write_refused q (given j) (parts j) (length (lent j)) c.sections_fault-word.result (lent j) stop
-    (goes_on j.shape_fault-shape.result j.shape_fault-shape.ensures (words_row q j) (shape_fine (goal.at.returns-then-not-is_fine-2 c).Else-not-is_fine)
-    (last_answer_lem (c.sections_fault-word.ensures ∙ word_row q e (joined (parts j)))))
+pub returns-in_err-sections_fault : goal.returns-in_err-sections_fault
+returns-in_err-sections_fault c q e =
+    let s = (goal.at.returns-in_err-sections_fault c).Start in
+    write_refused q (given s) (parts s) (lent s) c.args.out.now c.from_residual-in_err-sections_fault.result _
+    c.from_residual-in_err-sections_fault.ensures.1
+    (goes_on c.in_ok-shape_fault.ensures (word_refusal q (joined (parts s)) ∷ [])
+    (last_answer_lem (c.in_err-sections_fault.ensures ∙ word_row q e (joined (parts s)))))
 
 pub fill_record-requires : goal.fill_record-requires
 fill_record-requires c =
-    let d = (goal.at.fill_record-requires c).Else-not-is_fine in
-    let j = (goal.at.Else-not-is_fine d).After-shape_fault-shape in
-    record {
-      allowed = (shape d).allowed;
-      trailer_bytes_value = room-given (given j) (map length (parts j)) (length (lent j)) (shape d);
-    }
+    let s = (goal.at.fill_record-requires c).Start in
+    let found = map length (parts s) in
+    let shape = shaped (given s) found (lent s) refl (sym c.in_ok-shape_fault.ensures) in
+    record { allowed = shape.allowed; trailer_bytes_value = room-given (given s) found (lent s) shape }
 
 pub returns : goal.returns
 returns c q e =
-    let j = (goal.at.returns c).After-shape_fault-shape in
-    let words_fine = sym c.is_fine-2.ensures ∙ c.if-not-is_fine-2.false in
-    write_done q (given j) (parts j) (length (lent j)) (lent j) c.fill_record.new.out
-    (shape_free (goal.at.returns c).Else-not-is_fine) (fine_none c.sections_fault-word.result (c.sections_fault-word.ensures ∙ word_row q e (joined (parts j))) words_fine)
+    let s = (goal.at.returns c).Start in
+    write_done q (given s) (parts s) (lent s) c.args.out.now
+    (goes_on c.in_ok-shape_fault.ensures (word_refusal q (joined (parts s)) ∷ [])
+    (last_answer_lem (c.in_ok-sections_fault.ensures ∙ word_row q e (joined (parts s)))))
     c.fill_record.ensures

@@ -5,11 +5,11 @@ use Rattle.report.specs.ProofText.{answer_text}
 use Rattle.report.proofs.PrintedLaws.{printed_as}
 use Rattle.report.proofs.lines.put_answer.Goals as goal
 
-pub returns-in-Judged : goal.returns-in-Judged
-returns-in-Judged c =
-    printed_as (sym (ap (λ a. answer_text (openings_answer_meaning a)) c.in-Judged.is)) c.put_verdict.ensures
+pub returns-in-Ok : goal.returns-in-Ok
+returns-in-Ok c =
+    printed_as (sym (ap (λ a. answer_text (openings_answer_meaning a)) c.in-Ok.is)) c.put_verdict.ensures
 
-pub returns-in-Refused : goal.returns-in-Refused
+pub returns-in-Err : goal.returns-in-Err
 unfolding answer_text
-returns-in-Refused c =
-    printed_as (sym (ap (λ a. answer_text (openings_answer_meaning a)) c.in-Refused.is)) c.put_refused.ensures
+returns-in-Err c =
+    printed_as (sym (ap (λ a. answer_text (openings_answer_meaning a)) c.in-Err.is)) c.put_refused.ensures

@@ -1,11 +1,7 @@
 -- What the loop of `report::lines::put_numbers` keeps. Assumes nothing.
-use Prim.Native.Nat.{◌-◌, ◌*◌, ◌≤◌}
-use lib.ListN.{length, take}
+use Rattle.std.specs.Prelude.{◌*◌, take}
 use Rattle.report.specs.Printed.{Printed, numbers}
 use Rattle.report.proofs.lines.put_numbers.Given as goal
 
-abbrev pub invariant-loop-i : goal.invariant-loop-i
-invariant-loop-i l = (l.i ≤ length l.words) × Printed l.initial.out l.at (numbers (take l.i l.words)) (11 * l.i) l.next l.out
-
-abbrev pub decreases-loop-i : goal.decreases-loop-i
-decreases-loop-i l = length l.words - l.i
+abbrev pub invariant-loop-word : goal.invariant-loop-word
+invariant-loop-word l = Printed l.initial.out l.at (numbers (take l.word-index l.words)) (11 * l.word-index) l.next l.out

@@ -1,31 +1,50 @@
--- `sheet_lines::circuits::collect` meets its contract: the circuits that are kept and those of the lines that are left are all.
--- Assumes nothing.
-use mathlib.Core.Path.{◌≡◌, refl, sym, ap, ◌∙◌}
-use mathlib.Core.List.{[], ◌∷◌, ◌++◌, map, append-nil}
-use Rattle.sheet_lines.specs.Lines.{lines_of, line_of, circuits}
+-- `sheet_lines::circuits::collect` meets its contract. Assumes nothing.
+use Rattle.std.proofs.Common.{◌≡◌, ap, ◌∙◌, arith, rules, tests, ◌++◌, [], ◌∷◌, ◌+◌, length, map, take}
+use Rattle.std.proofs.lemmas.Iterator.Consumers.{YieldsList-turn, YieldsList-end}
+use Rattle.std.proofs.lemmas.Iterator.Splits.{YieldsList-from_slice_split}
+use Rattle.std.proofs.lemmas.List.{take_all, length_push}
+use Rattle.sheet_lines.specs.Lines.{line_of, circuits}
 use Rattle.sheet_lines.specs.Meanings.{found_line}
-use Rattle.sheet_lines.proofs.CircuitLaws.{kept-none, one_line_more, no_more_lines}
-use borrow.Author.Rules.{rules}
+use Rattle.sheet_lines.proofs.LineLaws.{newline, parts}
+use Rattle.sheet_lines.proofs.CircuitLaws.{circuits-parts, circuits-more, many_circuits}
 use Rattle.sheet_lines.proofs.circuits.collect.Goals as goal
+use Rattle.sheet_lines.proofs.circuits.collect.Goals.{After-keep_found}
 
-pub loop-start-init : goal.loop-start-init
-loop-start-init c = ([], refl, kept-none _ refl)
+-- the circuits of the parts so far, and of this turn's line
+more : (c : After-keep_found)
+    → circuits (map line_of (take (length c.loop-line.yielded) (parts c.args.text.now))) ++ circuits (found_line c.read_line.result ∷ [])
+    ≡ circuits (map line_of (take (length c.loop-line.yielded + 1) (parts c.args.text.now)))
+more c =
+    let (below, at) =
+    YieldsList-turn
+    (YieldsList-from_slice_split _ newline c.args.text.now (cc) (cc) (cc) (λ x r q k. search (rules, tests)))
+    c.loop-line.yielded _ c.loop-line.yielded_by _ _ c.in-Some.line c.in-Some.is c.next.ensures.steps
+    in
+    circuits-more (parts c.args.text.now) (length c.loop-line.yielded) c.in-Some.line.now below at c.read_line.result c.read_line.ensures
 
-pub loop-start-preserved : goal.loop-start-preserved
-loop-start-preserved c =
-    let l = c.loop-start in
-    let text = c.args.text.now in
-    let (gs, all, kept) = l.invariant in (
-      gs ++ circuits (found_line c.read_line.result ∷ []),
-      one_line_more text l.start c.line_end-end.result c.line_end-end.ensures c.read_line.result c.read_line.ensures gs ∙ all,
-      c.keep_found-c.ensures gs kept,
-    )
+pub returns-in_err-circuits : goal.returns-in_err-circuits
+returns-in_err-circuits c =
+    let e = more (goal.at.returns-in_err-circuits c).After-keep_found in
+    let many = c.in_err-circuits.ensures _ c.loop-line.invariant in
+    rw (c.from_residual.ensures, ← circuits-parts c.args.text.now) (many_circuits (parts c.args.text.now) _ 16 (rw e at many))
+
+pub loop-line-preserved : goal.loop-line-preserved
+loop-line-preserved c =
+    let e = more (goal.at.loop-line-preserved c).After-keep_found in
+    let kept = c.in_ok-circuits.ensures _ c.loop-line.invariant in
+    rw (length_push c.loop-line.yielded c.in-Some.line) (rw e at kept)
 
 pub returns : goal.returns
 returns c =
-    let l = c.loop-start in
-    let text = c.args.text.now in
-    let (gs, all, kept) = l.invariant in
-    let same : gs ≡ circuits (map line_of (lines_of text)) =
-    sym (append-nil gs) ∙ ap (λ ls. gs ++ circuits ls) (sym (no_more_lines text l.start (search rules))) ∙ all in
-    rw same at kept
+    let ps = parts c.args.text.now in
+    let n = length c.loop-line.yielded in
+    let t =
+    YieldsList-end
+    (YieldsList-from_slice_split _ newline c.args.text.now (cc) (cc) (cc) (λ x r q k. search (rules, tests)))
+    c.loop-line.yielded _ c.loop-line.yielded_by _ _ c.in-None.is c.next.ensures.steps
+    in
+    let all : circuits (map line_of (take n ps)) ≡ circuits (map line_of ps) =
+    ap (λ l. circuits (map line_of l)) (take_all n ps (omega (arith, t.1)))
+    in
+    let kept = c.loop-line.invariant in
+    rw (all ∙ circuits-parts c.args.text.now) at kept

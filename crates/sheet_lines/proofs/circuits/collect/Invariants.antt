@@ -1,16 +1,9 @@
--- What the loop of `sheet_lines::circuits::collect` keeps. Assumes nothing.
-use mathlib.Core.Path.{◌≡◌}
-use mathlib.Core.List.{List, ◌++◌, map}
-use Prim.Native.Nat.{◌-◌}
-use lib.ListN.{length, drop}
-use Rattle.sheet_lines.specs.Lines.{Given, lines_of, line_of, circuits}
+-- What the loop of `sheet_lines::circuits::collect` keeps: the circuits of the lines so far. Assumes nothing.
+use Rattle.std.proofs.Common.{map, length, take}
+use Rattle.sheet_lines.specs.Lines.{line_of, circuits}
 use Rattle.sheet_lines.specs.Meanings.{Kept}
+use Rattle.sheet_lines.proofs.LineLaws.{parts}
 use Rattle.sheet_lines.proofs.circuits.collect.Given as goal
 
-abbrev pub invariant-loop-start : goal.invariant-loop-start
-invariant-loop-start l =
-    (gs : List Given) × (gs ++ circuits (map line_of (lines_of (drop l.start l.text))) ≡ circuits (map line_of (lines_of l.text)))
-    × Kept gs l.c.array l.c.count
-
-abbrev pub decreases-loop-start : goal.decreases-loop-start
-decreases-loop-start l = length l.text - l.start
+abbrev pub invariant-loop-line : goal.invariant-loop-line
+invariant-loop-line l = Kept (circuits (map line_of (take (length l.yielded) (parts l.text)))) l.circuits.array l.circuits.count

@@ -1,13 +1,9 @@
--- What the loop of `sheet_lines::circuits::first_wrong` keeps. Assumes nothing.
-use mathlib.Core.Path.{◌≡◌}
-use mathlib.Core.List.{map}
-use Prim.Native.Nat.{◌+◌, ◌-◌, ◌≤◌}
-use lib.ListN.{length, drop}
+-- What the loop of `sheet_lines::circuits::first_wrong` keeps: the first wrong line is among those that are left. Assumes nothing.
+use Rattle.std.proofs.Common.{◌≡◌, map, ◌+◌, length, drop}
 use Rattle.sheet_lines.specs.Lines.{lines_of, line_of, wrong}
+use Rattle.sheet_lines.proofs.LineLaws.{parts}
 use Rattle.sheet_lines.proofs.circuits.first_wrong.Given as goal
 
-abbrev pub invariant-loop-start : goal.invariant-loop-start
-invariant-loop-start l = (l.line ≤ l.start + 1) × (wrong l.line (map line_of (lines_of (drop l.start l.text))) ≡ wrong 1 (map line_of (lines_of l.text)))
-
-abbrev pub decreases-loop-start : goal.decreases-loop-start
-decreases-loop-start l = length l.text - l.start
+abbrev pub invariant-loop-i : goal.invariant-loop-i
+invariant-loop-i l =
+    wrong 1 (map line_of (lines_of l.text)) ≡ wrong (length l.yielded + 1) (map line_of (drop (length l.yielded) (parts l.text)))

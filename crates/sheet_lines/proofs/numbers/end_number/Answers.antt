@@ -1,14 +1,14 @@
 -- `sheet_lines::numbers::end_number` meets its contract. Assumes nothing.
-use mathlib.Core.Path.{sym}
-use borrow.Author.Tests.{not-true, not-false}
-use Rattle.algebra.proofs.Choice.{pick_true, pick-false}
-use Rattle.sheet_lines.specs.Scanning.{number_ended}
+use Rattle.std.proofs.Common.{◌≡◌, sym, ap, arith}
+use Rattle.sheet_lines.specs.Scanning.{counted, ended_number, number_ended}
 use Rattle.sheet_lines.proofs.numbers.end_number.Goals as goal
 
-pub returns-then-not-s : goal.returns-then-not-s
+pub returns-in-None : goal.returns-in-None
 unfolding number_ended
-returns-then-not-s c = sym (pick-false _ _ (not-true _ c.if-not-s.true))
+returns-in-None c = sym (ap (λ o. ended_number o c.args.s) c.in-None.is)
 
-pub returns : goal.returns
+pub returns-in-Some : goal.returns-in-Some
 unfolding number_ended
-returns c = simp (c.count_one.ensures, c.push-six.ensures) (sym (pick_true _ _ (not-false _ c.if-not-s.false)))
+returns-in-Some c =
+    let count : c.min.result ≡ counted c.args.s.count = omega arith in
+    rw (count, c.push.ensures) (sym (ap (λ o. ended_number o c.args.s) c.in-Some.is))

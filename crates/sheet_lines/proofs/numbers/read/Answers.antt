@@ -1,32 +1,25 @@
 -- `sheet_lines::numbers::read` meets its contract. Assumes nothing.
-use mathlib.Core.Path.{sym, ap, ◌∙◌}
-use borrow.Author.Tests.{eq-eqb, ne_eqb, not-true, not-false}
+use Rattle.std.proofs.Common.{sym, ap, ◌∙◌, arith}
+use borrow.Author.Tests.{eq-eqb, ne_eqb}
 use Rattle.algebra.proofs.Choice.{pick_true, pick-false}
 use Rattle.sheet_lines.proofs.ScanLaws.{outcome, scan_finds}
 use Rattle.sheet_lines.proofs.numbers.read.Goals as goal
 
-pub returns-then-not-s : goal.returns-then-not-s
-returns-then-not-s c =
-    let line = c.args.line.now in
-    sym (scan_finds line ∙ ap outcome (sym c.scan_all-s.ensures) ∙ pick-false _ _ (not-true _ c.if-not-s.true))
+pub returns-in_default : goal.returns-in_default
+returns-in_default c = sym (scan_finds c.args.line.now ∙ ap outcome (sym c.in_default.ensures))
 
-pub returns-then-s-eq0 : goal.returns-then-s-eq0
-returns-then-s-eq0 c =
-    let line = c.args.line.now in
-    sym
-    (scan_finds line ∙ ap outcome (sym c.scan_all-s.ensures) ∙ pick_true _ _ (not-false _ c.if-not-s.false)
-    ∙ pick_true _ _ (eq-eqb _ _ c.if-s-eq0.true))
+pub returns-in-0 : goal.returns-in-0
+returns-in-0 c =
+    sym (scan_finds c.args.line.now ∙ ap outcome (sym c.in-Some.ensures) ∙ pick_true _ _ (eq-eqb _ _ c.in-0.is))
 
-pub returns-then-s-eq-WANTED : goal.returns-then-s-eq-WANTED
-returns-then-s-eq-WANTED c =
-    let line = c.args.line.now in
+pub returns-in-6 : goal.returns-in-6
+returns-in-6 c =
     sym
-    (scan_finds line ∙ ap outcome (sym c.scan_all-s.ensures) ∙ pick_true _ _ (not-false _ c.if-not-s.false)
-    ∙ pick-false _ _ (ne_eqb _ _ c.if-s-eq0.false) ∙ pick_true _ _ (eq-eqb _ _ c.if-s-eq-WANTED.true))
+    (scan_finds c.args.line.now ∙ ap outcome (sym c.in-Some.ensures) ∙ pick-false _ _ (ne_eqb _ _ (λ none. omega (arith, c.in-6.is)))
+    ∙ pick_true _ _ (eq-eqb _ _ c.in-6.is))
 
-pub returns-else-s-eq-WANTED : goal.returns-else-s-eq-WANTED
-returns-else-s-eq-WANTED c =
-    let line = c.args.line.now in
+pub returns-in_default-count : goal.returns-in_default-count
+returns-in_default-count c =
     sym
-    (scan_finds line ∙ ap outcome (sym c.scan_all-s.ensures) ∙ pick_true _ _ (not-false _ c.if-not-s.false)
-    ∙ pick-false _ _ (ne_eqb _ _ c.if-s-eq0.false) ∙ pick-false _ _ (ne_eqb _ _ c.if-s-eq-WANTED.false))
+    (scan_finds c.args.line.now ∙ ap outcome (sym c.in-Some.ensures) ∙ pick-false _ _ (ne_eqb _ _ (λ none. omega arith))
+    ∙ pick-false _ _ (ne_eqb _ _ (λ six. omega arith)))

@@ -1,31 +1,30 @@
--- `sheet_lines::numbers::scan_all` meets its contract: what is left of the text leads to the same state. Assumes nothing.
-use mathlib.Core.Path.{◌≡◌, refl, sym, ap, ap₂, ◌∙◌}
-use mathlib.Core.List.{foldl}
-use native.Mathlib.Omega.{arith}
-use native.Mathlib.Numerals.{add-one}
-use lib.ListN.{length, drop}
-use lib.Seq.{drop-cons, drop-length}
-use Rattle.sheet_lines.specs.Scanning.{number_ended, stepped, scanned}
-use borrow.Author.Rules.{rules}
+-- `sheet_lines::numbers::scan_all` meets its contract. Assumes nothing.
+use Rattle.std.proofs.Common.{◌≡◌, refl, sym, ap, ◌∙◌, arith, List, ℕ, ◌+◌, ◌<◌, length, drop, get_or}
+use Rattle.std.specs.Prelude.{Option, Some, None}
+use Rattle.std.proofs.lemmas.List.{at_drop_more, at_drop_all}
+use Rattle.sheet_lines.specs.declared.numbers.Scan.{Scan}
+use Rattle.sheet_lines.specs.Scanning.{stepped, scanned_on, scanned}
 use Rattle.sheet_lines.proofs.numbers.scan_all.Goals as goal
 
-pub loop-i-init : goal.loop-i-init
-loop-i-init c = (search rules, refl)
+one_more : (text : List ℕ) (i : ℕ) (s : Scan) (o : Option Scan) → i < length text → o ≡ stepped s (get_or text i 0)
+    → scanned_on o (drop (i + 1) text) ≡ scanned_on (Some s) (drop i text)
+one_more text i s o below e = ap (λ o. scanned_on o (drop (i + 1) text)) e ∙ sym (at_drop_more (scanned_on (Some s)) text i 0 below)
 
-pub loop-i-preserved : goal.loop-i-preserved
-loop-i-preserved c =
-    let l = c.loop-i in
-    let text = c.args.text.now in
-    let left : drop l.i text ≡ _ = drop-cons text l.i 0 (search rules) in (
-      search rules,
-      ap₂ (λ t n. foldl stepped t (drop n text)) c.step-s.ensures (add-one l.i) ∙ sym (ap (foldl stepped l.s) left) ∙ l.invariant.1,
-    )
+pub loop-b-init : goal.loop-b-init
+unfolding scanned
+loop-b-init c = refl
+
+pub returns-in_err-s : goal.returns-in_err-s
+returns-in_err-s c =
+    let l = c.loop-b in
+    c.from_residual.ensures ∙ one_more c.args.text.now l.b-index l.s None (omega arith) c.in_err-s.ensures ∙ l.invariant
+
+pub loop-b-preserved : goal.loop-b-preserved
+loop-b-preserved c =
+    let l = c.loop-b in
+    one_more c.args.text.now l.b-index l.s (Some c.in_ok-s.s) (omega arith) c.in_ok-s.ensures ∙ l.invariant
 
 pub returns : goal.returns
-unfolding scanned
 returns c =
-    let l = c.loop-i in
-    let text = c.args.text.now in
-    let all : l.i ≡ length text = omega (arith, l.invariant.0) in
-    c.end_number.ensures
-    ∙ ap number_ended (sym (ap (foldl stepped l.s) (ap (λ n. drop n text) all ∙ drop-length text)) ∙ l.invariant.1)
+    let l = c.loop-b in
+    ap Some c.end_number.ensures ∙ sym (at_drop_all (scanned_on (Some l.s)) c.args.text.now l.b-index (omega arith)) ∙ l.invariant

@@ -1,13 +1,8 @@
--- What the loop of `sheet_lines::numbers::scan_all` keeps. Assumes nothing.
-use mathlib.Core.Path.{◌≡◌}
-use mathlib.Core.List.{foldl}
-use Prim.Native.Nat.{◌-◌, ◌≤◌}
-use lib.ListN.{length, drop}
-use Rattle.sheet_lines.specs.Scanning.{stepped, scan_start}
+-- What the loop of `sheet_lines::numbers::scan_all` keeps: what is left of the text leads to the same state. Assumes nothing.
+use Rattle.std.proofs.Common.{◌≡◌, drop}
+use Rattle.std.specs.Prelude.{Some}
+use Rattle.sheet_lines.specs.Scanning.{scanned_on, scanned}
 use Rattle.sheet_lines.proofs.numbers.scan_all.Given as goal
 
-abbrev pub invariant-loop-i : goal.invariant-loop-i
-invariant-loop-i l = (l.i ≤ length l.text) × (foldl stepped l.s (drop l.i l.text) ≡ foldl stepped scan_start l.text)
-
-abbrev pub decreases-loop-i : goal.decreases-loop-i
-decreases-loop-i l = length l.text - l.i
+abbrev pub invariant-loop-b : goal.invariant-loop-b
+invariant-loop-b l = scanned_on (Some l.s) (drop l.b-index l.text) ≡ scanned l.text

@@ -1,9 +1,6 @@
 -- `step_refusals::holdings::transcript_fits` meets its contract: its tests in the order of the definition. Assumes nothing.
-use mathlib.Core.Path.{◌≡◌, sym, ap, ap₂, ◌∙◌}
-use mathlib.Core.Bool.{Bool, true, not, ◌&&◌, and-true}
-use mathlib.Core.List.{map}
-use lib.Dec.{ltb}
-use borrow.Author.Rules.{rules}
+use Rattle.std.proofs.Common.{◌≡◌, sym, ap, ap₂, ◌∙◌, Bool, not, ◌&&◌, map, ltb}
+use Rattle.std.proofs.Math.Bool.{and_assoc, and-true}
 use Rattle.field.specs.Prime.{Prime}
 use Rattle.field.specs.Element.{of}
 use Rattle.domain.specs.Domain.{inside}
@@ -11,88 +8,75 @@ use Rattle.domain.specs.Size.{is_size}
 use Rattle.domain.specs.Qualifies.{Qualifies}
 use Rattle.protocol.specs.Circuit.{largest}
 use Rattle.protocol.specs.Checks.{list_transcript}
-use Rattle.shared.specs.Meanings.{sizes, transcript}
+use Rattle.shared.specs.Meanings.{three, sizes, transcript}
 use Rattle.protocol.specs.Session.{all, all_below, transcript_fits}
-use Rattle.protocol.proofs.AllowedSizes.{Allowed, allowed, largest_size}
+use Rattle.protocol.proofs.AllowedSizes.{allowed, largest_size}
+use Rattle.step_refusals.proofs.Tests.{joined}
 use Rattle.step_refusals.proofs.holdings.transcript_fits.Goals as goal
-use Rattle.step_refusals.proofs.holdings.transcript_fits.Goals.{After-all_below, Else-is_inside, Else-is_inside-2, Else-not-all_below, Start}
+use Rattle.step_refusals.proofs.holdings.transcript_fits.Goals.{Start, Joined-all_below, then-all_below, else-all_below}
+use Rattle.step_refusals.proofs.holdings.transcript_fits.Goals.{Joined-not-is_inside, then-not-is_inside, else-not-is_inside}
 
-sized : (s : Start) → Allowed (sizes s.args.s)
-sized s = allowed (sizes s.args.s) s.requires.s_value
+module _ (q : Prime) (s : Start) where
+  -- the tests of the words, of α, of β and of γ
+  abbrev words : Bool
+  words = all_below q (list_transcript (transcript s.args.t))
 
-module _ (q : Prime) where
-  -- the tests of γ, of β and γ, of all three
-  module _ (s : Start) where
-    abbrev at-γ : Bool
-    at-γ = not (inside {q = q} (largest (sizes s.args.s).|K|) (of s.args.t.gamma)) && true
+  abbrev at-α : Bool
+  at-α = not (inside {q = q} s.args.s.r (of s.args.t.alpha))
 
-    abbrev from_β : Bool
-    from_β = not (inside {q = q} s.args.s.c (of s.args.t.beta)) && at-γ
+  abbrev at-β : Bool
+  at-β = not (inside {q = q} s.args.s.c (of s.args.t.beta))
 
-    abbrev from_α : Bool
-    from_α = not (inside {q = q} s.args.s.r (of s.args.t.alpha)) && from_β
+  abbrev at-γ : Bool
+  at-γ = not (inside {q = q} (largest (three s.args.s.k)) (of s.args.t.gamma))
 
-  words-is : (c : After-all_below) → let s = (goal.at.After-all_below c).Start in q.p ≡ s.args.p
-      → c.all_below.result ≡ all_below q (list_transcript (transcript s.args.t))
-  words-is c e =
-      c.all_below.ensures ∙ ap₂ (λ p ws. all (map (λ w. ltb w p) ws)) (sym e) c.transcript_words-words.ensures
+  in_order : {v : Bool} → v ≡ (((words && at-α) && at-β) && at-γ) → v ≡ transcript_fits q (sizes s.args.s) (transcript s.args.t)
+  unfolding transcript_fits
+  in_order e =
+      e ∙ and_assoc (words && at-α) at-β at-γ ∙ and_assoc words at-α (at-β && at-γ)
+      ∙ ap (λ t. words && (at-α && (at-β && t))) (sym (and-true at-γ))
 
-  -- past the words, past α, past β
-  past_words : (c : Else-not-all_below) → let s = (goal.at.Else-not-all_below c).Start in q.p ≡ s.args.p
-      → from_α s ≡ (all_below q (list_transcript (transcript s.args.t)) && from_α s)
-  past_words c e =
-      let here = goal.at.Else-not-all_below c in
-      ap (λ b. b && from_α here.Start) (sym c.if-not-all_below.false ∙ words-is here.After-all_below e)
+-- past α, past β
+to_α : (q : Prime) (c : Joined-all_below) → Qualifies q → let s = (goal.at.Joined-all_below c).Start in q.p ≡ s.args.p
+    → c.if-all_below.value ≡ (words q s && at-α q s)
+to_α q c Q e =
+    let is = c.all_below.ensures ∙ ap₂ (λ p l. all (map (λ w. ltb w p) l)) (sym e) c.transcript_words.ensures in
+    elim c.if-all_below.branch [
+      | then-all_below w ↦ joined _ w.if-all_below.true is (w.value-is ∙ ap not (w.is_inside.ensures q Q e))
+      | else-all_below w ↦ joined (at-α q (goal.at.Joined-all_below c).Start) w.if-all_below.false is (w.value-is ∙ w.if-all_below.false)
+    ]
 
-  past_α : (c : Else-is_inside) → let s = (goal.at.Else-is_inside c).Start in Qualifies q → q.p ≡ s.args.p → from_β s ≡ from_α s
-  past_α c Q e = ap (λ b. not b && from_β (goal.at.Else-is_inside c).Start) (sym c.if-is_inside.false ∙ c.is_inside.ensures q Q e)
+to_β : (q : Prime) (c : Joined-not-is_inside) → Qualifies q → let s = (goal.at.Joined-not-is_inside c).Start in q.p ≡ s.args.p
+    → c.if-not-is_inside.value ≡ ((words q s && at-α q s) && at-β q s)
+to_β q c Q e =
+    let front = to_α q (goal.at.Joined-not-is_inside c).Joined-all_below Q e in
+    elim c.if-not-is_inside.branch [
+      | then-not-is_inside w ↦ joined _ w.if-not-is_inside.true front (w.value-is ∙ ap not (w.is_inside-then-not-is_inside.ensures q Q e))
+      | else-not-is_inside w ↦
+          joined (at-β q (goal.at.Joined-not-is_inside c).Start) w.if-not-is_inside.false front
+          (w.value-is ∙ w.if-not-is_inside.false)
+    ]
 
-  past_β : (c : Else-is_inside-2) → let s = (goal.at.Else-is_inside-2 c).Start in Qualifies q → q.p ≡ s.args.p → at-γ s ≡ from_β s
-  past_β c Q e = ap (λ b. not b && at-γ (goal.at.Else-is_inside-2 c).Start) (sym c.if-is_inside-2.false ∙ c.is_inside-2.ensures q Q e)
+pub is_inside-requires-clause-n_value : goal.is_inside-requires-clause-n_value
+is_inside-requires-clause-n_value c = (allowed (sizes c.args.s) c.requires.s_value).R-size
 
-pub returns-then-not-all_below : goal.returns-then-not-all_below
-unfolding transcript_fits
-returns-then-not-all_below c q Q e =
-    let here = goal.at.returns-then-not-all_below c in
-    ap (λ b. b && from_α q here.Start) (sym c.if-not-all_below.true ∙ words-is q here.After-all_below e)
+pub is_inside-requires-then-not-is_inside-clause-n_value : goal.is_inside-requires-then-not-is_inside-clause-n_value
+is_inside-requires-then-not-is_inside-clause-n_value c = (allowed (sizes c.args.s) c.requires.s_value).C-size
 
-pub is_inside-requires : goal.is_inside-requires
-is_inside-requires c = record {
-  lt_p = search rules;
-  n_value = (sized (goal.at.is_inside-requires c).Start).R-size;
-}
+pub is_inside-requires-then-not-is_inside-2-clause-n_value : goal.is_inside-requires-then-not-is_inside-2-clause-n_value
+is_inside-requires-then-not-is_inside-2-clause-n_value c =
+    let s = sizes c.args.s in
+    ap is_size c.largest.ensures ∙ largest_size s (allowed s c.requires.s_value)
 
-pub returns-then-is_inside : goal.returns-then-is_inside
-unfolding transcript_fits
-returns-then-is_inside c q Q e =
-    let here = goal.at.returns-then-is_inside c in
-    ap (λ b. not b && from_β q here.Start) (sym c.if-is_inside.true ∙ c.is_inside.ensures q Q e)
-    ∙ past_words q here.Else-not-all_below e
+pub returns-then-not-is_inside-2 : goal.returns-then-not-is_inside-2
+returns-then-not-is_inside-2 c q Q e =
+    let here = goal.at.returns-then-not-is_inside-2 c in
+    in_order q here.Start
+    (joined _ c.if-not-is_inside-2.true (to_β q here.Joined-not-is_inside Q e)
+    (ap not (c.is_inside-then-not-is_inside-2.ensures q Q e ∙ ap (λ n. inside {q = q} n (of c.args.t.gamma)) c.largest.ensures)))
 
-pub is_inside-requires-2 : goal.is_inside-requires-2
-is_inside-requires-2 c = record {
-  lt_p = search rules;
-  n_value = (sized (goal.at.is_inside-requires-2 c).Start).C-size;
-}
-
-pub returns-then-is_inside-2 : goal.returns-then-is_inside-2
-unfolding transcript_fits
-returns-then-is_inside-2 c q Q e =
-    let here = goal.at.returns-then-is_inside-2 c in
-    ap (λ b. not b && at-γ q here.Start) (sym c.if-is_inside-2.true ∙ c.is_inside-2.ensures q Q e)
-    ∙ past_α q here.Else-is_inside Q e ∙ past_words q here.Else-not-all_below e
-
-pub is_inside-requires-3 : goal.is_inside-requires-3
-is_inside-requires-3 c =
-    let s = (goal.at.is_inside-requires-3 c).Start in
-    record {
-      lt_p = search rules;
-      n_value = ap is_size c.largest.ensures ∙ largest_size (sizes s.args.s) (sized s);
-    }
-
-pub returns : goal.returns
-unfolding transcript_fits
-returns c q Q e =
-    let here = goal.at.returns c in
-    ap not (c.is_inside-3.ensures q Q e ∙ ap (λ n. inside {q = q} n (of c.args.t.gamma)) c.largest.ensures)
-    ∙ sym (and-true _) ∙ past_β q here.Else-is_inside-2 Q e ∙ past_α q here.Else-is_inside Q e ∙ past_words q here.Else-not-all_below e
+pub returns-else-not-is_inside-2 : goal.returns-else-not-is_inside-2
+returns-else-not-is_inside-2 c q Q e =
+    let here = goal.at.returns-else-not-is_inside-2 c in
+    in_order q here.Start
+    (joined (at-γ q here.Start) c.if-not-is_inside-2.false (to_β q here.Joined-not-is_inside Q e) c.if-not-is_inside-2.false)

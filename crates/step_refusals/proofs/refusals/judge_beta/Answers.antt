@@ -1,18 +1,13 @@
--- `step_refusals::refusals::judge_beta` meets its contract: the table of lengths, then the rows of a step with a challenge. Assumes nothing.
-use mathlib.Core.Path.{refl, ap, ◌∙◌}
-use mathlib.Core.List.{[], ◌∷◌}
-use borrow.Author.Rules.{rules}
+-- `step_refusals::refusals::judge_beta` meets its contract: the table of lengths, then the rows of a step with a challenge.
+-- Assumes nothing.
+use Rattle.std.proofs.Common.{ap, ◌∙◌, [], ◌∷◌}
 use Rattle.shared.specs.Meanings.{sizes}
 use Rattle.protocol.specs.Session.{beta_refusal}
 use Rattle.step_refusals.specs.ChallengeStep.{challenge_step}
 use Rattle.step_refusals.proofs.refusals.judge_beta.Goals as goal
 
-pub judge_challenge-requires : goal.judge_challenge-requires
-judge_challenge-requires c = record {
-  lt_p = search rules;
-  n_value = (λ allowed. allowed.C-size);
-  most_len = refl;
-}
+pub judge_challenge-requires-clause-n_value : goal.judge_challenge-requires-clause-n_value
+judge_challenge-requires-clause-n_value c allowed = allowed.C-size
 
 pub returns : goal.returns
 unfolding beta_refusal

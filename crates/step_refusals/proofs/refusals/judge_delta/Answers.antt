@@ -1,18 +1,16 @@
 -- `step_refusals::refusals::judge_delta` meets its contract: the turn, the words, the declared lengths. Assumes nothing.
-use mathlib.Core.Path.{◌≡◌, refl, sym, ap, ◌∙◌}
-use mathlib.Core.List.{List, [], ◌∷◌, ◌++◌}
-use mathlib.Core.Option.{Option}
-use Prim.Native.Nat.{ℕ}
+use Rattle.std.proofs.Common.{ap, ◌∙◌, List, [], ◌∷◌, ◌++◌, ℕ}
+use Rattle.std.proofs.Math.Option.{Option}
 use Rattle.field.specs.Prime.{Prime}
 use Rattle.shared.specs.Meanings.{sizes, three}
 use Rattle.protocol.specs.Messages.{MessageLengths, lengths}
-use Rattle.protocol.specs.Refusals.{Refusal, first, word_refusal, length_refusal}
+use Rattle.protocol.specs.Refusals.{Refusal, word_refusal, length_refusal}
 use Rattle.protocol.specs.Session.{delta_refusal}
 use Rattle.protocol.specs.Three.{listed}
 use Rattle.shared.proofs.EarlyReturns.{stops, goes_on, last_answer_lem}
 use Rattle.protocol.proofs.Rows.{word_row}
 use Rattle.step_refusals.proofs.refusals.judge_delta.Goals as goal
-use Rattle.step_refusals.proofs.refusals.judge_delta.Goals.{Else-not-is_fine, Start}
+use Rattle.step_refusals.proofs.refusals.judge_delta.Goals.{Start}
 
 -- the words, and the rows of the lengths by a table, and after the turn
 module _ (s : Start) where
@@ -28,31 +26,22 @@ module _ (s : Start) where
   abbrev rest : Prime → List (Option Refusal)
   rest q = word_refusal q ws ∷ lengths-row
 
--- past the turn
-past_turn : (q : Prime) (c : Else-not-is_fine) {x : Option Refusal} → let s = (goal.at.Else-not-is_fine c).Start in let a = s.args in
-    x ≡ first (rest s q) → x ≡ delta_refusal q a.stage (sizes a.s) (three a.values) (three a.remainders) (three a.delta)
+pub returns-in_err-judge_turn : goal.returns-in_err-judge_turn
 unfolding delta_refusal
-past_turn q c =
-    goes_on c.judge_turn-turn.result c.judge_turn-turn.ensures (rest (goal.at.Else-not-is_fine c).Start q) (sym c.is_fine.ensures ∙ c.if-not-is_fine.false)
+returns-in_err-judge_turn c q e =
+    stops _ _ c.from_residual.ensures.1 c.in_err-judge_turn.ensures (rest (goal.at.returns-in_err-judge_turn c).Start q)
 
-pub returns-then-not-is_fine : goal.returns-then-not-is_fine
+pub returns-in_err-judge_words : goal.returns-in_err-judge_words
 unfolding delta_refusal
-returns-then-not-is_fine c q e =
-    stops c.judge_turn-turn.result c.judge_turn-turn.ensures (rest (goal.at.returns-then-not-is_fine c).Start q) (sym c.is_fine.ensures ∙ c.if-not-is_fine.true)
-
-pub returns-then-not-is_fine-2 : goal.returns-then-not-is_fine-2
-returns-then-not-is_fine-2 c q e =
-    let s = (goal.at.returns-then-not-is_fine-2 c).Start in
-    past_turn q (goal.at.returns-then-not-is_fine-2 c).Else-not-is_fine
-    (stops c.judge_words-word.result (c.judge_words-word.ensures ∙ word_row q e (ws s)) (lengths-row s)
-    (sym c.is_fine-2.ensures ∙ c.if-not-is_fine-2.true))
-
-pub judge_lengths-requires : goal.judge_lengths-requires
-judge_lengths-requires c = refl
+returns-in_err-judge_words c q e =
+    let s = (goal.at.returns-in_err-judge_words c).Start in
+    goes_on c.in_ok-judge_turn.ensures (rest s q)
+    (stops _ _ c.from_residual-in_err-judge_words.ensures.1 (c.in_err-judge_words.ensures ∙ word_row q e (ws s)) (lengths-row s))
 
 pub returns : goal.returns
+unfolding delta_refusal
 returns c q e =
     let s = (goal.at.returns c).Start in
-    past_turn q (goal.at.returns c).Else-not-is_fine
-    (goes_on c.judge_words-word.result (c.judge_words-word.ensures ∙ word_row q e (ws s)) (lengths-row s)
-    (sym c.is_fine-2.ensures ∙ c.if-not-is_fine-2.false) (last_answer_lem (c.judge_lengths.ensures ∙ ap (most s) c.message_lengths.ensures)))
+    goes_on c.in_ok-judge_turn.ensures (rest s q)
+    (goes_on (c.in_ok-judge_words.ensures ∙ word_row q e (ws s)) (lengths-row s)
+    (last_answer_lem (c.judge_lengths.ensures ∙ ap (most s) c.message_lengths.ensures)))

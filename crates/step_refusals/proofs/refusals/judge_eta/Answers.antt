@@ -1,8 +1,6 @@
 -- `step_refusals::refusals::judge_eta` meets its contract: the turn, the words. Assumes nothing.
-use mathlib.Core.Path.{sym, ◌∙◌}
-use mathlib.Core.List.{List, [], ◌∷◌, ◌++◌}
-use mathlib.Core.Option.{Option}
-use Prim.Native.Nat.{ℕ}
+use Rattle.std.proofs.Common.{◌∙◌, List, [], ◌∷◌, ◌++◌, ℕ}
+use Rattle.std.proofs.Math.Option.{Option}
 use Rattle.field.specs.Prime.{Prime}
 use Rattle.shared.specs.Meanings.{three}
 use Rattle.protocol.specs.Refusals.{Refusal, word_refusal}
@@ -21,13 +19,13 @@ module _ (s : Start) where
   abbrev rest : Prime → List (Option Refusal)
   rest q = word_refusal q ws ∷ []
 
-pub returns-then-not-is_fine : goal.returns-then-not-is_fine
+pub returns-in_err-judge_turn : goal.returns-in_err-judge_turn
 unfolding eta_refusal
-returns-then-not-is_fine c q e =
-    stops c.judge_turn-turn.result c.judge_turn-turn.ensures (rest (goal.at.returns-then-not-is_fine c).Start q) (sym c.is_fine.ensures ∙ c.if-not-is_fine.true)
+returns-in_err-judge_turn c q e =
+    stops _ _ c.from_residual.ensures.1 c.in_err-judge_turn.ensures (rest (goal.at.returns-in_err-judge_turn c).Start q)
 
 pub returns : goal.returns
 unfolding eta_refusal
 returns c q e =
-    goes_on c.judge_turn-turn.result c.judge_turn-turn.ensures (rest (goal.at.returns c).Start q) (sym c.is_fine.ensures ∙ c.if-not-is_fine.false)
-    (last_answer_lem (c.judge_words.ensures ∙ word_row q e (ws (goal.at.returns c).Start)))
+    let s = (goal.at.returns c).Start in
+    goes_on c.in_ok-judge_turn.ensures (rest s q) (last_answer_lem (c.judge_words.ensures ∙ word_row q e (ws s)))

@@ -1,8 +1,6 @@
 -- `step_refusals::refusals::judge_gamma` meets its contract: the table of lengths and |K|, then the rows of a step with a challenge.
 -- Assumes nothing.
-use mathlib.Core.Path.{refl, ap₂, ap, ◌∙◌}
-use mathlib.Core.List.{[], ◌∷◌}
-use borrow.Author.Rules.{rules}
+use Rattle.std.proofs.Common.{ap₂, ap, ◌∙◌, [], ◌∷◌}
 use Rattle.domain.specs.Size.{is_size}
 use Rattle.shared.specs.Meanings.{sizes}
 use Rattle.protocol.specs.Session.{gamma_refusal}
@@ -10,14 +8,8 @@ use Rattle.protocol.proofs.AllowedSizes.{largest_size}
 use Rattle.step_refusals.specs.ChallengeStep.{challenge_step}
 use Rattle.step_refusals.proofs.refusals.judge_gamma.Goals as goal
 
-pub judge_challenge-requires : goal.judge_challenge-requires
-judge_challenge-requires c =
-    let s = sizes c.args.s in
-    record {
-      lt_p = search rules;
-      n_value = (λ allowed. ap is_size c.largest.ensures ∙ largest_size s allowed);
-      most_len = refl;
-    }
+pub judge_challenge-requires-clause-n_value : goal.judge_challenge-requires-clause-n_value
+judge_challenge-requires-clause-n_value c allowed = ap is_size c.largest.ensures ∙ largest_size (sizes c.args.s) allowed
 
 pub returns : goal.returns
 unfolding gamma_refusal

@@ -1,60 +1,48 @@
 -- `step_refusals::refusals::judge_open` meets its contract: the sizes, the length, the words, the first word. Assumes nothing.
-use mathlib.Core.Path.{◌≡◌, sym, ◌∙◌}
-use mathlib.Core.List.{List, [], ◌∷◌}
-use mathlib.Core.Option.{Option}
-use lib.Dec.{eqb}
-use lib.ListN.{length}
-use borrow.Author.Tests.{eq-eqb, ne_eqb}
+use Rattle.std.proofs.Common.{◌∙◌, List, [], ◌∷◌, eqb, length, eq-eqb, ne_eqb}
+use Rattle.std.proofs.Math.Option.{Option}
 use Rattle.field.specs.Prime.{Prime}
-use Rattle.shared.specs.Meanings.{sizes}
-use Rattle.protocol.specs.Refusals.{Refusal, first, size_refusal, list_refusal, word_refusal, constant_refusal}
+use Rattle.protocol.specs.Refusals.{Refusal, size_refusal, list_refusal, word_refusal, constant_refusal}
 use Rattle.protocol.specs.Session.{open_refusal}
 use Rattle.shared.proofs.EarlyReturns.{stops, goes_on, last_answer_lem, fails_first, passes}
 use Rattle.protocol.proofs.Rows.{word_row}
 use Rattle.step_refusals.proofs.refusals.judge_open.Goals as goal
-use Rattle.step_refusals.proofs.refusals.judge_open.Goals.{Else-not-is_fine, Else-x-s, Start}
+use Rattle.step_refusals.proofs.refusals.judge_open.Goals.{Start}
 
--- the rows after the length, and after the sizes
-abbrev after-length : Prime → Start → List (Option Refusal)
-after-length q s = word_refusal q s.args.x.now ∷ constant_refusal s.args.x.now ∷ []
+-- the rows after the words, the length, and the sizes
+module _ (s : Start) where
+  abbrev after-words : List (Option Refusal)
+  after-words = constant_refusal s.args.x.now ∷ []
 
-abbrev rest : Prime → Start → List (Option Refusal)
-rest q s = list_refusal (eqb (length s.args.x.now) s.args.s.x ∷ []) ∷ after-length q s
+  abbrev after-length : Prime → List (Option Refusal)
+  after-length q = word_refusal q s.args.x.now ∷ after-words
 
-past_sizes : (q : Prime) (c : Else-not-is_fine) {r : Option Refusal} → let s = (goal.at.Else-not-is_fine c).Start in
-    r ≡ first (rest q s) → r ≡ open_refusal q (sizes s.args.s) s.args.x.now
+  abbrev after-sizes : Prime → List (Option Refusal)
+  after-sizes q = list_refusal (eqb (length s.args.x.now) s.args.s.x ∷ []) ∷ after-length q
+
+pub returns-in_err-judge_sizes : goal.returns-in_err-judge_sizes
 unfolding open_refusal size_refusal
-past_sizes q c =
-    goes_on c.judge_sizes-size.result c.judge_sizes-size.ensures (rest q (goal.at.Else-not-is_fine c).Start) (sym c.is_fine.ensures ∙ c.if-not-is_fine.false)
-
-past_length : (q : Prime) (c : Else-x-s) {r : Option Refusal} → let s = (goal.at.Else-x-s c).Start in
-    r ≡ first (after-length q s) → r ≡ open_refusal q (sizes s.args.s) s.args.x.now
-unfolding list_refusal
-past_length q c y =
-    let d = (goal.at.Else-x-s c).Else-not-is_fine in
-    past_sizes q d (passes 5 0 (after-length q (goal.at.Else-not-is_fine d).Start) (eq-eqb _ _ c.if-x-s.false) y)
-
-pub returns-then-not-is_fine : goal.returns-then-not-is_fine
-unfolding open_refusal size_refusal
-returns-then-not-is_fine c q e =
-    stops c.judge_sizes-size.result c.judge_sizes-size.ensures (rest q (goal.at.returns-then-not-is_fine c).Start) (sym c.is_fine.ensures ∙ c.if-not-is_fine.true)
+returns-in_err-judge_sizes c q e =
+    stops _ _ c.from_residual.ensures.1 c.in_err-judge_sizes.ensures (after-sizes (goal.at.returns-in_err-judge_sizes c).Start q)
 
 pub returns-then-x-s : goal.returns-then-x-s
-unfolding list_refusal
+unfolding open_refusal size_refusal list_refusal
 returns-then-x-s c q e =
-    let d = (goal.at.returns-then-x-s c).Else-not-is_fine in
-    past_sizes q d (fails_first 5 0 (after-length q (goal.at.Else-not-is_fine d).Start) (ne_eqb _ _ c.if-x-s.true))
+    let s = (goal.at.returns-then-x-s c).Start in
+    goes_on c.in_ok-judge_sizes.ensures (after-sizes s q) (fails_first 5 0 (after-length s q) (ne_eqb _ _ c.if-x-s.true))
 
-pub returns-then-not-is_fine-2 : goal.returns-then-not-is_fine-2
-returns-then-not-is_fine-2 c q e =
-    let x = c.args.x.now in
-    past_length q (goal.at.returns-then-not-is_fine-2 c).Else-x-s
-    (stops c.judge_words-in_words.result {o = word_refusal q x} (c.judge_words-in_words.ensures ∙ word_row q e x) (constant_refusal x ∷ [])
-    (sym c.is_fine-2.ensures ∙ c.if-not-is_fine-2.true))
+pub returns-in_err-judge_words : goal.returns-in_err-judge_words
+unfolding open_refusal size_refusal list_refusal
+returns-in_err-judge_words c q e =
+    let s = (goal.at.returns-in_err-judge_words c).Start in
+    goes_on c.in_ok-judge_sizes.ensures (after-sizes s q)
+    (passes 5 0 (after-length s q) (eq-eqb _ _ c.if-x-s.false)
+    (stops _ _ c.from_residual-in_err-judge_words.ensures.1 (c.in_err-judge_words.ensures ∙ word_row q e c.args.x.now) (after-words s)))
 
 pub returns : goal.returns
+unfolding open_refusal size_refusal list_refusal
 returns c q e =
-    let x = c.args.x.now in
-    past_length q (goal.at.returns c).Else-x-s
-    (goes_on c.judge_words-in_words.result {o = word_refusal q x} (c.judge_words-in_words.ensures ∙ word_row q e x) (constant_refusal x ∷ [])
-    (sym c.is_fine-2.ensures ∙ c.if-not-is_fine-2.false) (last_answer_lem c.judge_constant.ensures))
+    let s = (goal.at.returns c).Start in
+    goes_on c.in_ok-judge_sizes.ensures (after-sizes s q)
+    (passes 5 0 (after-length s q) (eq-eqb _ _ c.if-x-s.false)
+    (goes_on (c.in_ok-judge_words.ensures ∙ word_row q e c.args.x.now) (after-words s) (last_answer_lem c.judge_constant.ensures)))

@@ -1,11 +1,6 @@
 -- `step_refusals::refusals::judge_opened` meets its contract: the messages' openings, then those of A, B, C. Assumes nothing.
-use mathlib.Core.Path.{◌≡◌, sym, ap, ◌∙◌}
-use mathlib.Core.Bool.{Bool}
-use mathlib.Core.List.{List, [], ◌∷◌, ◌++◌, map}
-use mathlib.Core.Option.{Option}
-use Prim.Native.Nat.{ℕ}
-use lib.Dec.{ltb}
-use lib.ListN.{get_or}
+use Rattle.std.proofs.Common.{◌≡◌, sym, ap, ◌∙◌, Bool, List, [], ◌∷◌, ◌++◌, map, ℕ, ltb, get_or}
+use Rattle.std.proofs.Math.Option.{Option}
 use Rattle.field.specs.Prime.{Prime}
 use Rattle.protocol.specs.Checks.{list_openings}
 use Rattle.protocol.specs.Index.{list_index}
@@ -15,7 +10,7 @@ use Rattle.protocol.specs.Three.{listed}
 use Rattle.shared.proofs.EarlyReturns.{stops, goes_on, last_answer_lem}
 use Rattle.protocol.proofs.Rows.{first_nested, refuse_append, word_row}
 use Rattle.step_refusals.proofs.refusals.judge_opened.Goals as goal
-use Rattle.step_refusals.proofs.refusals.judge_opened.Goals.{Else-not-is_fine, Else-not-is_fine-2, Start}
+use Rattle.step_refusals.proofs.refusals.judge_opened.Goals.{Start}
 
 -- the tests in four parts, and the rows of the parts after the first, the second, the third
 module _ (s : Start) where
@@ -25,7 +20,9 @@ module _ (s : Start) where
   abbrev messages : List Bool
   messages =
       let o = s.args.o in
-      below (o.witness ∷ o.mask ∷ o.line_remainder ∷ o.line_quotient ∷ o.row_quotient ∷ o.joined_quotient ∷ listed (three o.matrix_remainders))
+      below
+      (o.witness ∷ o.mask ∷ o.line_remainder ∷ o.line_quotient ∷ o.row_quotient ∷ o.joined_quotient
+      ∷ listed (three o.matrix_remainders))
 
   abbrev part : ℕ → List Bool
   part i = below (list_index (index_words (get_or s.args.index i [])))
@@ -50,46 +47,34 @@ module _ (s : Start) where
     where
       from_a : refuse 6 9 (part 0 ++ (part 1 ++ part 2)) ≡ first after-messages
       from_a =
-          refuse_append 6 9 (part 0) (part 1 ++ part 2) ∙ ap (λ o. first (refuse 6 9 (part 0) ∷ o ∷ [])) (refuse_append 6 13 (part 1) (part 2))
+          refuse_append 6 9 (part 0) (part 1 ++ part 2)
+          ∙ ap (λ o. first (refuse 6 9 (part 0) ∷ o ∷ [])) (refuse_append 6 13 (part 1) (part 2))
           ∙ first_nested (refuse 6 9 (part 0)) after-a
 
--- past the messages, past A, past B
-module _ (q : Prime) {x : Option Refusal} where
-  past_messages : (c : Else-not-is_fine) → let s = (goal.at.Else-not-is_fine c).Start in q.p ≡ s.args.p
-      → x ≡ first (after-messages s) → x ≡ word_refusal q (list_openings (openings s.args.o s.args.index))
-  past_messages c e y =
-      let s = (goal.at.Else-not-is_fine c).Start in
-      goes_on c.judge_words-messages.result c.judge_words-messages.ensures (after-messages s) (sym c.is_fine.ensures ∙ c.if-not-is_fine.false) y
-      ∙ in_parts s q e
+pub returns-in_err-judge_words : goal.returns-in_err-judge_words
+returns-in_err-judge_words c q e =
+    let s = (goal.at.returns-in_err-judge_words c).Start in
+    stops _ _ c.from_residual.ensures.1 c.in_err-judge_words.ensures (after-messages s) ∙ in_parts s q e
 
-  past_a : (c : Else-not-is_fine-2) → let s = (goal.at.Else-not-is_fine-2 c).Start in q.p ≡ s.args.p
-      → x ≡ first (after-a s) → x ≡ word_refusal q (list_openings (openings s.args.o s.args.index))
-  past_a c e y =
-      let here = goal.at.Else-not-is_fine-2 c in
-      past_messages here.Else-not-is_fine e
-      (goes_on c.judge_index-a.result c.judge_index-a.ensures (after-a here.Start) (sym c.is_fine-2.ensures ∙ c.if-not-is_fine-2.false) y)
-
-pub returns-then-not-is_fine : goal.returns-then-not-is_fine
-returns-then-not-is_fine c q e =
-    let s = (goal.at.returns-then-not-is_fine c).Start in
-    stops c.judge_words-messages.result c.judge_words-messages.ensures (after-messages s) (sym c.is_fine.ensures ∙ c.if-not-is_fine.true)
+pub returns-in_err-judge_index : goal.returns-in_err-judge_index
+returns-in_err-judge_index c q e =
+    let s = (goal.at.returns-in_err-judge_index c).Start in
+    goes_on c.in_ok-judge_words.ensures (after-messages s)
+    (stops _ _ c.from_residual-in_err-judge_index.ensures.1 c.in_err-judge_index.ensures (after-a s))
     ∙ in_parts s q e
 
-pub returns-then-not-is_fine-2 : goal.returns-then-not-is_fine-2
-returns-then-not-is_fine-2 c q e =
-    let here = goal.at.returns-then-not-is_fine-2 c in
-    past_messages q here.Else-not-is_fine e
-    (stops c.judge_index-a.result c.judge_index-a.ensures (after-a here.Start) (sym c.is_fine-2.ensures ∙ c.if-not-is_fine-2.true))
-
-pub returns-then-not-is_fine-3 : goal.returns-then-not-is_fine-3
-returns-then-not-is_fine-3 c q e =
-    let here = goal.at.returns-then-not-is_fine-3 c in
-    past_a q here.Else-not-is_fine-2 e
-    (stops c.judge_index-b.result c.judge_index-b.ensures (after-b here.Start) (sym c.is_fine-3.ensures ∙ c.if-not-is_fine-3.true))
+pub returns-in_err-judge_index-2 : goal.returns-in_err-judge_index-2
+returns-in_err-judge_index-2 c q e =
+    let s = (goal.at.returns-in_err-judge_index-2 c).Start in
+    goes_on c.in_ok-judge_words.ensures (after-messages s)
+    (goes_on c.in_ok-judge_index.ensures (after-a s)
+    (stops _ _ c.from_residual-in_err-judge_index-2.ensures.1 c.in_err-judge_index-2.ensures (after-b s)))
+    ∙ in_parts s q e
 
 pub returns : goal.returns
 returns c q e =
-    let here = goal.at.returns c in
-    past_a q here.Else-not-is_fine-2 e
-    (goes_on c.judge_index-b.result c.judge_index-b.ensures (after-b here.Start)
-    (sym c.is_fine-3.ensures ∙ c.if-not-is_fine-3.false) (last_answer_lem c.judge_index.ensures))
+    let s = (goal.at.returns c).Start in
+    goes_on c.in_ok-judge_words.ensures (after-messages s)
+    (goes_on c.in_ok-judge_index.ensures (after-a s)
+    (goes_on c.in_ok-judge_index-2.ensures (after-b s) (last_answer_lem c.judge_index-3.ensures)))
+    ∙ in_parts s q e

@@ -1,7 +1,6 @@
 -- `step_refusals::refusals::judge_turn` meets its contract. Assumes nothing.
+use Rattle.std.proofs.Common.{sym, ap, ◌∙◌, [], ◌∷◌}
 use Rattle.protocol.specs.Refusals.{refuse, turn_refusal}
-use mathlib.Core.List.{[], ◌∷◌}
-use mathlib.Core.Path.{sym, ap, ◌∙◌}
 use Rattle.step_refusals.proofs.refusals.judge_turn.Goals as goal
 
 pub returns-then-in_turn : goal.returns-then-in_turn

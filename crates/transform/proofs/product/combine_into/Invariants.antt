@@ -1,8 +1,5 @@
 -- What the loop of `transform::product::combine_into` keeps. Assumes nothing.
-use mathlib.Core.Path.{◌≡◌}
-use mathlib.Core.List.{List}
-use Prim.Native.Nat.{ℕ, ◌-◌, ◌≤◌}
-use lib.ListN.{length, get_or}
+use Rattle.std.proofs.Common.{◌≡◌, List, ℕ, length, get_or}
 use Rattle.algebra.specs.Lists.{tabulate}
 use Rattle.algebra.specs.Ring.{pow}
 use Rattle.field.specs.Prime.{Prime}
@@ -17,9 +14,6 @@ rule q s share plain turned i = (pow (prime_ring q) (of s) i ⊗ of (get_or turn
 
 abbrev pub invariant-loop-i : goal.invariant-loop-i
 invariant-loop-i l =
-    (l.i ≤ length l.out) × (length l.out ≡ length l.initial.out)
-    × ((q : Prime) → q.p ≡ l.p
-    → (l.power ≡ (pow (prime_ring q) (of l.s) l.i).word) × Filled (words (tabulate (length l.initial.out) (rule q l.s l.share l.plain l.turned))) l.out l.i)
-
-abbrev pub decreases-loop-i : goal.decreases-loop-i
-decreases-loop-i l = length l.out - l.i
+    (q : Prime) → q.p ≡ l.p
+    → (l.power ≡ (pow (prime_ring q) (of l.s) l.i).word)
+    × Filled (words (tabulate (length l.initial.out) (rule q l.s l.share l.plain l.turned))) l.out l.i

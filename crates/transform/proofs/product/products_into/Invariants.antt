@@ -1,8 +1,5 @@
 -- What the loop of `transform::product::products_into` keeps. Assumes nothing.
-use mathlib.Core.Path.{◌≡◌}
-use mathlib.Core.List.{List}
-use Prim.Native.Nat.{ℕ, ◌-◌, ◌≤◌}
-use lib.ListN.{length, get_or}
+use Rattle.std.proofs.Common.{◌≡◌, List, ℕ, length, get_or}
 use Rattle.algebra.specs.Lists.{tabulate}
 use Rattle.field.specs.Prime.{Prime}
 use Rattle.field.specs.Element.{Elem, of, ◌⊗◌, words}
@@ -15,8 +12,4 @@ rule q left right i = of (get_or left i 0) ⊗ of (get_or right i 0)
 
 abbrev pub invariant-loop-i : goal.invariant-loop-i
 invariant-loop-i l =
-    (l.i ≤ length l.out) × (length l.out ≡ length l.initial.out)
-    × ((q : Prime) → q.p ≡ l.p → Filled (words (tabulate (length l.initial.out) (rule q l.left l.right))) l.out l.i)
-
-abbrev pub decreases-loop-i : goal.decreases-loop-i
-decreases-loop-i l = length l.out - l.i
+    (q : Prime) → q.p ≡ l.p → Filled (words (tabulate (length l.initial.out) (rule q l.left l.right))) l.out l.i

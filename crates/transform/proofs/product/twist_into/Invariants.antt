@@ -1,8 +1,5 @@
 -- What the loop of `transform::product::twist_into` keeps. Assumes nothing.
-use mathlib.Core.Path.{◌≡◌}
-use mathlib.Core.List.{map}
-use Prim.Native.Nat.{◌-◌, ◌≤◌}
-use lib.ListN.{length}
+use Rattle.std.proofs.Common.{◌≡◌, map}
 use Rattle.algebra.specs.Ring.{pow}
 use Rattle.algebra.specs.Polynomial.{twist}
 use Rattle.field.specs.Prime.{Prime}
@@ -13,9 +10,5 @@ use Rattle.transform.proofs.product.twist_into.Given as goal
 
 abbrev pub invariant-loop-i : goal.invariant-loop-i
 invariant-loop-i l =
-    (l.i ≤ length l.out) × (length l.out ≡ length l.initial.out)
-    × ((q : Prime) → q.p ≡ l.p
-    → (l.power ≡ (pow (prime_ring q) (of l.s) l.i).word) × Filled (words (twist (prime_ring q) (of l.s) (map of l.f))) l.out l.i)
-
-abbrev pub decreases-loop-i : goal.decreases-loop-i
-decreases-loop-i l = length l.out - l.i
+    (q : Prime) → q.p ≡ l.p
+    → (l.power ≡ (pow (prime_ring q) (of l.s) l.i).word) × Filled (words (twist (prime_ring q) (of l.s) (map of l.f))) l.out l.i

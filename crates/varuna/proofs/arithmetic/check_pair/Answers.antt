@@ -1,32 +1,32 @@
--- `varuna::arithmetic::check_pair` meets its contract. Assumes nothing.
-use mathlib.Core.Path.{◌≡◌, sym, ap, ap₂}
-use mathlib.Core.Bool.{Bool, true, false}
-use mathlib.Core.List.{[], ◌∷◌}
-use Prim.Native.Nat.{ℕ, ◌<◌}
-use lib.Dec.{ltb}
-use Rattle.domain.specs.BabyBear.{baby_bear}
+-- `varuna::arithmetic::check_pair` meets its contract: the first word, then the second. Assumes nothing.
+use Rattle.std.proofs.Common.{◌≡◌, refl, sym, ◌∙◌, List, [], ◌∷◌, ℕ, ltb}
+use mathlib.Core.Option.{Option}
 use borrow.Author.Tests.{lt-ltb, le-ltb}
-use native.Mathlib.Omega.{arith}
-use Rattle.protocol.specs.Refusals.{refuse, word_refusal}
+use Rattle.domain.specs.BabyBear.{baby_bear}
+use Rattle.protocol.specs.Refusals.{Refusal, first, refuse, word_refusal}
+use Rattle.protocol.proofs.Rows.{refuse-map_append}
+use Rattle.shared.proofs.EarlyReturns.{stops, goes_on, fails_first, passes}
 use Rattle.varuna.proofs.arithmetic.check_pair.Goals as goal
 
-pub returns-then-a-ge-MODULE_PRIME : goal.returns-then-a-ge-MODULE_PRIME
-unfolding word_refusal
-returns-then-a-ge-MODULE_PRIME c =
-    let a = c.args in
-    sym (ap (λ (t : Bool). refuse 6 0 (t ∷ ltb a.b baby_bear.p ∷ [])) (le-ltb a.a baby_bear.p c.if-a-ge-MODULE_PRIME.true))
+after : ℕ → List (Option Refusal)
+after b = refuse 6 1 (ltb b baby_bear.p ∷ []) ∷ []
 
--- the second word decides
-second : (a b : ℕ) (t : Bool) → a < baby_bear.p → ltb b baby_bear.p ≡ t → refuse 6 1 (t ∷ []) ≡ word_refusal baby_bear (a ∷ b ∷ [])
-unfolding word_refusal
-second a b t below e = sym (ap₂ (λ (s t : Bool). refuse 6 0 (s ∷ t ∷ [])) (lt-ltb a baby_bear.p below) e)
+in_parts : (a b : ℕ) → first (word_refusal baby_bear (a ∷ []) ∷ after b) ≡ word_refusal baby_bear (a ∷ b ∷ [])
+unfolding word_refusal after
+in_parts a b = sym (refuse-map_append 6 0 (λ w. ltb w baby_bear.p) (a ∷ []) (b ∷ []))
+
+pub returns-in_err-check_word : goal.returns-in_err-check_word
+returns-in_err-check_word c =
+    stops _ _ c.from_residual.ensures.1 c.in_err-check_word.ensures (after c.args.b) ∙ in_parts c.args.a c.args.b
 
 pub returns-then-b-lt-MODULE_PRIME : goal.returns-then-b-lt-MODULE_PRIME
+unfolding after
 returns-then-b-lt-MODULE_PRIME c =
-    let a = c.args in
-    second a.a a.b true (omega (arith, c.if-a-ge-MODULE_PRIME.false)) (lt-ltb a.b baby_bear.p c.if-b-lt-MODULE_PRIME.true)
+    goes_on c.in_ok-check_word.ensures (after c.args.b) (passes 6 1 [] (lt-ltb _ _ c.if-b-lt-MODULE_PRIME.true) refl)
+    ∙ in_parts c.args.a c.args.b
 
 pub returns-else-b-lt-MODULE_PRIME : goal.returns-else-b-lt-MODULE_PRIME
+unfolding after
 returns-else-b-lt-MODULE_PRIME c =
-    let a = c.args in
-    second a.a a.b false (omega (arith, c.if-a-ge-MODULE_PRIME.false)) (le-ltb a.b baby_bear.p (omega (arith, c.if-b-lt-MODULE_PRIME.false)))
+    goes_on c.in_ok-check_word.ensures (after c.args.b) (fails_first 6 1 [] (le-ltb _ _ c.if-b-lt-MODULE_PRIME.false))
+    ∙ in_parts c.args.a c.args.b

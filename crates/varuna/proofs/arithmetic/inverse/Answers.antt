@@ -1,17 +1,36 @@
 -- `varuna::arithmetic::inverse` meets its contract. Assumes nothing.
-use mathlib.Core.Path.{refl, ap, ◌∙◌}
+use Rattle.std.proofs.Common.{◌≡◌, refl, ap, ◌∙◌, ℕ}
+use Rattle.std.specs.Prelude.{Option, Some, None}
+use Rattle.std.specs.Option.{ok_or}
+use mathlib.Core.Option as definition
+use Rattle.field.specs.Element.{of, word_of}
+use Rattle.field.specs.Power.{inverse}
+use Rattle.field.specs.Meanings.{inverse_meaning}
 use Rattle.domain.specs.BabyBear.{baby_bear}
-use Rattle.protocol.specs.Refusals.{inverse_outcome}
+use Rattle.shared.specs.declared.Refusal as declared
+use Rattle.shared.specs.declared.Row.TheVariants as row
+use Rattle.shared.proofs.EarlyReturns.{exits_as}
+use Rattle.protocol.specs.Refusals.{Refusal, Outcome, after, inverse_outcome}
 use Rattle.protocol.specs.Calls.{inverse_call}
-use Rattle.varuna.proofs.AnswerLaws.{matched}
+use Rattle.varuna.specs.Answers.{word_meaning}
 use Rattle.varuna.proofs.arithmetic.inverse.Goals as goal
 
-pub returns-in-Fine : goal.returns-in-Fine
-unfolding inverse_call
-returns-in-Fine c =
-    rw (matched c.in-Fine.is c.check_word-fault.ensures)
-    (c.give_inverse.ensures ∙ ap inverse_outcome (c.invert.ensures baby_bear refl))
+-- what is answered where the word is a field word
+abbrev answer : ℕ → Outcome ℕ
+answer a = inverse_outcome (definition.map word_of (inverse (of {q = baby_bear} a)))
 
-pub returns-in-Refused : goal.returns-in-Refused
+by_cases : (i : Option ℕ) → word_meaning (ok_or {E = declared.Refusal} i (row.Inverse, 0)) ≡ inverse_outcome (inverse_meaning i)
+by_cases None = refl
+by_cases (Some w) = refl
+
+pub returns-in_err-check_word : goal.returns-in_err-check_word
 unfolding inverse_call
-returns-in-Refused c = rw (matched c.in-Refused.is c.check_word-fault.ensures)
+returns-in_err-check_word c =
+    exits_as _ _ _ c.from_residual.ensures.1
+    ∙ ap (λ (o : definition.Option Refusal). after o (answer c.args.a)) c.in_err-check_word.ensures
+
+pub returns : goal.returns
+unfolding inverse_call
+returns c =
+    ap word_meaning c.ok_or.ensures.value ∙ by_cases c.invert.result ∙ ap inverse_outcome (c.invert.ensures baby_bear refl)
+    ∙ ap (λ (o : definition.Option Refusal). after o (answer c.args.a)) c.in_ok-check_word.ensures

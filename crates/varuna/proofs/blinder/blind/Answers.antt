@@ -1,45 +1,29 @@
 -- `varuna::blinder::blind` meets its contract. Assumes nothing.
-use mathlib.Core.Path.{◌≡◌, refl}
-use mathlib.Core.List.{List}
-use Prim.Native.Nat.{ℕ}
-use lib.ListN.{length}
+use Rattle.std.proofs.Common.{refl, sym, List, ℕ}
 use Rattle.domain.specs.BabyBear.{baby_bear}
-use Rattle.shared.specs.Meanings.{fault_refusal, three}
-use Rattle.protocol.specs.Three.{Three, map_three}
-use Rattle.protocol.specs.Calls.{CircuitWords}
-use Rattle.protocol.specs.Blinded.{blind_refusal, blind_call}
-use Rattle.circuit.specs.Given.{given}
+use Rattle.shared.specs.Meanings.{three}
+use Rattle.protocol.specs.Three.{Three}
+use Rattle.protocol.specs.Blinded.{blind_call}
 use Rattle.blinding.proofs.Parts.{call_fits}
 use Rattle.varuna.specs.Inputs.{three_of}
-use Rattle.varuna.proofs.AnswerLaws.{matched, fill_done}
+use Rattle.varuna.proofs.AnswerLaws.{fill_refuses, fill_done}
 use Rattle.varuna.proofs.blinder.blind.Goals as goal
-use Rattle.varuna.proofs.blinder.blind.Goals.{After-judge_blind-fault, Start}
+use Rattle.varuna.proofs.blinder.blind.Goals.{Start}
 
-abbrev circuit : Start → CircuitWords
-circuit s = let a = s.args in given a.r a.c a.x a.ea.now a.eb.now a.ec.now
-
-abbrev lists : Start → Three (List ℕ)
-lists s = three_of s.args.blindedA.now s.args.blindedB.now s.args.blindedC.now
-
-judgement : (c : After-judge_blind-fault)
-    → let s = (goal.at.After-judge_blind-fault c).Start in
-    fault_refusal c.judge_blind-fault.result
-    ≡ blind_refusal baby_bear (circuit s) s.args.z.now (three s.args.rho) (map_three length (lists s)) (length s.args.blindedZ.now)
-judgement c = c.judge_blind-fault.ensures baby_bear refl
+lists : Start → Three (List ℕ)
+lists s = three_of s.args.blinded_a.now s.args.blinded_b.now s.args.blinded_c.now
 
 pub blind_into-requires : goal.blind_into-requires
 blind_into-requires c =
-    let j = (goal.at.blind_into-requires c).After-judge_blind-fault in
-    let a = j.args in
-    call_fits baby_bear a.r a.c a.x a.ea.now a.eb.now a.ec.now a.z.now (three a.rho) a.blindedA.now
-    a.blindedB.now a.blindedC.now a.blindedZ.now (matched c.in-Fine.is (judgement j))
+    let a = c.args in
+    let k = a.circuit.now in
+    call_fits baby_bear k.r k.c k.x k.matrices.a.now k.matrices.b.now k.matrices.c.now a.z.now (three a.rho) a.blinded_a.now
+    a.blinded_b.now a.blinded_c.now a.blinded_z.now (sym (c.in_ok-judge_blind.ensures baby_bear refl))
 
-pub returns-in-Fine : goal.returns-in-Fine
+pub returns-in_err-judge_blind : goal.returns-in_err-judge_blind
 unfolding blind_call
-returns-in-Fine c =
-    let j = (goal.at.returns-in-Fine c).After-judge_blind-fault in
-    fill_done (lists (goal.at.After-judge_blind-fault j).Start, j.args.blindedZ.now) (matched c.in-Fine.is (judgement j)) c.blind_into.ensures
+returns-in_err-judge_blind c = fill_refuses _ _ _ c.from_residual.ensures.1 (c.in_err-judge_blind.ensures baby_bear refl) _
 
-pub returns-in-Refused : goal.returns-in-Refused
+pub returns : goal.returns
 unfolding blind_call
-returns-in-Refused c = rw (matched c.in-Refused.is (judgement (goal.at.returns-in-Refused c).After-judge_blind-fault))
+returns c = fill_done _ (c.in_ok-judge_blind.ensures baby_bear refl) c.blind_into.ensures

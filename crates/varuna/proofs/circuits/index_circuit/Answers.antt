@@ -25,8 +25,8 @@ returns c =
     let a = c.args in
     let w = a.circuit.now in
     let before : Three (Index (List ℕ)) =
-    twelve a.rowA.now a.colA.now a.rowcolA.now a.rowcolvalA.now a.rowB.now a.colB.now a.rowcolB.now
-    a.rowcolvalB.now a.rowC.now a.colC.now a.rowcolC.now a.rowcolvalC.now in
+    twelve a.row_a.now a.col_a.now a.rowcol_a.now a.rowcolval_a.now a.row_b.now a.col_b.now a.rowcol_b.now
+    a.rowcolval_b.now a.row_c.now a.col_c.now a.rowcol_c.now a.rowcolval_c.now in
     c.index.ensures
     ∙ ap (λ (k : CircuitWords). fills (index_call baby_bear k (map_three (map_index length) before)) before)
     (handed_on w _ _ _ c.matrix_entries.ensures c.matrix_entries-2.ensures c.matrix_entries-3.ensures)

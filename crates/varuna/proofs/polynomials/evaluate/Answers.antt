@@ -1,14 +1,14 @@
 -- `varuna::polynomials::evaluate` meets its contract. Assumes nothing.
-use mathlib.Core.Path.{refl}
+use Rattle.std.proofs.Common.{refl}
 use Rattle.domain.specs.BabyBear.{baby_bear}
 use Rattle.protocol.specs.Calls.{evaluate_call}
-use Rattle.varuna.proofs.AnswerLaws.{matched, done}
+use Rattle.varuna.proofs.AnswerLaws.{refuses, done}
 use Rattle.varuna.proofs.polynomials.evaluate.Goals as goal
 
-pub returns-in-Fine : goal.returns-in-Fine
+pub returns-in_err-judge_evaluation : goal.returns-in_err-judge_evaluation
 unfolding evaluate_call
-returns-in-Fine c = done _ (matched c.in-Fine.is c.judge_evaluation-fault.ensures) (c.evaluate.ensures baby_bear refl)
+returns-in_err-judge_evaluation c = refuses _ _ _ c.from_residual.ensures.1 c.in_err-judge_evaluation.ensures _
 
-pub returns-in-Refused : goal.returns-in-Refused
+pub returns : goal.returns
 unfolding evaluate_call
-returns-in-Refused c = rw (matched c.in-Refused.is c.judge_evaluation-fault.ensures)
+returns c = done _ c.in_ok-judge_evaluation.ensures (c.evaluate.ensures baby_bear refl)

@@ -1,5 +1,5 @@
 -- `varuna::polynomials::evaluate_on_domain` meets its contract. Assumes nothing.
-use mathlib.Core.Path.{refl, ap, ◌∙◌}
+use mathlib.Core.Path.{refl, sym, ap, ◌∙◌}
 use mathlib.Core.List.{map}
 use Prim.Native.Nat.{ℕ}
 use lib.Dec.{lit<}
@@ -10,18 +10,14 @@ use Rattle.domain.specs.Polynomial.{values_on}
 use Rattle.domain.proofs.Qualification.{baby_bear-qualifies}
 use Rattle.protocol.specs.Calls.{evaluate_on_domain_call}
 use Rattle.protocol.proofs.FastInterpolation.{LetThrough, transform_free}
-use Rattle.varuna.proofs.AnswerLaws.{matched, fill_done}
+use Rattle.varuna.proofs.AnswerLaws.{fill_refuses, fill_done}
 use Rattle.varuna.proofs.CallPolynomials.{transform_asked, transform-root}
 use Rattle.varuna.proofs.polynomials.evaluate_on_domain.Goals as goal
-use Rattle.varuna.proofs.polynomials.evaluate_on_domain.Goals.{In-Fine}
+use Rattle.varuna.proofs.polynomials.evaluate_on_domain.Goals.{In_ok-judge_transform}
 
 -- nothing was refused
-let_through : (c : In-Fine) → let a = c.args in
-    LetThrough baby_bear a.n a.f.now (length a.out.now)
-let_through c =
-    let a = c.args in
-    transform_free baby_bear a.n (length a.out.now) a.f.now
-    (matched c.in-Fine.is c.judge_transform-fault.ensures)
+let_through : (c : In_ok-judge_transform) → let a = c.args in LetThrough baby_bear a.n a.f.now (length a.out.now)
+let_through c = transform_free baby_bear c.args.n (length c.args.out.now) c.args.f.now (sym c.in_ok-judge_transform.ensures)
 
 pub root_of-root-requires : goal.root_of-root-requires
 root_of-root-requires c = (let_through c).size
@@ -29,20 +25,18 @@ root_of-root-requires c = (let_through c).size
 pub evaluate_into-requires : goal.evaluate_into-requires
 evaluate_into-requires c = record {
   lt_p = lit< tt;
-  out_len = transform_asked (let_through (goal.at.evaluate_into-requires c).In-Fine);
+  out_len = transform_asked (let_through (goal.at.evaluate_into-requires c).In_ok-judge_transform);
 }
 
-pub returns-in-Fine : goal.returns-in-Fine
+pub returns-in_err-judge_transform : goal.returns-in_err-judge_transform
 unfolding evaluate_on_domain_call
-returns-in-Fine c =
-    let d = (goal.at.returns-in-Fine c).In-Fine in
-    let t = let_through d in
-    let a = d.args in
-    fill_done a.out.now (matched d.in-Fine.is d.judge_transform-fault.ensures)
+returns-in_err-judge_transform c = fill_refuses c.args.out.now _ _ c.from_residual.ensures.1 c.in_err-judge_transform.ensures _
+
+pub returns : goal.returns
+unfolding evaluate_on_domain_call
+returns c =
+    let t = let_through (goal.at.returns c).In_ok-judge_transform in
+    fill_done c.args.out.now c.in_ok-judge_transform.ensures
     (c.evaluate_into.ensures baby_bear baby_bear-qualifies refl
     (transform-root t (c.root_of-root.ensures baby_bear (record { is_module = refl; value = refl })))
-    ∙ ap (λ (n : ℕ). words (values_on n (map (of {q = baby_bear}) a.f.now))) t.listed)
-
-pub returns-in-Refused : goal.returns-in-Refused
-unfolding evaluate_on_domain_call
-returns-in-Refused c = rw (matched c.in-Refused.is c.judge_transform-fault.ensures)
+    ∙ ap (λ (n : ℕ). words (values_on n (map (of {q = baby_bear}) c.args.f.now))) t.listed)

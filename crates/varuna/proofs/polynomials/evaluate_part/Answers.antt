@@ -1,24 +1,19 @@
 -- `varuna::polynomials::evaluate_part` meets its contract. Assumes nothing.
-use mathlib.Core.Path.{◌≡◌, refl}
-use mathlib.Core.List.{◌∷◌}
-use mathlib.Core.Option.{none}
-use lib.ListN.{length}
+use Rattle.std.proofs.Common.{refl, sym, ◌∷◌, length}
 use Rattle.domain.specs.BabyBear.{baby_bear}
-use Rattle.protocol.specs.Calls.{evaluation_refusal, evaluate_part_call}
-use Rattle.varuna.proofs.AnswerLaws.{matched, done}
+use Rattle.protocol.specs.Calls.{evaluate_part_call}
+use Rattle.varuna.proofs.AnswerLaws.{refuses, done}
 use Rattle.varuna.proofs.CallPolynomials.{evaluation_free}
 use Rattle.varuna.proofs.polynomials.evaluate_part.Goals as goal
 
-pub returns-in-Fine : goal.returns-in-Fine
+pub returns-in_err-judge_part : goal.returns-in_err-judge_part
 unfolding evaluate_part_call
-returns-in-Fine c =
+returns-in_err-judge_part c = refuses _ _ _ c.from_residual.ensures.1 c.in_err-judge_part.ensures _
+
+pub returns : goal.returns
+unfolding evaluate_part_call
+returns c =
     let a = c.args in
     let words = a.running.sum ∷ a.running.power ∷ a.y ∷ a.part.now in
-    let fine : evaluation_refusal baby_bear (length a.part.now) words ≡ none =
-    matched c.in-Fine.is c.judge_part-fault.ensures in
-    let below = evaluation_free baby_bear (length a.part.now) words fine in
-    done _ fine (c.evaluate_part.ensures baby_bear refl (below.0, below.1.0))
-
-pub returns-in-Refused : goal.returns-in-Refused
-unfolding evaluate_part_call
-returns-in-Refused c = rw (matched c.in-Refused.is c.judge_part-fault.ensures)
+    let below = evaluation_free baby_bear (length a.part.now) words (sym c.in_ok-judge_part.ensures) in
+    done _ c.in_ok-judge_part.ensures (c.evaluate_part.ensures baby_bear refl (below.0, below.1.0))

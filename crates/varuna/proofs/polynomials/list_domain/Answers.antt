@@ -30,7 +30,7 @@ unfolding domain_call size_refusal list_refusal
 returns c =
     let fine : first (size_refusal (is_size c.args.n ∷ []) ∷ list_refusal (eqb (length c.args.out.now) c.args.n ∷ []) ∷ []) ≡ none =
     simp (sym c.is_size.ensures ∙ c.if-not-is_size.false, eq-eqb _ _ c.if-out-n.false) in
-    fill_done c.args.out.now fine
+    fill_done c.args.out.now (sym fine)
     (c.fill_powers.ensures baby_bear refl
     ∙ powers-domain baby_bear c.args.n _ _ c.if-out-n.false
     (c.root_of.ensures baby_bear (record { is_module = refl; value = refl })))

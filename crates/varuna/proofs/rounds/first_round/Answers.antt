@@ -1,78 +1,55 @@
 -- `varuna::rounds::first_round` meets its contract. Assumes nothing.
-use mathlib.Core.Path.{◌≡◌, refl, ap, ap₂, ◌∙◌}
-use mathlib.Core.List.{List, [], ◌∷◌}
-use Prim.Native.Nat.{ℕ}
+use Rattle.std.proofs.Common.{◌≡◌, refl, ap₂, List, [], ◌∷◌, ℕ, length}
+use mathlib.Core.Option.{Option, none}
 use lib.Dec.{lit<}
-use lib.ListN.{length}
 use borrow.Author.Tests.{eqb-true}
 use Rattle.domain.specs.BabyBear.{baby_bear}
 use Rattle.domain.proofs.Qualification.{baby_bear-qualifies, baby_bear_modulus}
 use Rattle.protocol.specs.Circuit.{Circuit, sizes_of}
 use Rattle.protocol.specs.Messages.{MessageLengths, lengths}
-use Rattle.shared.specs.Meanings.{fault_refusal}
+use Rattle.protocol.specs.Refusals.{Refusal}
 use Rattle.protocol.specs.Calls.{ProverInput, circuit_of, round_refusal, first_round_call}
-use Rattle.circuit.specs.Given.{given, prover_input}
+use Rattle.circuit.specs.Given.{input_words}
+use Rattle.varuna.proofs.CallRounds.{InputFits, input_fits, judged_by, known-prime}
 use Rattle.prover.specs.CallGiven.{assignment_in}
-use Rattle.varuna.proofs.AnswerLaws.{matched, fill_done}
-use Rattle.circuit.proofs.Fitting.{R-fits, C-fits, X-fits, X-below, shares}
 use Rattle.prover.proofs.CallLaws.{assignment_on-C}
-use Rattle.varuna.proofs.CallRounds.{InputFits, input_fits, known-prime}
+use Rattle.circuit.proofs.Fitting.{R-fits, C-fits, X-fits, X-below, shares}
+use Rattle.varuna.proofs.AnswerLaws.{fill_refuses, fill_done}
 use Rattle.varuna.proofs.rounds.first_round.Goals as goal
-use Rattle.varuna.proofs.rounds.first_round.Goals.{After-judge_round-fault, In-Fine, Start}
+use Rattle.varuna.proofs.rounds.first_round.Goals.{Start}
 
--- what the call is given, the lengths of its lent slices, the lengths that they must have, its challenge words and its points
-abbrev input : Start → ProverInput
-input s =
-    let a = s.args in
-    prover_input a.r a.c a.x a.ea.now a.eb.now a.ec.now a.z.now a.mask a.m.now
+-- what the call is given, the lengths of its lent slices, those that they must have, its challenge words and its points
+module _ (s : Start) where
+  abbrev input : ProverInput
+  input = input_words s.args.input.now
 
-abbrev lent : Start → List ℕ
-lent s = length s.args.witness.now ∷ length s.args.row_quotient.now ∷ []
+  abbrev lent : List ℕ
+  lent = length s.args.witness.now ∷ length s.args.row_quotient.now ∷ []
 
-abbrev table : Start → MessageLengths
-table s = lengths (sizes_of (circuit_of (input s).circuit))
+  abbrev due : MessageLengths → List ℕ
+  due l = l.witness ∷ l.row_quotient ∷ []
 
-abbrev due_by : MessageLengths → List ℕ
-due_by l = l.witness ∷ l.row_quotient ∷ []
+  abbrev table : MessageLengths
+  table = lengths (sizes_of (circuit_of input.circuit))
 
-abbrev due : Start → List ℕ
-due s = due_by (table s)
+  abbrev challenges : List ℕ
+  challenges = []
 
-abbrev challenges : Start → List ℕ
-challenges s = []
+  abbrev points : List ℕ
+  points = []
 
-abbrev points : Start → List ℕ
-points s = []
+  judged : {o : Option Refusal} {l : MessageLengths} → l ≡ table → o ≡ round_refusal baby_bear input lent (due l) challenges points
+      → o ≡ round_refusal baby_bear input lent (due table) challenges points
+  judged same says = judged_by input lent challenges points due same says
 
-judgement : (c : After-judge_round-fault)
-    → fault_refusal c.judge_round-fault.result
-    ≡ round_refusal baby_bear (input (goal.at.After-judge_round-fault c).Start) (lent (goal.at.After-judge_round-fault c).Start) (due (goal.at.After-judge_round-fault c).Start) (challenges (goal.at.After-judge_round-fault c).Start) (points (goal.at.After-judge_round-fault c).Start)
-judgement c =
-    let s = (goal.at.After-judge_round-fault c).Start in
-    c.judge_round-fault.ensures baby_bear baby_bear-qualifies refl
-    ∙ ap (λ (l : MessageLengths). round_refusal baby_bear (input s) (lent s) (due_by l) (challenges s) (points s)) c.lengths_of-due.ensures
-
--- nothing was refused
-fits : (c : In-Fine)
-    → let s = (goal.at.In-Fine c).Start in InputFits (input s) (lent s) (due s) (challenges s) (points s)
-fits c =
-    let j = (goal.at.In-Fine c).After-judge_round-fault in
-    let s = (goal.at.After-judge_round-fault j).Start in
-    input_fits (input s) (lent s) (due s) (challenges s) (points s) j.judge_round-fault.result (judgement j) c.in-Fine.is
-
-pub lengths_of-due-requires : goal.lengths_of-due-requires
-lengths_of-due-requires c = tt
-
-pub slice_bounds-judge_round-end : goal.slice_bounds-judge_round-end
-slice_bounds-judge_round-end c = refl
-
-pub slice_bounds-judge_round-end-2 : goal.slice_bounds-judge_round-end-2
-slice_bounds-judge_round-end-2 c = refl
+  fits : none ≡ round_refusal baby_bear input lent (due table) challenges points → InputFits input lent (due table) challenges points
+  fits free = input_fits input lent (due table) challenges points free
 
 pub witness_into-requires : goal.witness_into-requires
 unfolding lengths sizes_of circuit_of
 witness_into-requires c =
-    let F = fits (goal.at.witness_into-requires c).In-Fine in
+    let s = (goal.at.witness_into-requires c).Start in
+    let F = fits s (judged s c.lengths_of-due.ensures (c.in_ok-judge_round.ensures baby_bear baby_bear-qualifies refl)) in
     record {
       lt_p = lit< tt;
       c_value = (C-fits F.fits, X-fits F.fits, X-below F.fits);
@@ -82,7 +59,8 @@ witness_into-requires c =
 pub row_quotient_into-requires : goal.row_quotient_into-requires
 unfolding lengths sizes_of circuit_of
 row_quotient_into-requires c =
-    let F = fits (goal.at.row_quotient_into-requires c).In-Fine in
+    let s = (goal.at.row_quotient_into-requires c).Start in
+    let F = fits s (judged s c.lengths_of-due.ensures (c.in_ok-judge_round.ensures baby_bear baby_bear-qualifies refl)) in
     record {
       modulus = baby_bear_modulus;
       r_value = R-fits F.fits;
@@ -90,27 +68,22 @@ row_quotient_into-requires c =
       all = ((shares F.fits).in_a, (shares F.fits).in_b);
     }
 
-pub shape_of-witness : goal.shape_of-witness
-shape_of-witness c = c.witness_into.auto.out
-
-pub shape_of-row_quotient : goal.shape_of-row_quotient
-shape_of-row_quotient c = c.row_quotient_into.auto.out
-
-pub returns-in-Fine : goal.returns-in-Fine
+pub returns-in_err-judge_round : goal.returns-in_err-judge_round
 unfolding first_round_call circuit_of
-returns-in-Fine c =
-    let d = (goal.at.returns-in-Fine c).In-Fine in
-    let s = (goal.at.In-Fine d).Start in
-    let a = s.args in
-    let F = fits d in
-    let k : Circuit = circuit_of (given a.r a.c a.x a.ea.now a.eb.now a.ec.now) in
-    fill_done (a.witness.now, a.row_quotient.now) (matched d.in-Fine.is (judgement (goal.at.In-Fine d).After-judge_round-fault))
+returns-in_err-judge_round c =
+    let s = (goal.at.returns-in_err-judge_round c).Start in
+    fill_refuses _ _ _ c.from_residual.ensures.1 (judged s c.lengths_of-due.ensures (c.in_err-judge_round.ensures baby_bear baby_bear-qualifies refl)) _
+
+pub returns : goal.returns
+unfolding first_round_call circuit_of
+returns c =
+    let s = (goal.at.returns c).Start in
+    let free = judged s c.lengths_of-due.ensures (c.in_ok-judge_round.ensures baby_bear baby_bear-qualifies refl) in
+    let F = fits s free in
+    let k : Circuit = circuit_of (input s).circuit in
+    fill_done _ free
     (ap₂ (λ (l m : List ℕ). (l, m))
     (c.witness_into.ensures baby_bear known-prime k refl refl)
     (c.row_quotient_into.ensures baby_bear known-prime baby_bear-qualifies k F.fits.well_formed refl refl refl
     (assignment_in baby_bear (input s))
-    (assignment_on-C F.fits refl baby_bear-qualifies a.mask)))
-
-pub returns-in-Refused : goal.returns-in-Refused
-unfolding first_round_call circuit_of
-returns-in-Refused c = rw (matched c.in-Refused.is (judgement (goal.at.returns-in-Refused c).After-judge_round-fault))
+    (assignment_on-C F.fits refl baby_bear-qualifies c.args.input.now.mask)))

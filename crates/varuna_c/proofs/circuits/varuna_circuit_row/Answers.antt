@@ -1,5 +1,5 @@
 -- `varuna_c::circuits::varuna_circuit_row` meets its contract. Assumes nothing.
-use mathlib.Core.Path.{ap, ◌∙◌}
+use Rattle.std.proofs.Common.{ap, ◌∙◌}
 use Rattle.c_numbers.specs.Answers.{answered}
 use Rattle.varuna_c.proofs.circuits.varuna_circuit_row.Goals as goal
 

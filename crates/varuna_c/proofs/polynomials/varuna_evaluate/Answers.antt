@@ -1,5 +1,5 @@
 -- `varuna_c::polynomials::varuna_evaluate` meets its contract. Assumes nothing.
-use mathlib.Core.Path.{ap, ◌∙◌}
+use Rattle.std.proofs.Common.{ap, ◌∙◌}
 use Rattle.c_numbers.specs.Answers.{answered}
 use Rattle.varuna_c.proofs.polynomials.varuna_evaluate.Goals as goal
 

@@ -1,5 +1,5 @@
 -- `varuna_c::polynomials::varuna_interpolate` meets its contract. Assumes nothing.
-use lib.ListN.{length}
+use Rattle.std.specs.Prelude.{length}
 use Rattle.domain.specs.BabyBear.{baby_bear}
 use Rattle.protocol.specs.Calls.{interpolate_call}
 use Rattle.c_numbers.proofs.AnswerLaws.{filled_told}

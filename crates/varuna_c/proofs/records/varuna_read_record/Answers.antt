@@ -1,5 +1,5 @@
 -- `varuna_c::records::varuna_read_record` meets its contract. Assumes nothing.
-use mathlib.Core.Path.{ap, ◌∙◌}
+use Rattle.std.proofs.Common.{ap, ◌∙◌}
 use Rattle.c_numbers.specs.Answers.{answered, sizes_listed}
 use Rattle.varuna_c.proofs.records.varuna_read_record.Goals as goal
 

@@ -1,5 +1,5 @@
 -- `varuna_c::records::varuna_section` meets its contract. Assumes nothing.
-use mathlib.Core.Path.{ap, ◌∙◌}
+use Rattle.std.proofs.Common.{ap, ◌∙◌}
 use Rattle.c_numbers.specs.Answers.{answered}
 use Rattle.varuna_c.proofs.records.varuna_section.Goals as goal
 

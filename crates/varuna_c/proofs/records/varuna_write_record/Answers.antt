@@ -1,8 +1,6 @@
 -- `varuna_c::records::varuna_write_record` meets its contract. Assumes nothing.
-use mathlib.Core.Path.{ap, ◌∙◌}
-use lib.ListN.{length}
-use mathlib.Core.List.{List}
-use Prim.Native.Nat.{ℕ}
+use Rattle.std.proofs.Common.{ap, ◌∙◌}
+use Rattle.std.specs.Prelude.{List, ℕ, length}
 use Rattle.domain.specs.BabyBear.{baby_bear}
 use Rattle.protocol.specs.Circuit.{Sizes}
 use Rattle.protocol.specs.Refusals.{Outcome}

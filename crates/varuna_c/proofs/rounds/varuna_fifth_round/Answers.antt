@@ -1,14 +1,12 @@
 -- `varuna_c::rounds::varuna_fifth_round` meets its contract. Assumes nothing.
-use mathlib.Core.Path.{ap₂, ◌∙◌}
-use lib.ListN.{length}
+use Rattle.std.proofs.Common.{ap₂, ◌∙◌}
+use Rattle.std.specs.Prelude.{List, ℕ, length}
 use Rattle.domain.specs.BabyBear.{baby_bear}
 use Rattle.protocol.specs.Three.{Three}
-use Prim.Native.Nat.{ℕ}
 use Rattle.circuit.specs.Given.{prover_input}
 use Rattle.verifier.specs.Session.{three_at}
 use Rattle.varuna.specs.Answers.{fills}
 use Rattle.protocol.specs.Refusals.{Outcome}
-use mathlib.Core.List.{List}
 use Rattle.protocol.specs.Calls.{fifth_round_call}
 use Rattle.c_numbers.proofs.AnswerLaws.{filled_told}
 use Rattle.varuna_c.proofs.rounds.varuna_fifth_round.Goals as goal

@@ -1,8 +1,6 @@
 -- `varuna_c::rounds::varuna_first_round` meets its contract. Assumes nothing.
-use mathlib.Core.List.{List}
-use lib.ListN.{length}
+use Rattle.std.specs.Prelude.{List, ℕ, length}
 use Rattle.domain.specs.BabyBear.{baby_bear}
-use Prim.Native.Nat.{ℕ}
 use Rattle.circuit.specs.Given.{prover_input}
 use Rattle.protocol.specs.Calls.{first_round_call}
 use Rattle.c_numbers.proofs.AnswerLaws.{filled_told}

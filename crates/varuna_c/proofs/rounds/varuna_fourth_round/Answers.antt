@@ -1,15 +1,13 @@
 -- `varuna_c::rounds::varuna_fourth_round` meets its contract. Assumes nothing.
-use mathlib.Core.Path.{ap, ◌∙◌}
-use lib.ListN.{length}
+use Rattle.std.proofs.Common.{ap, ◌∙◌}
+use Rattle.std.specs.Prelude.{List, ℕ, length}
 use Rattle.domain.specs.BabyBear.{baby_bear}
 use Rattle.protocol.specs.Three.{Three}
-use Prim.Native.Nat.{ℕ}
 use Rattle.circuit.specs.Given.{prover_input}
 use Rattle.varuna.specs.Inputs.{three_of}
 use Rattle.verifier.specs.Session.{three_at}
 use Rattle.varuna.specs.Answers.{fills_three}
 use Rattle.protocol.specs.Refusals.{Outcome}
-use mathlib.Core.List.{List}
 use Rattle.protocol.specs.Calls.{fourth_round_call}
 use Rattle.c_numbers.proofs.AnswerLaws.{three_filled_told}
 use Rattle.varuna_c.proofs.rounds.varuna_fourth_round.Goals as goal

@@ -1,11 +1,10 @@
 -- `varuna_c::rounds::varuna_openings` meets its contract. Assumes nothing.
-use mathlib.Core.Path.{ap, ap₂, ◌∙◌}
+use Rattle.std.proofs.Common.{ap, ap₂, ◌∙◌}
 use Rattle.domain.specs.BabyBear.{baby_bear}
 use Rattle.protocol.specs.Three.{Three}
-use Prim.Native.Nat.{ℕ}
+use Rattle.std.specs.Prelude.{List, ℕ}
 use Rattle.circuit.specs.Given.{prover_input}
 use Rattle.protocol.specs.Refusals.{Outcome}
-use mathlib.Core.List.{List}
 use Rattle.protocol.specs.Calls.{openings_call}
 use Rattle.c_numbers.specs.Answers.{answered}
 use Rattle.varuna_c.proofs.rounds.varuna_openings.Goals as goal

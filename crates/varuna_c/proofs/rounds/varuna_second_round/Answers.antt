@@ -1,5 +1,5 @@
 -- `varuna_c::rounds::varuna_second_round` meets its contract. Assumes nothing.
-use mathlib.Core.Path.{ap, ◌∙◌}
+use Rattle.std.proofs.Common.{ap, ◌∙◌}
 use Rattle.c_numbers.specs.Answers.{answered, three_listed}
 use Rattle.varuna_c.proofs.rounds.varuna_second_round.Goals as goal
 

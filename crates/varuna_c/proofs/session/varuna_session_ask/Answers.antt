@@ -1,5 +1,5 @@
 -- `varuna_c::session::varuna_session_ask` meets its contract. Assumes nothing.
-use mathlib.Core.Path.{ap, ap₂, ◌∙◌}
+use Rattle.std.proofs.Common.{ap, ap₂, ◌∙◌}
 use Rattle.domain.specs.BabyBear.{baby_bear}
 use Rattle.verifier.specs.Session.{three_at}
 use Rattle.c_numbers.specs.Answers.{verdict_answered}

@@ -1,5 +1,5 @@
 -- `varuna_c::session::varuna_session_beta` meets its contract. Assumes nothing.
-use mathlib.Core.Path.{ap, ◌∙◌}
+use Rattle.std.proofs.Common.{ap, ◌∙◌}
 use Rattle.domain.specs.BabyBear.{baby_bear}
 use Rattle.c_numbers.specs.Answers.{step_answered}
 use Rattle.protocol.specs.Session.{beta_step}

@@ -1,9 +1,9 @@
 -- `varuna_c::session::varuna_session_eta` meets its contract. Assumes nothing.
 use Rattle.shared.specs.Meanings.{three}
-use mathlib.Core.Path.{ap, ap₂, ◌∙◌}
+use Rattle.std.proofs.Common.{ap, ap₂, ◌∙◌}
 use Rattle.domain.specs.BabyBear.{baby_bear}
 use Rattle.protocol.specs.Three.{Three}
-use Prim.Native.Nat.{ℕ}
+use Rattle.std.specs.Prelude.{ℕ}
 use Rattle.protocol.specs.Session as steps
 use Rattle.verifier.specs.Session.{session_of}
 use Rattle.c_numbers.specs.Answers.{step_answered}

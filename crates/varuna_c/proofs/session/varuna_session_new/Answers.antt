@@ -1,5 +1,5 @@
 -- `varuna_c::session::varuna_session_new` meets its contract. Assumes nothing.
-use mathlib.Core.Path.{ap, ◌∙◌}
+use Rattle.std.proofs.Common.{ap, ◌∙◌}
 use Rattle.verifier.specs.Session.{session_words}
 use Rattle.varuna_c.proofs.session.varuna_session_new.Goals as goal
 

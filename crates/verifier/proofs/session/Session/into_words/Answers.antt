@@ -1,8 +1,5 @@
 -- `verifier::session::Session::into_words` meets its contract. Assumes nothing.
-use mathlib.Core.List.{◌++◌}
-use mathlib.Core.Path.{◌≡◌, ap, ◌∙◌}
-use native.Mathlib.Omega.{arith}
-use lib.ListN.{length}
+use Rattle.std.proofs.Common.{◌≡◌, ap, ◌∙◌, arith, ◌++◌, length}
 use Rattle.domain.specs.Size.{max_size}
 use Rattle.verifier.proofs.SessionWords.{three-put}
 use Rattle.verifier.specs.Session.{session_meaning, session_words, opening_words}
@@ -13,9 +10,6 @@ use Rattle.verifier.proofs.session.Session.into_words.Goals.{Start}
 whole : (c : Start) → length c.args.self.x ≡ max_size
 whole c = omega arith
 
-pub put_words-requires-2 : goal.put_words-requires-2
-put_words-requires-2 c = omega (arith, whole (goal.at.put_words-requires-2 c).Start)
-
 pub returns : goal.returns
 unfolding session_words opening_words
 returns c =
@@ -23,6 +17,6 @@ returns c =
     let s = session_meaning c.args.self in
     let size : length c.args.out.now ≡ 1046 = omega arith in
     let x-size = whole start in
-    three-put (opening_words s) s.x c.transcript_words-last.result c.args.out.now (omega arith) 1031 (omega arith) c.put_words.ensures
+    three-put (opening_words s) s.x c.transcript_words.result c.args.out.now (omega arith) 1031 (omega arith) c.put_words.ensures
     c.put_words-2.ensures c.put_words-3.ensures
-    ∙ ap (λ l. opening_words s ++ (s.x ++ l)) c.transcript_words-last.ensures
+    ∙ ap (λ l. opening_words s ++ (s.x ++ l)) c.transcript_words.ensures

@@ -1,8 +1,0 @@
--- `c_numbers::answers::give_evaluated` meets its contract. Assumes nothing.
-use Rattle.c_numbers.proofs.answers.give_evaluated.Goals as goal
-
-pub returns-in-Value : goal.returns-in-Value
-returns-in-Value c = rw c.in-Value.is
-
-pub returns-in-Refused : goal.returns-in-Refused
-returns-in-Refused c = rw c.in-Refused.is
