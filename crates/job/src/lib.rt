@@ -1,4 +1,5 @@
-// A job's bytes to the text that program `prove` prints.
+// A job's bytes to the text that program `prove` prints. Words and text stand in buffers of the largest size, of which a part is used: there
+// is no heap.
 #![tactic(auto)]
 
 ghost use Rattle.std.specs.Prelude.{◌≡◌, ◌/◌, ◌≤◌, length};

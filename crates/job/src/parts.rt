@@ -85,7 +85,8 @@ fn challenges_in(ws: &[u32]) -> Challenges
 
 // The parts from place to place, with the challenges.
 fn put_parts(ws: &[u32], p: Places, drawn: Challenges, out: &mut [u8]) -> usize
-    requires le_b { (6 ≤ p.b) × (p.b ≤ p.c) × (p.c ≤ p.z) × (p.z ≤ p.mask) × (p.mask < p.m) × (p.m ≤ p.challenges) × (p.challenges ≤ length ws.now) }
+    requires le_b { (6 ≤ p.b) × (p.b ≤ p.c) × (p.c ≤ p.z) × (p.z ≤ p.mask)
+        × (p.mask < p.m) × (p.m ≤ p.challenges) × (p.challenges ≤ length ws.now) }
     requires end_value { entry_list_tests (input_at ws.now p.b p.c p.z p.mask p.m p.challenges).circuit
         ≡ count_tests (circuit_of (input_at ws.now p.b p.c p.z p.mask p.m p.challenges).circuit) }
     requires most_proof_in_bounds { most_proof ≤ length out.old }

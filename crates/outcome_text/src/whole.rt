@@ -9,7 +9,8 @@ ghost use Rattle.circuit.specs.Given.{circuit_words, input_words};
 ghost use Rattle.text.specs.Written.{Written};
 ghost use Rattle.report.specs.ProofText.{outcome_text};
 ghost use Rattle.report.specs.Printed.{Printed};
-ghost use Rattle.report.specs.Stages.{FreeJob, job_drawn, opened_meaning, last_text, rest_text, stages_text, most_last, most_rest, most_proof};
+ghost use Rattle.report.specs.Stages.{FreeJob, job_drawn, opened_meaning, last_text, rest_text, stages_text};
+ghost use Rattle.report.specs.Stages.{most_last, most_rest, most_proof};
 
 use crate::conversation::last_answer;
 use circuit::given::{Challenges, ProverInput};
@@ -36,7 +37,8 @@ fn put_last(
     requires c_value { (is_size s.c ≡ true) × (is_size s.x ≡ true) × (s.x ≤ s.c) × (length z.now ≡ s.c) }
     requires most_last_in_bounds { at + most_last ≤ length out.old }
     ensures { Printed out.old at
-        (last_text (sizes s) z.now drawn (three sums) (three values) (opened_meaning opened.messages opened.index)) most_last result out.new }
+        (last_text (sizes s) z.now drawn (three sums) (three values) (opened_meaning opened.messages opened.index))
+        most_last result out.new }
 {
     let mut words = [0; 1024];
     let x = &mut words[..s.x as usize];

@@ -71,13 +71,22 @@ pub numbers-none : (b : List ℕ) (at : ℕ) → at ≤ length b → Printed b a
 unfolding numbers
 numbers-none b at h = record { written = written_none b at h; short = omega arith }
 
-pub number_added : {b c d : List ℕ} {at place end : ℕ} (ws : List ℕ) (i : ℕ) → i < length ws → Printed b at (numbers (take i ws)) (11 * i) place c
-    → get_or ws i 0 < 2 ^ 32 → Written c place (number (get_or ws i 0)) end d → Printed b at (numbers (take (i + 1) ws)) (11 * (i + 1)) end d
+pub number_added : {b c d : List ℕ} {at place end : ℕ} (ws : List ℕ) (i : ℕ) → i < length ws
+    → Printed b at (numbers (take i ws)) (11 * i) place c
+    → get_or ws i 0 < 2 ^ 32 → Written c place (number (get_or ws i 0)) end d
+    → Printed b at (numbers (take (i + 1) ws)) (11 * (i + 1)) end d
 number_added {b} {c} {d} {at} {place} {end} ws i h before low added =
     let more = numbers_more ws i h in
     record {
       written = written_as more (written_then before.written added);
-      short = omega (arith, ap length more, length-append (numbers (take i ws)) (number (get_or ws i 0)), before.short, word-digits (get_or ws i 0) low);
+      short =
+          omega (
+            arith,
+            ap length more,
+            length-append (numbers (take i ws)) (number (get_or ws i 0)),
+            before.short,
+            word-digits (get_or ws i 0) low,
+          );
     }
 
 -- a line from its name, its words and its end

@@ -76,7 +76,7 @@ pub fn row_entries<'a>(circuit: &'a [u32; CIRCUIT_WORDS], matrix: u32, row: u32)
     rows::row_entries(circuit, matrix, row)
 }
 
-// The twelve index polynomials of the circuit, as `indexer::index` has them for its entry lists.
+// The twelve index polynomials of the circuit, as `indexer::index` has them for its entry lists; the slices come one by one, too.
 pub fn index_circuit(
     circuit: &[u32; CIRCUIT_WORDS],
     row_a: &mut [u32],

@@ -15,7 +15,8 @@ use index::index_into;
 use shared::Refusal;
 
 // The twelve index polynomials of a circuit, each into a slice of |K_M| words: row, col, rowcol and rowcolval of A, then B, then C.
-// Refusals: 4 for a size, 5 for an entry list or a slice, 6 for a value, 7 for an entry.
+// Refusals: 4 for a size, 5 for an entry list or a slice, 6 for a value, 7 for an entry. The slices come one by one, as
+// `index::index_into` takes them.
 pub fn index(
     circuit: &CircuitWords,
     row_a: &mut [u32],

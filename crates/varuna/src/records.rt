@@ -12,7 +12,7 @@ ghost use Rattle.varuna.specs.Answers.{filled_meaning, filling, fills};
 use field::MODULE_PRIME;
 use shared::{Place, Refusal, Sizes};
 
-// A record of eleven sections into lent bytes. Refusals: 4 for a size, 5 for a section or the lent bytes, 6 for a word.
+// A record of eleven sections, each by its name in document 01, into lent bytes. Refusals: 4 for a size, 5 for a section or the lent bytes, 6 for a word.
 pub fn write_record(
     sizes: Sizes,
     w: &[u32],

@@ -26,4 +26,5 @@ put_words_text-requires-clause-words_len c =
 pub returns : goal.returns
 returns c =
     let bytes = c.args.bytes.now in
-    written_as (ap (words_text (length bytes)) c.words_into.ensures ∙ text_words bytes (search rules) (search rules)) c.put_words_text.ensures
+    written_as (ap (words_text (length bytes)) c.words_into.ensures ∙ text_words bytes (search rules) (search rules))
+    c.put_words_text.ensures

@@ -14,7 +14,8 @@ loop-i-preserved c =
     let l = c.loop-i in
     let bytes = c.args.bytes.now in
     let below : l.i < length bytes / 4 = omega (arith, c.requires) in
-    fill_turn (words_in bytes) l.words l.i c.word_at.result (omega arith) (omega (arith, length-tabulate (length bytes / 4) (word_at bytes)))
+    fill_turn (words_in bytes) l.words l.i c.word_at.result (omega arith)
+    (omega (arith, length-tabulate (length bytes / 4) (word_at bytes)))
     l.invariant (c.word_at.ensures ∙ sym (get_d_tabulate (length bytes / 4) l.i (word_at bytes) 0 below))
 
 pub returns : goal.returns
@@ -22,4 +23,5 @@ unfolding words_in
 returns c =
     let l = c.loop-i in
     let bytes = c.args.bytes.now in
-    fill_end (words_in bytes) l.words l.i (omega arith) (omega (arith, c.requires, length-tabulate (length bytes / 4) (word_at bytes))) l.invariant
+    fill_end (words_in bytes) l.words l.i (omega arith)
+    (omega (arith, c.requires, length-tabulate (length bytes / 4) (word_at bytes))) l.invariant

@@ -20,7 +20,8 @@ put_third-third-requires c =
     let f = c.put_first-first.ensures in
     let g = c.put_three-second.ensures in record {
       free = third_free _ c.args.drawn c.requires.free_job;
-      most_line_in_bounds = omega (arith, c.requires.most_proof_in_bounds, printed_place f, printed_length f, printed_place g, printed_length g);
+      most_line_in_bounds =
+          omega (arith, c.requires.most_proof_in_bounds, printed_place f, printed_length f, printed_place g, printed_length g);
     }
 
 pub put_rest-requires : goal.put_rest-requires

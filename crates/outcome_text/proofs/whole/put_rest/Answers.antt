@@ -39,7 +39,8 @@ put_last-requires c =
     let columns : k.result.c ≡ c.args.input.now.circuit.c = ap (λ (t : Sizes). t.|C|) k.ensures in
     let public : k.result.x ≡ c.args.input.now.circuit.x = ap (λ (t : Sizes). t.|X|) k.ensures in record {
       c_value = (ap is_size columns ∙ C-fits F, ap is_size public ∙ X-fits F, omega (arith, columns, public, X-below F), F.z-length ∙ sym columns);
-      most_last_in_bounds = omega (arith, c.requires.most_rest_in_bounds, printed_place f, printed_length f, printed_place h, printed_length h);
+      most_last_in_bounds =
+          omega (arith, c.requires.most_rest_in_bounds, printed_place f, printed_length f, printed_place h, printed_length h);
     }
 
 pub returns : goal.returns

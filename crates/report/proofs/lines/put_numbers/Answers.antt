@@ -9,7 +9,8 @@ loop-word-init c = numbers-none c.args.out.now c.args.at (omega arith)
 pub put_number-next-requires : goal.put_number-next-requires
 put_number-next-requires c =
     let l = c.loop-word in
-    omega (arith, printed_place l.invariant, printed_length l.invariant, word-digits (get_or c.args.words.now l.word-index 0) (search rules))
+    let short = word-digits (get_or c.args.words.now l.word-index 0) (search rules) in
+    omega (arith, printed_place l.invariant, printed_length l.invariant, short)
 
 pub loop-word-preserved : goal.loop-word-preserved
 loop-word-preserved c =

@@ -38,7 +38,8 @@ returns c =
     let table = ap (λ (l : MessageLengths). l.matrix_remainders) c.lengths_of.ensures in
     let lent =
     three_same (due (input_words a.input.now)).matrix_remainders (sym (lent_length 1024 R.a_most) ∙ ap (λ (l : Three ℕ). l.a) table)
-    (sym (lent_length 1024 R.b_most) ∙ ap (λ (l : Three ℕ). l.b) table) (sym (lent_length 1024 R.c_most) ∙ ap (λ (l : Three ℕ). l.c) table) in
+    (sym (lent_length 1024 R.b_most) ∙ ap (λ (l : Three ℕ). l.b) table)
+    (sym (lent_length 1024 R.c_most) ∙ ap (λ (l : Three ℕ). l.c) table) in
     let done = fourth-done _ a.alpha (three a.eta) a.beta _ c.requires.free lent c.fourth_round-answer.ensures in
     let values = c.words_or_zeros-values.ensures ∙ done.0 in
     record {
