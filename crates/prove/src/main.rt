@@ -12,7 +12,7 @@ fn main(rt: HostRuntime) -> io::Result<()> {
     let mut out = [0u8; TEXT_BYTES];
     let mut n = 0;
     // A read may give fewer bytes than there is room for; it gives none at the end. A call that reads to the end would fill a Vec, which is
-    // on the heap.
+    // on the heap. `sheet` has the same loop: a crate for it would be no plainer.
     while n < READ_BYTES {
         let got = rt.stdin().read(&mut bytes[n..])?;
         if got == 0 {

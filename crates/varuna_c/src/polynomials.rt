@@ -42,18 +42,18 @@ pub extern "C" fn varuna_evaluate_part(
     power: u32,
     point: u32,
     part: &[u32],
-    nextSum: &mut u32,
-    nextPower: &mut u32,
+    next_sum: &mut u32,
+    next_power: &mut u32,
     position: &mut usize,
 ) -> u32
-    ensures { told result position.new (running nextSum.new nextPower.new)
-        ≡ answered (evaluate_part_call baby_bear (running sum power) point part.now) (running nextSum.old nextPower.old) }
+    ensures { told result position.new (running next_sum.new next_power.new)
+        ≡ answered (evaluate_part_call baby_bear (running sum power) point part.now) (running next_sum.old next_power.old) }
 {
     let so_far = Running { sum, power };
     give_evaluated(
         varuna::polynomials::evaluate_part(so_far, point, part),
-        nextSum,
-        nextPower,
+        next_sum,
+        next_power,
         position,
     )
 }

@@ -7,4 +7,4 @@ use Rattle.varuna_c.proofs.polynomials.varuna_evaluate_part.Goals as goal
 pub returns : goal.returns
 returns c =
     let a = c.args in
-    c.give_evaluated.ensures ∙ ap (λ o. answered o (running a.nextSum.now a.nextPower.now)) c.evaluate_part.ensures
+    c.give_evaluated.ensures ∙ ap (λ o. answered o (running a.next_sum.now a.next_power.now)) c.evaluate_part.ensures
