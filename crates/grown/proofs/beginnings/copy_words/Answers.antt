@@ -1,5 +1,5 @@
 -- `grown::beginnings::copy_words` meets its contract: the words stand before zeros. Assumes nothing.
-use Rattle.std.proofs.Common.{ap, ap₂, ◌∙◌, ℕ, ◌++◌, length, drop}
+use Rattle.std.proofs.Common.{ap, ◌∙◌, List, ℕ, ◌++◌, length, drop}
 use Rattle.std.proofs.lemmas.List.{drop-replicate}
 use Rattle.grown.proofs.beginnings.copy_words.Goals as goal
 
@@ -7,4 +7,5 @@ pub returns : goal.returns
 returns c =
     let a = c.args in
     let m : ℕ = length a.words.now in
-    ap₂ ◌++◌ c.copy_from_slice.ensures.after (ap (drop m) (c.fill.ensures.after (λ y e. e)) ∙ drop-replicate m (length a.out.now) 0)
+    c.copy_front.ensures ∙ ap (λ (d : List ℕ). a.words.now ++ drop m d) (c.fill.ensures.after (λ y e. e))
+    ∙ ap (λ (d : List ℕ). a.words.now ++ d) (drop-replicate m (length a.out.now) 0)

@@ -1,5 +1,5 @@
 -- `step_refusals::holdings::public_fits` meets its contract: the first word, the public words, then the zeros after them. Assumes nothing.
-use Rattle.std.proofs.Common.{◌≡◌, sym, ap, ap₂, ◌∙◌, Bool, ◌&&◌, map, take, drop, eqb, ltb}
+use Rattle.std.proofs.Common.{arith, ◌≡◌, sym, ap, ap₂, ◌∙◌, Bool, ◌&&◌, map, take, drop, eqb, ltb}
 use Rattle.std.proofs.Math.Bool.{and_assoc}
 use Rattle.field.specs.Prime.{Prime}
 use Rattle.protocol.specs.Refusals.{begins_with_one}
@@ -26,10 +26,12 @@ module _ (q : Prime) (s : Start) where
 front : (q : Prime) (c : Joined-begins_with_one) → let s = (goal.at.Joined-begins_with_one c).Start in q.p ≡ s.args.p
     → c.if-begins_with_one.value ≡ (first q s && public q s)
 front q c e =
+    let a = c.args in
+    let cut : c.min.result ≡ a.n = omega arith in
     elim c.if-begins_with_one.branch [
       | then-begins_with_one w ↦
           joined _ w.if-begins_with_one.true c.begins_with_one.ensures
-          (w.value-is ∙ w.all_below.ensures ∙ ap₂ (λ p l. all (map (λ w. ltb w p) l)) (sym e) c.split_at.ensures.front)
+          (w.value-is ∙ w.all_below.ensures ∙ ap₂ (λ p l. all (map (λ w. ltb w p) l)) (sym e) (c.split_at.ensures.front ∙ ap (λ k. take k a.x.now) cut))
       | else-begins_with_one w ↦
           joined (public q (goal.at.Joined-begins_with_one c).Start) w.if-begins_with_one.false c.begins_with_one.ensures
           (w.value-is ∙ w.if-begins_with_one.false)
@@ -38,9 +40,11 @@ front q c e =
 pub returns-then-all_below : goal.returns-then-all_below
 returns-then-all_below c q e =
     let here = goal.at.returns-then-all_below c in
+    let a = c.args in
+    let cut : c.min.result ≡ a.n = omega arith in
     in_order q here.Start
     (joined _ c.if-all_below.true (front q here.Joined-begins_with_one e)
-    (c.all_zero.ensures ∙ ap (λ l. all (map (λ w. eqb w 0) l)) c.split_at.ensures.back))
+    (c.all_zero.ensures ∙ ap (λ l. all (map (λ w. eqb w 0) l)) (c.split_at.ensures.back ∙ ap (λ k. drop k a.x.now) cut)))
 
 pub returns-else-all_below : goal.returns-else-all_below
 returns-else-all_below c q e =
