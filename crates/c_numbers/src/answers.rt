@@ -3,33 +3,36 @@
 ghost use Rattle.std.specs.Prelude.{◌≡◌};
 ghost use Rattle.algebra.specs.Polynomial.{running};
 ghost use Rattle.shared.specs.Answers.{place};
-ghost use Rattle.shared.specs.Meanings.{outcome, verdict_meaning, sizes as sizesMeaning};
-ghost use Rattle.varuna.specs.Answers.{word_meaning, evaluated_meaning, three_meaning, filled_meaning, openings_meaning};
-ghost use Rattle.verifier.specs.Session.{stepped_meaning, openings_answer_meaning, openings_stepped_meaning};
+ghost use Rattle.shared.specs.Meanings.{outcome_by, three, verdict_meaning, sizes as sizesMeaning};
+ghost use Rattle.poly.specs.Meanings.{under_way};
+ghost use Rattle.openings.specs.OpeningsGiven.{opened_list};
+ghost use Rattle.verifier.specs.Session.{session_meaning, answer_by, openings_answer_by};
 ghost use Rattle.c_numbers.specs.Answers.{told, answered, three_listed, sizes_listed, step_answered, verdict_answered, commit_answered, verdict_number};
 
-use varuna::answers::{AllOpened, Check, Place, Refusal, Running, Sizes, Three, Triple, Verdict};
-use varuna::session::{SESSION_WORDS, Stepped};
+use crate::refusals::Numbered;
+use varuna::answers::{AllOpened, Check, Place, Running, Sizes, Three, Triple, Verdict};
+use varuna::session::{SESSION_WORDS, Session};
 
 // The number that is returned, and the position: 0 and 0 where the call is done, and otherwise the refusal's.
-fn give_number<T: Copy>(answer: Result<T, Refusal>, position: &mut usize) -> u32
-    ensures { told result position.new (tt {0}) ≡ answered (outcome (λ t. tt) answer) tt }
+fn give_number<T: Copy, E: Numbered>(answer: Result<T, E>, position: &mut usize) -> u32
+    ensures { told result position.new (tt {0}) ≡ answered (outcome_by E.refusal (λ t. tt) answer) tt }
 {
     match answer {
         Ok(_) => {
             *position = 0;
             0
         }
-        Err(Refusal(row, at)) => {
+        Err(refusal) => {
+            let (number, at) = refusal.numbers();
             *position = at;
-            row.number()
+            number
         }
     }
 }
 
 // One word.
-pub fn give_word(answer: Result<u32, Refusal>, res: &mut u32, position: &mut usize) -> u32
-    ensures { told result position.new res.new ≡ answered (word_meaning answer) res.old }
+pub fn give_word<E: Numbered>(answer: Result<u32, E>, res: &mut u32, position: &mut usize) -> u32
+    ensures { told result position.new res.new ≡ answered (outcome_by E.refusal (λ w. w) answer) res.old }
 {
     if let Ok(word) = answer {
         *res = word;
@@ -38,14 +41,14 @@ pub fn give_word(answer: Result<u32, Refusal>, res: &mut u32, position: &mut usi
 }
 
 // The next sum and the next power of an evaluation under way.
-pub fn give_evaluated(
-    answer: Result<Running, Refusal>,
+pub fn give_evaluated<E: Numbered>(
+    answer: Result<Running, E>,
     sum: &mut u32,
     power: &mut u32,
     position: &mut usize,
 ) -> u32
     ensures { told result position.new (running sum.new power.new)
-        ≡ answered (evaluated_meaning answer) (running sum.old power.old) }
+        ≡ answered (outcome_by E.refusal under_way answer) (running sum.old power.old) }
 {
     if let Ok(r) = answer {
         *sum = r.sum;
@@ -55,9 +58,13 @@ pub fn give_evaluated(
 }
 
 // One word for each matrix.
-pub fn give_three(answer: Result<Triple, Refusal>, res: &mut [u32; 3], position: &mut usize) -> u32
+pub fn give_three<E: Numbered>(
+    answer: Result<Triple, E>,
+    res: &mut [u32; 3],
+    position: &mut usize,
+) -> u32
     ensures { told result position.new res.new
-        ≡ answered (three_listed (three_meaning answer)) res.old }
+        ≡ answered (three_listed (outcome_by E.refusal three answer)) res.old }
 {
     if let Ok(t) = answer {
         *res = [t.a, t.b, t.c];
@@ -66,19 +73,19 @@ pub fn give_three(answer: Result<Triple, Refusal>, res: &mut [u32; 3], position:
 }
 
 // Slices that were filled already, or left as they were.
-pub fn give_filled(answer: Result<(), Refusal>, position: &mut usize) -> u32
-    ensures { told result position.new tt ≡ answered (filled_meaning answer) tt }
+pub fn give_filled<E: Numbered>(answer: Result<(), E>, position: &mut usize) -> u32
+    ensures { told result position.new tt ≡ answered (outcome_by E.refusal (λ u. u) answer) tt }
 {
     give_number(answer, position)
 }
 
 // The 21 openings.
-pub fn give_openings(
-    answer: Result<AllOpened, Refusal>,
+pub fn give_openings<E: Numbered>(
+    answer: Result<AllOpened, E>,
     res: &mut [u32; 21],
     position: &mut usize,
 ) -> u32
-    ensures { told result position.new res.new ≡ answered (openings_meaning answer) res.old }
+    ensures { told result position.new res.new ≡ answered (outcome_by E.refusal opened_list answer) res.old }
 {
     if let Ok(opened) = answer {
         let o = opened.messages;
@@ -111,14 +118,20 @@ pub fn give_openings(
     give_number(answer, position)
 }
 
-// The next session.
-pub fn give_step(next: Stepped<()>, session: &mut [u32; SESSION_WORDS], position: &mut usize) -> u32
-    ensures { told result position.new session.new ≡ step_answered (stepped_meaning next) session.old }
+// The words of the next session, where the step is taken.
+pub fn give_step<E: Numbered>(
+    next: Session,
+    answer: Result<(), E>,
+    session: &mut [u32; SESSION_WORDS],
+    position: &mut usize,
+) -> u32
+    ensures { told result position.new session.new
+        ≡ step_answered (record { session = session_meaning next; answer = answer_by E.refusal answer }) session.old }
 {
-    if let Ok(()) = next.answer {
-        next.session.into_words(session);
+    if let Ok(()) = answer {
+        next.into_words(session);
     }
-    give_number(next.answer, position)
+    give_number(answer, position)
 }
 
 // What stands for a verdict where there is none.
@@ -137,12 +150,12 @@ fn verdict_number(verdict: Verdict) -> u32
 }
 
 // The verdict. Refused openings have none, and this is said over whatever the caller's variable held.
-pub fn give_verdict(
-    answer: Result<Verdict, Refusal>,
+pub fn give_verdict<E: Numbered>(
+    answer: Result<Verdict, E>,
     verdict: &mut u32,
     position: &mut usize,
 ) -> u32
-    ensures { told result position.new verdict.new ≡ verdict_answered (openings_answer_meaning answer) }
+    ensures { told result position.new verdict.new ≡ verdict_answered (openings_answer_by E.refusal answer) }
 {
     *verdict = match answer {
         Ok(v) => verdict_number(v),
@@ -151,26 +164,31 @@ pub fn give_verdict(
     give_number(answer, position)
 }
 
-// The closed session, and the verdict.
-pub fn give_commit(
-    next: Stepped<Verdict>,
+// The words of the closed session, where the openings are not refused, and the verdict.
+pub fn give_commit<E: Numbered>(
+    next: Session,
+    answer: Result<Verdict, E>,
     session: &mut [u32; SESSION_WORDS],
     verdict: &mut u32,
     position: &mut usize,
 ) -> u32
     ensures { told result position.new (session.new, verdict.new)
-        ≡ commit_answered (openings_stepped_meaning next) session.old }
+        ≡ commit_answered (record { session = session_meaning next; answer = openings_answer_by E.refusal answer }) session.old }
 {
-    if let Ok(_) = next.answer {
-        next.session.into_words(session);
+    if let Ok(_) = answer {
+        next.into_words(session);
     }
-    give_verdict(next.answer, verdict, position)
+    give_verdict(answer, verdict, position)
 }
 
 // The six sizes of a record.
-pub fn give_sizes(answer: Result<Sizes, Refusal>, sizes: &mut [u32; 6], position: &mut usize) -> u32
+pub fn give_sizes<E: Numbered>(
+    answer: Result<Sizes, E>,
+    sizes: &mut [u32; 6],
+    position: &mut usize,
+) -> u32
     ensures { told result position.new sizes.new
-        ≡ answered (sizes_listed (outcome sizesMeaning answer)) sizes.old }
+        ≡ answered (sizes_listed (outcome_by E.refusal sizesMeaning answer)) sizes.old }
 {
     if let Ok(s) = answer {
         let k = s.k;
@@ -180,14 +198,14 @@ pub fn give_sizes(answer: Result<Sizes, Refusal>, sizes: &mut [u32; 6], position
 }
 
 // Where a section of a record stands.
-pub fn give_place(
-    answer: Result<Place, Refusal>,
+pub fn give_place<E: Numbered>(
+    answer: Result<Place, E>,
     start: &mut usize,
     length: &mut usize,
     position: &mut usize,
 ) -> u32
     ensures { told result position.new (start.new, length.new)
-        ≡ answered (outcome place answer) (start.old, length.old) }
+        ≡ answered (outcome_by E.refusal place answer) (start.old, length.old) }
 {
     if let Ok(found) = answer {
         *start = found.start;

@@ -4,3 +4,4 @@
 
 pub mod answers;
 pub mod inputs;
+pub mod refusals;

@@ -18,7 +18,7 @@ ghost use Rattle.figures.specs.Placed.{sheet_room};
 ghost use Rattle.figures.specs.Sheet.{most_circuits, table_text, sheet_text};
 
 use messages::put_wrong;
-use sheet_lines::circuits::{collect, first_wrong};
+use sheet_lines::circuits::{collect_all, first_wrong};
 use sheet_lines::numbers::Request;
 use table::{ROW_BYTES, ROWS, put_table};
 use text::put_bytes;
@@ -55,7 +55,7 @@ fn put_sheet(input: &[u8], out: &mut [u8]) -> usize
     if let Some(wrong) = first_wrong(input) {
         return put_wrong(wrong, out);
     }
-    match collect(input) {
+    match collect_all(input) {
         Some(circuits) => put_circuits(&circuits.array[..circuits.count], out),
         None => put_bytes(b"sheet takes at most 16 circuits\n", out, 0),
     }

@@ -1,17 +1,17 @@
 // The σ of a job that is not refused, and what a round answers, as three words.
 ghost use Rattle.std.specs.Prelude.{◌≡◌, [], ◌∷◌};
-ghost use Rattle.shared.specs.Meanings.{three};
+ghost use Rattle.protocol.specs.Refusals.{Refusal};
+ghost use Rattle.shared.specs.Meanings.{outcome_by, three};
 ghost use Rattle.circuit.specs.Given.{input_words};
-ghost use Rattle.varuna.specs.Answers.{three_meaning};
 ghost use Rattle.report.specs.Stages.{Free, sum_words, three_or_zeros};
 
 use circuit::given::ProverInput;
-use shared::{Refusal, Triple};
+use shared::Triple;
 use varuna::rounds;
 
-// Three words; zeros where the call was refused.
-pub fn words_or_zeros(answer: Result<Triple, Refusal>) -> Triple
-    ensures { three result ≡ three_or_zeros (three_meaning answer) }
+// Three words; zeros where the call was refused, with any error.
+pub fn words_or_zeros<E: Copy>(answer: Result<Triple, E>) -> Triple
+    ensures { (refused : E → Refusal) → three result ≡ three_or_zeros (outcome_by refused three answer) }
 {
     match answer {
         Ok(words) => words,

@@ -46,10 +46,14 @@ abbrev pub refusal_in : {T : Type 0} → Result T declared-refusal.Refusal → O
 refusal_in (Ok result) = none
 refusal_in (Err r) = some (refusal r)
 
--- what an answer means, from what its result means
+-- what an answer means, from what its error and its result mean
+abbrev pub outcome_by : {E S T : Type 0} → (E → Refusal) → (S → T) → Result S E → Outcome T
+outcome_by refused meaning (Ok result) = Done (meaning result)
+outcome_by refused meaning (Err e) = Refused (refused e)
+
+-- the same, of an answer whose error is a refusal of the table
 abbrev pub outcome : {S T : Type 0} → (S → T) → Result S declared-refusal.Refusal → Outcome T
-outcome meaning (Ok result) = Done (meaning result)
-outcome meaning (Err r) = Refused (refusal r)
+outcome = outcome_by refusal
 
 -- what there is for each matrix
 abbrev pub three : declared-three.Three ℕ → Three ℕ

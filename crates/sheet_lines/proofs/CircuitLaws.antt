@@ -6,15 +6,15 @@ use Rattle.std.proofs.Math.Option.{none, some}
 use mathlib.Core.List.{map-append, append-nil}
 use mathlib.Core.Logic.{inl, inr}
 use Rattle.std.specs.List.{enumerate_from}
-use Rattle.std.proofs.lemmas.List.{at_drop_more, take_more, take-append-drop}
+use Rattle.std.proofs.lemmas.List.{at_drop_more, take_more, take-append-drop, length-map, length-take-le}
 use Rattle.std.proofs.lemmas.List.FromFn.{get_or-enumerate_from, length-enumerate_from}
 use Rattle.algebra.specs.Lists.{pick}
 use Rattle.algebra.proofs.Choice.{pick_true, pick-false}
 use Rattle.sheet_lines.specs.declared.numbers.Request.{Request}
 use Rattle.sheet_lines.specs.declared.numbers.Wrong as declared-wrong
 use Rattle.sheet_lines.specs.declared.numbers.Wrong.TheVariants.{NotSix}
-use Rattle.sheet_lines.specs.Lines.{Line, Blank, Circuit, Wrong, sheet_refusal, circuit_line, lines_of, line_by, line_of, wrong, wrong_text, circuits}
-use Rattle.sheet_lines.specs.Meanings.{given, found_line, message_of}
+use Rattle.sheet_lines.specs.Lines.{Given, Line, Blank, Circuit, Wrong, sheet_refusal, circuit_line, lines_of, line_by, line_of, wrong, wrong_text, circuits}
+use Rattle.sheet_lines.specs.Meanings.{given, found_line, message_of, Kept, Counted}
 use Rattle.sheet_lines.specs.Numbers.{numbers_after, numbers_in}
 use Rattle.sheet_lines.specs.Scanning.{request_by, reading_of}
 use Rattle.sheet_lines.proofs.LineLaws.{parts, Covers, parts_cover}
@@ -128,3 +128,15 @@ many_circuits ps n k many = omega (arith, ap length whole, length-append (circui
     whole =
         ap (λ l. circuits (map line_of l)) (sym (take-append-drop n ps)) ∙ ap circuits (map-append line_of (take n ps) (drop n ps))
         ∙ circuits-append front back
+
+-- the circuits that are kept are all of them, or there are more than 16
+module _ {gs : List Given} {array : List Request} where
+  pub kept_counted : {count : ℕ} → Kept gs array count → Counted gs array count
+  kept_counted {count} K = record { long = K.long; counts = omega (arith, as_many); front = λ few. K.front }
+    where
+      as_many : length gs ≡ count
+      as_many =
+          ap length (sym K.front) ∙ length-map (take count array) given ∙ length-take-le count array (omega (arith, K.few, K.long))
+
+  pub many_counted : length array ≡ 16 → 16 < length gs → Counted gs array 17
+  many_counted long many = record { long = long; counts = omega (arith, many); front = λ few. absurd (omega (arith, few)) }

@@ -1,5 +1,5 @@
 -- What the code's values mean: what was found on a line, the first wrong line, and the circuits kept in an array. Assumes nothing.
-use Rattle.std.specs.Prelude.{◌≡◌, List, map, ℕ, ◌<◌, ◌≤◌, length, take, Option, Some, None, Result, Ok, Err}
+use Rattle.std.specs.Prelude.{◌≡◌, List, map, ℕ, ◌<◌, ◌≤◌, min, length, take, Option, Some, None, Result, Ok, Err}
 use Rattle.std.proofs.Math.Option as math
 use Rattle.std.proofs.Math.Option.{none, some}
 use Rattle.shared.specs.Meanings.{refusal, three}
@@ -40,3 +40,9 @@ pub record Kept (gs : List Given) (array : List Request) (count : ℕ) : Type 0 
 abbrev pub KeptAll : List Given → Option Circuits → Type 0
 KeptAll gs None = 16 < length gs
 KeptAll gs (Some c) = Kept gs c.array c.count
+
+-- the circuits and their count, which is 17 for more than 16; up to 16 stand in the array's front
+pub record Counted (gs : List Given) (array : List Request) (count : ℕ) : Type 0 where
+  pub long : length array ≡ 16
+  pub counts : count ≡ min (length gs) 17
+  pub front : count ≤ 16 → map given (take count array) ≡ gs

@@ -2,7 +2,7 @@
 ghost use Rattle.std.specs.Prelude.{◌≡◌, List, [], ◌∷◌, ◌++◌, map};
 ghost use Rattle.shared.specs.Meanings.{refusal_in};
 ghost use Rattle.sheet_lines.specs.Lines.{Given, sheet_refusal, lines_of, line_of, wrong, circuits as circuitsIn};
-ghost use Rattle.sheet_lines.specs.Meanings.{given, found_line, message_due, Kept, KeptAll};
+ghost use Rattle.sheet_lines.specs.Meanings.{given, found_line, message_due, Kept, KeptAll, Counted};
 
 use crate::numbers::{Request, Wrong, ZEROS, read};
 use circuit::checks::{check_counts, check_sizes};
@@ -17,7 +17,7 @@ pub struct WrongLine {
     pub wrong: Wrong,
 }
 
-// At most 16 circuits: the first so many of the array.
+// The first 16 circuits, and the count of all of them, 17 for more than 16.
 #[derive(Clone, Copy)]
 pub struct Circuits {
     pub array: [Request; MOST_CIRCUITS],
@@ -81,16 +81,32 @@ fn keep_found(circuits: Circuits, found: Result<Option<Request>, Wrong>) -> Opti
     }
 }
 
-// The circuits of the lines that are not wrong, unless there are more than 16.
-pub fn collect(text: &[u8]) -> Option<Circuits>
-    ensures { KeptAll (circuitsIn (map line_of (lines_of text.now))) result }
+// The circuits of the lines that are not wrong.
+pub fn collect(text: &[u8]) -> Circuits
+    ensures { Counted (circuitsIn (map line_of (lines_of text.now))) result.array result.count }
 {
     let mut circuits = Circuits {
         array: [ZEROS; MOST_CIRCUITS],
         count: 0,
     };
     for line in text.split(|b| *b == b'\n') {
-        circuits = keep_found(circuits, read_line(line))?;
+        match keep_found(circuits, read_line(line)) {
+            Some(more) => circuits = more,
+            None => {
+                return Circuits {
+                    count: MOST_CIRCUITS + 1,
+                    ..circuits
+                };
+            }
+        }
     }
-    Some(circuits)
+    circuits
+}
+
+// The same, unless there are more than 16.
+pub fn collect_all(text: &[u8]) -> Option<Circuits>
+    ensures { KeptAll (circuitsIn (map line_of (lines_of text.now))) result }
+{
+    let circuits = collect(text);
+    (circuits.count <= MOST_CIRCUITS).then_some(circuits)
 }

@@ -32,7 +32,8 @@ pub extern "C" fn varuna_session_open(
         (sizes_in sizes.now) x.now) session.old }
 {
     let s = Session::from_words(session);
-    give_step(s.open(sizes_in(sizes), x), session, position)
+    let next = s.open(sizes_in(sizes), x);
+    give_step(next.session, next.answer, session, position)
 }
 
 // Declared lengths of ŵ, m, h0, then α. Refusals 1, 6, 10, 11.
@@ -49,11 +50,8 @@ pub extern "C" fn varuna_session_alpha(
         ≡ step_answered (alpha_step baby_bear (session_of session.old) witness mask row_quotient alpha) session.old }
 {
     let s = Session::from_words(session);
-    give_step(
-        s.alpha(witness, mask, row_quotient, alpha),
-        session,
-        position,
-    )
+    let next = s.alpha(witness, mask, row_quotient, alpha);
+    give_step(next.session, next.answer, session, position)
 }
 
 // The three σ, then the three η. Refusals 1, 6.
@@ -69,7 +67,8 @@ pub extern "C" fn varuna_session_eta(
         (three_at sums.now 0) (three_at eta.now 0)) session.old }
 {
     let s = Session::from_words(session);
-    give_step(s.eta(triple(sums), triple(eta)), session, position)
+    let next = s.eta(triple(sums), triple(eta));
+    give_step(next.session, next.answer, session, position)
 }
 
 // Declared lengths of g1, h1, then β. Refusals 1, 6, 10, 11.
@@ -85,7 +84,8 @@ pub extern "C" fn varuna_session_beta(
         ≡ step_answered (beta_step baby_bear (session_of session.old) remainder quotient beta) session.old }
 {
     let s = Session::from_words(session);
-    give_step(s.beta(remainder, quotient, beta), session, position)
+    let next = s.beta(remainder, quotient, beta);
+    give_step(next.session, next.answer, session, position)
 }
 
 // The three ω and declared lengths of the g_M, then the three δ. Refusals 1, 6, 11.
@@ -102,11 +102,8 @@ pub extern "C" fn varuna_session_delta(
         (three_at values.now 0) (three_at remainders.now 0) (three_at delta.now 0)) session.old }
 {
     let s = Session::from_words(session);
-    give_step(
-        s.delta(triple(values), triple(remainders), triple(delta)),
-        session,
-        position,
-    )
+    let next = s.delta(triple(values), triple(remainders), triple(delta));
+    give_step(next.session, next.answer, session, position)
 }
 
 // Declared length of h2, then γ. Refusals 1, 6, 10, 11.
@@ -121,7 +118,8 @@ pub extern "C" fn varuna_session_gamma(
         ≡ step_answered (gamma_step baby_bear (session_of session.old) quotient gamma) session.old }
 {
     let s = Session::from_words(session);
-    give_step(s.gamma(quotient, gamma), session, position)
+    let next = s.gamma(quotient, gamma);
+    give_step(next.session, next.answer, session, position)
 }
 
 // Asks for the verdict on the 21 openings, which is 0 where they are refused, and leaves the session. Refusals 1, 6.
@@ -153,10 +151,6 @@ pub extern "C" fn varuna_session_commit(
         session.old }
 {
     let s = Session::from_words(session);
-    give_commit(
-        s.commit(messages_in(openings), indexes_in(openings)),
-        session,
-        verdict,
-        position,
-    )
+    let next = s.commit(messages_in(openings), indexes_in(openings));
+    give_commit(next.session, next.answer, session, verdict, position)
 }

@@ -3,6 +3,7 @@ use Rattle.std.specs.Prelude.{List, ◌∷◌, ◌++◌, ℕ, ◌+◌, take, dro
 use Rattle.domain.specs.Size.{max_size}
 use Rattle.protocol.specs.Three.{Three, listed}
 use Rattle.protocol.specs.Checks.{Transcript, list_transcript}
+use Rattle.protocol.specs.Refusals as protocol
 use Rattle.protocol.specs.Session as steps
 use Rattle.protocol.specs.Session.{Taken, Judged, Refused}
 use Rattle.shared.specs.Meanings.{refusal, sizes, transcript, verdict_meaning}
@@ -14,14 +15,22 @@ use Rattle.verifier.specs.declared.session.Stepped.{Stepped}
 abbrev pub session_meaning : Session → steps.Session
 session_meaning s = record { stage = s.stage; sizes = sizes s.sizes; x = s.x; transcript = transcript s.transcript }
 
--- what a step before the openings answers, and what openings are answered with
+-- what a step before the openings answers, and what openings are answered with, from what their errors mean
+module _ {E : Type 0} (refused : E → protocol.Refusal) where
+  abbrev pub answer_by : Result (Unit {0}) E → steps.Answer
+  answer_by (Ok nothing) = Taken
+  answer_by (Err e) = Refused (refused e)
+
+  abbrev pub openings_answer_by : Result Verdict E → steps.Answer
+  openings_answer_by (Ok v) = Judged (verdict_meaning v)
+  openings_answer_by (Err e) = Refused (refused e)
+
+-- the same, of answers whose error is a refusal of the table
 abbrev pub answer_meaning : Result (Unit {0}) Refusal → steps.Answer
-answer_meaning (Ok nothing) = Taken
-answer_meaning (Err r) = Refused (refusal r)
+answer_meaning = answer_by refusal
 
 abbrev pub openings_answer_meaning : Result Verdict Refusal → steps.Answer
-openings_answer_meaning (Ok v) = Judged (verdict_meaning v)
-openings_answer_meaning (Err r) = Refused (refusal r)
+openings_answer_meaning = openings_answer_by refusal
 
 abbrev pub stepped_meaning : Stepped (Unit {0}) → steps.Stepped
 stepped_meaning r = record { session = session_meaning r.session; answer = answer_meaning r.answer }

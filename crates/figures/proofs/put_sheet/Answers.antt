@@ -12,9 +12,9 @@ returns-then-input-gt-LONGEST_TEXT c = written_as (sheet_long baby_bear c.args.i
 pub returns-in-Some : goal.returns-in-Some
 returns-in-Some c = written_as (sheet_wrong baby_bear c.args.input.now (omega arith) _ c.in-Some.ensures) c.put_wrong.ensures
 
-pub returns-in-Some-collect : goal.returns-in-Some-collect
-returns-in-Some-collect c =
-    written_as (ap (table_text baby_bear) c.in-Some-collect.ensures.front
+pub returns-in-Some-collect_all : goal.returns-in-Some-collect_all
+returns-in-Some-collect_all c =
+    written_as (ap (table_text baby_bear) c.in-Some-collect_all.ensures.front
     ∙ sheet_table baby_bear c.args.input.now (omega arith) c.in_default.ensures)
     c.put_circuits.ensures
 

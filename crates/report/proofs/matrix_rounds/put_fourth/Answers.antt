@@ -2,7 +2,7 @@
 use Rattle.std.proofs.Common.{sym, ap, ◌∙◌, ℕ}
 use Rattle.protocol.specs.Three.{Three}
 use Rattle.protocol.specs.Messages.{MessageLengths}
-use Rattle.shared.specs.Meanings.{three}
+use Rattle.shared.specs.Meanings.{refusal, three}
 use Rattle.circuit.specs.Given.{input_words}
 use Rattle.poly.proofs.LentParts.{lent_length}
 use Rattle.varuna.proofs.AnswerLaws.{three_same}
@@ -41,7 +41,7 @@ returns c =
     (sym (lent_length 1024 R.b_most) ∙ ap (λ (l : Three ℕ). l.b) table)
     (sym (lent_length 1024 R.c_most) ∙ ap (λ (l : Three ℕ). l.c) table) in
     let done = fourth-done _ a.alpha (three a.eta) a.beta _ c.requires.free lent c.fourth_round-answer.ensures in
-    let values = c.words_or_zeros-values.ensures ∙ done.0 in
+    let values = c.words_or_zeros-values.ensures refusal ∙ done.0 in
     record {
       values_value = values;
       printed = printed_as (λ t. fourth_lines (values t) (done.1 t)) c.put_fourth_lines-place.ensures;

@@ -6,7 +6,7 @@ use Rattle.std.proofs.lemmas.List.{take_all, length_push}
 use Rattle.sheet_lines.specs.Lines.{line_of, circuits}
 use Rattle.sheet_lines.specs.Meanings.{found_line}
 use Rattle.sheet_lines.proofs.LineLaws.{newline, parts}
-use Rattle.sheet_lines.proofs.CircuitLaws.{circuits-parts, circuits-more, many_circuits}
+use Rattle.sheet_lines.proofs.CircuitLaws.{circuits-parts, circuits-more, many_circuits, kept_counted, many_counted}
 use Rattle.sheet_lines.proofs.circuits.collect.Goals as goal
 use Rattle.sheet_lines.proofs.circuits.collect.Goals.{After-keep_found}
 
@@ -22,16 +22,17 @@ more c =
     in
     circuits-more (parts c.args.text.now) (length c.loop-line.yielded) c.in-Some.line.now below at c.read_line.result c.read_line.ensures
 
-pub returns-in_err-circuits : goal.returns-in_err-circuits
-returns-in_err-circuits c =
-    let e = more (goal.at.returns-in_err-circuits c).After-keep_found in
-    let many = c.in_err-circuits.ensures _ c.loop-line.invariant in
-    rw (c.from_residual.ensures, ← circuits-parts c.args.text.now) (many_circuits (parts c.args.text.now) _ 16 (rw e at many))
+pub returns-in-None-keep_found : goal.returns-in-None-keep_found
+returns-in-None-keep_found c =
+    let e = more (goal.at.returns-in-None-keep_found c).After-keep_found in
+    let many = c.in-None-keep_found.ensures _ c.loop-line.invariant in
+    rw (← circuits-parts c.args.text.now)
+    (many_counted c.loop-line.invariant.long (many_circuits (parts c.args.text.now) _ 16 (rw e at many)))
 
 pub loop-line-preserved : goal.loop-line-preserved
 loop-line-preserved c =
     let e = more (goal.at.loop-line-preserved c).After-keep_found in
-    let kept = c.in_ok-circuits.ensures _ c.loop-line.invariant in
+    let kept = c.in-Some-keep_found.ensures _ c.loop-line.invariant in
     rw (length_push c.loop-line.yielded c.in-Some.line) (rw e at kept)
 
 pub returns : goal.returns
@@ -47,4 +48,4 @@ returns c =
     ap (λ l. circuits (map line_of l)) (take_all n ps (omega (arith, t.1)))
     in
     let kept = c.loop-line.invariant in
-    rw (all ∙ circuits-parts c.args.text.now) at kept
+    kept_counted (rw (all ∙ circuits-parts c.args.text.now) at kept)

@@ -10,5 +10,5 @@ returns c =
     let a = c.args in
     c.give_step.ensures
     ∙ ap (λ s. step_answered s a.session.now)
-    (c.alpha.ensures
+    (c.alpha-next.ensures
     ∙ ap (λ s. alpha_step baby_bear s a.witness a.mask a.row_quotient a.alpha) c.from_words-s.ensures)

@@ -10,4 +10,4 @@ returns c =
     let a = c.args in
     c.give_step.ensures
     ∙ ap (λ s. step_answered s a.session.now)
-    (c.beta.ensures ∙ ap (λ s. beta_step baby_bear s a.remainder a.quotient a.beta) c.from_words-s.ensures)
+    (c.beta-next.ensures ∙ ap (λ s. beta_step baby_bear s a.remainder a.quotient a.beta) c.from_words-s.ensures)

@@ -15,4 +15,4 @@ returns c =
     let opened = ap₂ openings c.messages_in.ensures c.indexes_in.ensures in
     c.give_commit.ensures
     ∙ ap (λ s. commit_answered s a.session.now)
-    (c.commit.ensures ∙ ap₂ (commit_step baby_bear) c.from_words-s.ensures opened)
+    (c.commit-next.ensures ∙ ap₂ (commit_step baby_bear) c.from_words-s.ensures opened)

@@ -16,7 +16,7 @@ returns c =
     let step : steps.Session → Three ℕ → Three ℕ → Three ℕ → steps.Stepped = delta_step baby_bear in
     c.give_step.ensures
     ∙ ap (λ s. step_answered s a.session.now)
-    (c.delta.ensures
+    (c.delta-next.ensures
     ∙ ap₂ (λ s v. step s v (three c.triple-2.result) (three c.triple-3.result))
     c.from_words-s.ensures c.triple.ensures
     ∙ ap₂ (step (session_of a.session.now) (three_at a.values.now 0)) c.triple-2.ensures c.triple-3.ensures)

@@ -16,6 +16,6 @@ returns c =
     let step : steps.Session → Three ℕ → Three ℕ → steps.Stepped = eta_step baby_bear in
     c.give_step.ensures
     ∙ ap (λ s. step_answered s a.session.now)
-    (c.eta.ensures
+    (c.eta-next.ensures
     ∙ ap (λ s. step s (three c.triple.result) (three c.triple-2.result)) c.from_words-s.ensures
     ∙ ap₂ (step (session_of a.session.now)) c.triple.ensures c.triple-2.ensures)

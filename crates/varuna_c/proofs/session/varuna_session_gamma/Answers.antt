@@ -10,4 +10,4 @@ returns c =
     let a = c.args in
     c.give_step.ensures
     ∙ ap (λ s. step_answered s a.session.now)
-    (c.gamma.ensures ∙ ap (λ s. gamma_step baby_bear s a.quotient a.gamma) c.from_words-s.ensures)
+    (c.gamma-next.ensures ∙ ap (λ s. gamma_step baby_bear s a.quotient a.gamma) c.from_words-s.ensures)

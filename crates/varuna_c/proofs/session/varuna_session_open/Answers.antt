@@ -10,5 +10,5 @@ returns c =
     let a = c.args in
     c.give_step.ensures
     ∙ ap (λ s. step_answered s a.session.now)
-    (c.«open».ensures
+    (c.open-next.ensures
     ∙ ap₂ (λ s n. open_step baby_bear s n a.x.now) c.from_words-s.ensures c.sizes_in.ensures)
